@@ -1,0 +1,1 @@
+// No code: the definitions of the sequential red-black tree stand in specs/.
