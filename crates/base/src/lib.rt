@@ -1,0 +1,1 @@
+// No code: walks over a range of numbers, and the laws that loops cite, stand in specs/.

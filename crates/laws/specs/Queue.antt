@@ -1,0 +1,145 @@
+-- The free queue as a list of nodes: take gives its first and leaves the rest, free puts a node at its end.
+use mathlib.Core.Path.{_≡_, refl, ap, sym, _∙_, subst}
+use mathlib.Core.List.{List, [], _∷_, _++_}
+use mathlib.Core.Bool.{Bool, true, false, cond}
+use mathlib.Core.Logic.{_≢_, inl, inr}
+use lib.Dec.{eqb}
+use lib.ListN.{length}
+use borrow.Author.Tests.{eq-eqb, ne-eqb}
+use native.Mathlib.Decide.{ℕ-discrete}
+use native.Mathlib.Omega.{arith}
+use Prim.Native.Nat.{ℕ, _*_, _<_, _≤_}
+use Rattle.types.specs.declared.Side.{Side}
+use Rattle.types.specs.declared.Side.the-variants.{L, R}
+use Rattle.types.specs.declared.Register.{Register}
+use Rattle.types.specs.Side.{other}
+use Rattle.spec.specs.Pool.{nodeWords, word, setWord, keyWord, recordWord, linkWord, colourWord, standingWord, holdersWord, nextWord}
+use Rattle.spec.specs.Register.{State, state, withQueue}
+use Rattle.spec.specs.Free.{takeFree, fillNode, takeNode, freeNode}
+use Rattle.laws.specs.Words.{Node, length-setWord, word-same, word-other}
+
+-- n is not in a list; a list without repetition
+abbrev pub NotIn : ℕ → List ℕ → Type 0
+NotIn n [] = Unit {0}
+NotIn n (m ∷ l) = (n ≢ m) × NotIn n l
+
+abbrev pub Distinct : List ℕ → Type 0
+Distinct [] = Unit {0}
+Distinct (m ∷ l) = NotIn m l × Distinct l
+
+-- from node n the next free words lead through the list and end with 0
+abbrev pub Chain : List ℕ → ℕ → List ℕ → Type 0
+Chain p n [] = n ≡ 0
+Chain p n (m ∷ l) = (n ≡ m) × Node p m × Chain p (word p m nextWord) l
+
+-- the last of a list, 0 if it is empty
+abbrev pub lastOf : List ℕ → ℕ
+lastOf [] = 0
+lastOf (m ∷ []) = m
+lastOf (m ∷ k ∷ l) = lastOf (k ∷ l)
+
+-- the queue holds these nodes in this order
+pub record Queue (st : State) (l : List ℕ) : Type 0 where
+  pub chain : Chain (st .pool) (st .register .first) l
+  pub last : st .register .last ≡ lastOf l
+
+node-kept : (p : List ℕ) (m n f v : ℕ) → Node p m → Node (setWord p n f v) m
+node-kept p m n f v h = record { low = h .low; high = rw length-setWord (h .high) }
+
+-- a word of a node that is not in the list
+pub chain-outside : (p : List ℕ) (d f v a : ℕ) (l : List ℕ) → f < nodeWords → NotIn d l → Chain p a l → Chain (setWord p d f v) a l
+chain-outside p d f v a [] hf out h = h
+chain-outside p d f v a (m ∷ l) hf out h = (
+  h .0,
+  node-kept p m d f v (h .1),
+  rw (word-other p d m f nextWord v hf (omega arith) (inl (out .0))) (chain-outside p d f v (word p m nextWord) l hf (out .1) (h .2)),
+)
+
+-- any word but next free
+pub chain-word : (p : List ℕ) (d f v a : ℕ) (l : List ℕ) → f < nextWord → Chain p a l → Chain (setWord p d f v) a l
+chain-word p d f v a [] hf h = h
+chain-word p d f v a (m ∷ l) hf h = (
+  h .0,
+  node-kept p m d f v (h .1),
+  rw (word-other p d m f nextWord v (omega arith) (omega arith) (inr (omega arith))) (chain-word p d f v (word p m nextWord) l hf (h .2)),
+)
+
+link-low : (s : Side) → linkWord s < nextWord
+link-low L = omega arith
+link-low R = omega arith
+
+fill-outside : (p : List ℕ) (n k v : ℕ) (s : Side) (x y c a : ℕ) (l : List ℕ) → NotIn n l → Chain p a l → Chain (fillNode p n k v s x y c) a l
+unfolding fillNode
+fill-outside p n k v s x y c a l out h =
+    chain-outside _ n nextWord 0 a l (omega arith) out
+    (chain-word _ n holdersWord 0 a l (omega arith)
+    (chain-word _ n standingWord _ a l (omega arith)
+    (chain-word _ n colourWord c a l (omega arith)
+    (chain-word _ n (linkWord (other s)) y a l (link-low (other s))
+    (chain-word _ n (linkWord s) x a l (link-low s) (chain-word _ n recordWord v a l (omega arith) (chain-word p n keyWord k a l (omega arith) h)))))))
+
+-- Take: the first node is taken and filled, the rest stays in order.
+last-after : (p : List ℕ) (n m z : ℕ) (l : List ℕ) → Chain p n l → z ≡ lastOf (m ∷ l) → cond (eqb n 0) 0 z ≡ lastOf l
+last-after p n m z [] h e = rw (eq-eqb n 0 h)
+last-after p n m z (k ∷ l) h e = rw (ne-eqb n 0 (let a = h .0 in let b = h .1 .low in omega arith)) e
+
+pub take-queue : (st : State) (n : ℕ) (l : List ℕ) (k v : ℕ) (s : Side) (x y c : ℕ) → Queue st (n ∷ l) → NotIn n l → Queue (takeNode st k v s x y c) l
+unfolding takeNode takeFree withQueue
+take-queue st n l k v s x y c q out =
+    let first = q .chain .0 in
+    let rest = rw (sym first) at (q .chain .2) in
+    record {
+      chain = fill-outside (st .pool) (st .register .first) k v s x y c (word (st .pool) (st .register .first) nextWord) l (rw first out) rest;
+      last = last-after (st .pool) (word (st .pool) (st .register .first) nextWord) n (st .register .last) l rest (q .last);
+    }
+
+-- Free: a node that is not in the queue goes to its end.
+not-last : (m k : ℕ) (l : List ℕ) → NotIn m (k ∷ l) → lastOf (k ∷ l) ≢ m
+not-last m k [] o = let d = o .0 in omega arith
+not-last m k (j ∷ l) o = not-last m j l (o .1)
+
+chain-end : (p : List ℕ) (a n m : ℕ) (l : List ℕ) → Distinct (m ∷ l) → NotIn n (m ∷ l) → Node p n → Chain p a (m ∷ l)
+    → Chain (setWord (setWord p (lastOf (m ∷ l)) nextWord n) n nextWord 0) a ((m ∷ l) ++ n ∷ [])
+chain-end p a n m [] d out hn h =
+    let q = setWord p m nextWord n in
+    let o = out .0 in (
+      h .0,
+      node-kept q m n nextWord 0 (node-kept p m m nextWord n (h .1)),
+      (
+        word-other q n m nextWord nextWord 0 (omega arith) (omega arith) (inl o) ∙ word-same p m nextWord n (h .1) (omega arith),
+        node-kept q n n nextWord 0 (node-kept p n m nextWord n hn),
+        word-same q n nextWord 0 (node-kept p n m nextWord n hn) (omega arith),
+      ),
+    )
+chain-end p a n m (k ∷ l) d out hn h =
+    let z = lastOf (k ∷ l) in
+    let q = setWord p z nextWord n in (
+      h .0,
+      node-kept q m n nextWord 0 (node-kept p m z nextWord n (h .1)),
+      rw (word-other q n m nextWord nextWord 0 (omega arith) (omega arith) (inl (out .0)), word-other p z m nextWord nextWord n (omega arith) (omega arith) (inl (not-last m k l (d .0))))
+          (chain-end p (word p m nextWord) n k l (d .1) (out .1) hn (h .2)),
+    )
+
+last-append : (n : ℕ) (l : List ℕ) → n ≡ lastOf (l ++ n ∷ [])
+last-append n [] = refl
+last-append n (m ∷ []) = refl
+last-append n (m ∷ k ∷ l) = last-append n (k ∷ l)
+
+pub free-queue : (st : State) (n : ℕ) (l : List ℕ) → Queue st l → Distinct l → NotIn n l → Node (st .pool) n → Queue (freeNode st n) (l ++ n ∷ [])
+unfolding freeNode withQueue
+free-queue st n [] q d out hn =
+    let e = q .chain in
+    let a = setWord (st .pool) n standingWord 0 in
+    let b = setWord a n holdersWord 0 in
+    let hb = node-kept a n n holdersWord 0 (node-kept (st .pool) n n standingWord 0 hn) in
+    rw (eq-eqb (st .register .first) 0 e)
+    (record { chain = (refl, node-kept b n n nextWord 0 hb, word-same b n nextWord 0 hb (omega arith)); last = refl })
+free-queue st n (m ∷ l) q d out hn =
+    let p = st .pool in
+    let a = setWord p n standingWord 0 in
+    let b = setWord a n holdersWord 0 in
+    let f = st .register .first in
+    let e : f ≢ 0 = (let i = q .chain .0 in let j = q .chain .1 .low in omega arith) in
+    let h = chain-word a n holdersWord 0 f (m ∷ l) (omega arith) (chain-word p n standingWord 0 f (m ∷ l) (omega arith) (q .chain)) in
+    let hb = node-kept a n n holdersWord 0 (node-kept p n n standingWord 0 hn) in
+    rw (ne-eqb f 0 e, q .last) (record { chain = chain-end b f n m l d out hb h; last = last-append n (m ∷ l) })

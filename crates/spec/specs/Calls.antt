@@ -1,0 +1,239 @@
+-- 01, 'Calls' and 'When a call is turned down': each call as its tests in order, with the number of each cause, and then what it does.
+use Prim.Native.Nat.{ℕ, _-_}
+use mathlib.Core.Bool.{Bool, true, false, cond, not, _&&_}
+use mathlib.Core.List.{List, [], _∷_}
+use lib.Dec.{eqb, leb, ltb}
+use Rattle.types.specs.declared.Link.{Link}
+use Rattle.types.specs.declared.Link.the-variants.{Root}
+use Rattle.types.specs.declared.Place.{Place}
+use Rattle.types.specs.declared.Place.the-variants.{Held, Empty, TooDeep}
+use Rattle.types.specs.declared.Reader.{Reader}
+use Rattle.types.specs.declared.Register.{Register}
+use Rattle.types.specs.declared.Acceptance.{Acceptance}
+use Rattle.types.specs.declared.Acceptance.the-variants as acceptance
+use Rattle.types.specs.declared.WriterAnswer.{WriterAnswer}
+use Rattle.types.specs.declared.WriterAnswer.the-variants as writer
+use Rattle.types.specs.declared.ReaderAnswer.{ReaderAnswer}
+use Rattle.types.specs.declared.ReaderAnswer.the-variants as reader
+use Rattle.spec.specs.Pool.{word, child, keyWord, recordWord, nodes, slots, poolInRange, lengthRight}
+use Rattle.spec.specs.Register.{State, state, fresh, withReader, withWrite, readerOf, storeOf, registerInRange, writeOf, lessFirst}
+use Rattle.spec.specs.Free.{endReading}
+use Rattle.spec.specs.Search.{pathBound, towards, seek}
+use Rattle.spec.specs.Plan.{Plan, insertPlan, deletePlan}
+use Rattle.spec.specs.Turn.{Made, stepFinds, stepMade}
+
+-- What a call answers, in 01's words: ok, go, found with the record, absent, more and done with the link stored and its new node, wait,
+-- or its refusal number.
+pub data Answer : Type 0 where
+  ok go absent wait : Answer
+  found : (v : ℕ) → Answer
+  more done : (l : Link) (n : ℕ) → Answer
+  refused : (number : ℕ) → Answer
+
+-- 01's number and values for each case of an answer enum
+abbrev pub accepts : Acceptance → Answer
+accepts acceptance.Accepted = ok
+accepts (acceptance.Refused n) = refused n
+
+abbrev pub writerSays : WriterAnswer → Answer
+writerSays (writer.More l n) = more l n
+writerSays (writer.Done l n) = done l n
+writerSays writer.Wait = wait
+writerSays (writer.Refused n) = refused n
+
+abbrev pub readerSays : ReaderAnswer → Answer
+readerSays reader.Go = go
+readerSays (reader.Found v) = found v
+readerSays reader.Absent = absent
+readerSays (reader.Refused n) = refused n
+
+-- what a call answers, and the pool and register that it leaves
+pub record Outcome : Type 0 where
+  pub answer : Answer
+  pub after : State
+
+abbrev pub outcome : Answer → State → Outcome
+outcome a st = record { answer = a; after = st }
+
+-- A cause with its number. The first cause that holds refuses the call; 0 is no refusal.
+pub data Test : Type 0 where
+  _gives_ : (cause : Bool) (number : ℕ) → Test
+
+infix 70 _gives_
+abbrev pub firstOf : List Test → ℕ
+firstOf [] = 0
+firstOf ((cause gives number) ∷ tests) = cond cause number (firstOf tests)
+
+-- a refused call leaves pool and register as they were
+abbrev pub unless : List Test → State → Outcome → Outcome
+unless tests st otherwise = cond (eqb (firstOf tests) 0) otherwise (outcome (refused (firstOf tests)) st)
+
+-- The causes.
+abbrev pub wrongLength : State → Bool
+wrongLength st = not (lengthRight (st .pool))
+
+abbrev pub outOfRange : State → Bool
+outOfRange st = not (poolInRange (st .pool) && registerInRange (nodes (st .pool)) (st .register))
+
+abbrev pub slotTooHigh : ℕ → Bool
+slotTooHigh s = leb slots s
+
+abbrev pub reading : State → ℕ → Bool
+reading st s = readerOf (st .register) s .reading
+
+abbrev pub writeInHand : State → Bool
+writeInHand st = not (eqb (st .register .write .count) 0)
+
+-- where the search for a key from the root ends
+abbrev pub placeOf : State → ℕ → Place
+placeOf st k = seek (st .pool) k pathBound Root (st .register .root)
+
+abbrev pub tooDeep : Place → Bool
+tooDeep (Held l n) = false
+tooDeep (Empty l) = false
+tooDeep TooDeep = true
+
+abbrev pub isHeld : Place → Bool
+isHeld (Held l n) = true
+isHeld (Empty l) = false
+isHeld TooDeep = false
+
+-- Keys held is N − 4 or more.
+abbrev pub full : State → Bool
+full st = leb (nodes (st .pool) - 4) (st .register .held)
+
+abbrev pub fewerFree : State → ℕ → Bool
+fewerFree st n = ltb (st .register .free) n
+
+-- Set up tests 1 only.
+unfoldable pub setUp : State → Outcome
+setUp st = unless (wrongLength st gives 1 ∷ []) st (outcome ok (fresh (nodes (st .pool))))
+
+-- Insert and delete only accept or refuse: an accepted one is the write in hand, with its stores planned.
+abbrev pub accepted : State → Plan → Outcome
+accepted st w = outcome ok (state (st .pool) (withWrite (st .register) (writeOf (w .stores))))
+
+abbrev pub insertAt : State → ℕ → ℕ → Place → Plan
+insertAt st k v (Held l n) = record { possible = false; stores = [] }
+insertAt st k v (Empty l) = insertPlan st k v l
+insertAt st k v TooDeep = record { possible = false; stores = [] }
+
+unfoldable pub insert : State → ℕ → ℕ → Outcome
+insert st k v =
+    let w = insertAt st k v (placeOf st k) in
+    unless
+    (wrongLength st gives 1
+    ∷ outOfRange st gives 2
+    ∷ writeInHand st gives 6
+    ∷ tooDeep (placeOf st k) gives 12
+    ∷ isHeld (placeOf st k) gives 8
+    ∷ full st gives 10
+    ∷ fewerFree st 3 gives 11
+    ∷ not (w .possible) gives 12
+    ∷ [])
+    st
+    (accepted st w)
+
+abbrev pub deleteAt : State → Place → Plan
+deleteAt st (Held l n) = deletePlan st l n
+deleteAt st (Empty l) = record { possible = false; stores = [] }
+deleteAt st TooDeep = record { possible = false; stores = [] }
+
+unfoldable pub delete : State → ℕ → Outcome
+delete st k =
+    let w = deleteAt st (placeOf st k) in
+    unless
+    (wrongLength st gives 1
+    ∷ outOfRange st gives 2
+    ∷ writeInHand st gives 6
+    ∷ tooDeep (placeOf st k) gives 12
+    ∷ not (isHeld (placeOf st k)) gives 9
+    ∷ fewerFree st 4 gives 11
+    ∷ not (w .possible) gives 12
+    ∷ [])
+    st
+    (accepted st w)
+
+-- A writer's turn makes the first store still to come. It answers done if no store is left after it, more otherwise.
+unfoldable pub stored : Made → Outcome
+stored m =
+    let r = m .after .register in
+    let left = lessFirst (r .write) in
+    outcome (cond (eqb (left .count) 0) (done (m .link) (m .node)) (more (m .link) (m .node))) (state (m .after .pool) (withWrite r left))
+
+-- While the register's awaited slots aren't 0 a turn answers wait, changing nothing; then its own step is tested.
+unfoldable pub writerTurn : State → Outcome
+writerTurn st =
+    let x = storeOf (st .register) 0 in
+    let waiting = not (eqb (st .register .awaited) 0) in
+    unless
+    (wrongLength st gives 1
+    ∷ outOfRange st gives 2
+    ∷ not (writeInHand st) gives 7
+    ∷ (not waiting && not (stepFinds st (x .link) (x .step))) gives 12
+    ∷ [])
+    st
+    (cond waiting (outcome wait st) (stored (stepMade st (x .link) (x .step))))
+
+-- Begin: the slot reads, with the wanted key, before any node.
+unfoldable pub begin : State → ℕ → ℕ → Outcome
+begin st s k =
+    unless
+    (wrongLength st gives 1
+    ∷ outOfRange st gives 2
+    ∷ slotTooHigh s gives 3
+    ∷ reading st s gives 4
+    ∷ [])
+    st
+    (outcome ok (state (st .pool) (withReader (st .register) s (record { reading = true; key = k; node = 0 }))))
+
+-- A loaded 0 answers absent and ends the reading, else go.
+abbrev pub loaded : State → ℕ → ℕ → ℕ → Outcome
+loaded st s k n =
+    cond (eqb n 0)
+    (outcome absent (endReading st s))
+    (outcome go (state (st .pool) (withReader (st .register) s (record { reading = true; key = k; node = n }))))
+
+-- Reader's turn. Before any node: load the root. At a node: an equal key answers found with the record; a smaller wanted key loads left,
+-- a greater one right.
+unfoldable pub readerStep : State → ℕ → Outcome
+readerStep st s =
+    let x = readerOf (st .register) s in
+    let k = x .key in
+    let n = x .node in
+    let p = st .pool in
+    cond (eqb n 0)
+    (loaded st s k (st .register .root))
+    (cond (eqb k (word p n keyWord)) (outcome (found (word p n recordWord)) (endReading st s)) (loaded st s k (child p (towards p k n) n)))
+
+abbrev pub readerTests : State → ℕ → List Test
+readerTests st s =
+    wrongLength st gives 1
+    ∷ outOfRange st gives 2
+    ∷ slotTooHigh s gives 3
+    ∷ not (reading st s) gives 5
+    ∷ []
+
+unfoldable pub readerTurn : State → ℕ → Outcome
+readerTurn st s = unless (readerTests st s) st (readerStep st s)
+
+-- Give up ends the reading.
+unfoldable pub giveUp : State → ℕ → Outcome
+giveUp st s = unless (readerTests st s) st (outcome ok (endReading st s))
+
+-- The calls that demand 3 speaks of, with their arguments; what a call does to a state.
+pub data Call : Type 0 where
+  inserting : (k v : ℕ) → Call
+  deleting : (k : ℕ) → Call
+  writing : Call
+  beginning : (s k : ℕ) → Call
+  turning : (s : ℕ) → Call
+  givingUp : (s : ℕ) → Call
+
+abbrev pub call : State → Call → Outcome
+call st (inserting k v) = insert st k v
+call st (deleting k) = delete st k
+call st writing = writerTurn st
+call st (beginning s k) = begin st s k
+call st (turning s) = readerTurn st s
+call st (givingUp s) = giveUp st s

@@ -1,0 +1,97 @@
+-- 01, 'What demand 3 speaks of': the plain list. It is fed the calls in order, with their arguments and whether each was refused, and of a
+-- writer's turn whether it answered wait; nothing of pool or register.
+use Prim.Native.Nat.{ℕ, _+_}
+use mathlib.Core.Bool.{Bool, true, false, cond}
+use mathlib.Core.List.{List, [], _∷_, _++_}
+use mathlib.Core.Option.{Option, none, some}
+use lib.Dec.{eqb}
+use Rattle.sequential.specs.Tree.{Tree, leaf, node, Spot, descend}
+use Rattle.sequential.specs.Delete.{Change, insertion, deletion, changedBy}
+use Rattle.spec.specs.Calls.{Answer, ok, go, absent, wait, found, more, done, refused, Call, inserting, deleting, writing, beginning, turning, givingUp}
+
+-- a ticket: a key with its record
+pub record Ticket : Type 0 where
+  pub key : ℕ
+  pub value : ℕ
+
+-- the list without a key, and the record that it has for a key
+abbrev pub without : ℕ → List Ticket → List Ticket
+without k [] = []
+without k (t ∷ ts) = cond (eqb (t .key) k) (without k ts) (t ∷ without k ts)
+
+abbrev pub recordFor : ℕ → List Ticket → Option ℕ
+recordFor k [] = none
+recordFor k (t ∷ ts) = cond (eqb (t .key) k) (some (t .value)) (recordFor k ts)
+
+-- At its list store an insert puts in its key with its record, in place of any there, and a delete takes its key out.
+abbrev pub listed : Change → List Ticket → List Ticket
+listed (insertion k v) ts = record { key = k; value = v } ∷ without k ts
+listed (deletion k) ts = without k ts
+
+-- The list store is the first store; the second in a delete of a key with two children whose right child has no left child.
+abbrev pub adopts : Tree → Bool
+adopts leaf = false
+adopts (node c k v leaf r) = false
+adopts (node c k v (node d j w a b) leaf) = false
+adopts (node c k v (node d j w a b) (node e i u leaf y)) = true
+adopts (node c k v (node d j w a b) (node e i u (node f h q x z) y)) = false
+
+abbrev pub listStore : Tree → Change → ℕ
+listStore t (insertion k v) = 1
+listStore t (deletion k) = cond (adopts (descend t k [] .at)) 2 1
+
+-- It keeps tickets, the writes accepted so far (the last of them may be in hand), the one in hand and how many stores that has made.
+pub record Plain : Type 0 where
+  pub tickets : List Ticket
+  pub before : List Change
+  pub inHand : Option Change
+  pub made : ℕ
+
+-- It starts with no ticket and no write.
+abbrev pub noTicket : Plain
+noTicket = record { tickets = []; before = []; inHand = none; made = 0 }
+
+-- the writes accepted so far
+abbrev pub lastly : List Change → Option Change → List Change
+lastly cs none = cs
+lastly cs (some c) = cs ++ c ∷ []
+
+abbrev pub accepted : Plain → List Change
+accepted x = lastly (x .before) (x .inHand)
+
+-- what the plain list hears of a call's answer
+pub data Heard : Type 0 where
+  refusal waited went : Heard
+
+abbrev pub heard : Answer → Heard
+heard ok = went
+heard go = went
+heard absent = went
+heard wait = waited
+heard (found v) = went
+heard (more l n) = went
+heard (done l n) = went
+heard (refused n) = refusal
+
+-- An accepted insert or delete becomes the write in hand, no store made.
+abbrev pub begun : Plain → Change → Plain
+begun x c = record { tickets = x .tickets; before = accepted x; inHand = some c; made = 0 }
+
+-- a store of the write in hand; the sequential tree is that of the writes accepted before
+abbrev pub storeMade : Plain → Option Change → Plain
+storeMade x none = x
+storeMade x (some c) =
+    let m = x .made + 1 in
+    let atList = eqb m (listStore (changedBy leaf (x .before)) c) in
+    record { tickets = cond atList (listed c (x .tickets)) (x .tickets); before = x .before; inHand = some c; made = m }
+
+-- All else changes nothing: wait, any refused call, begin, reader's turn, give up.
+abbrev pub feed : Plain → Call → Heard → Plain
+feed x c refusal = x
+feed x c waited = x
+feed x (inserting k v) went = begun x (insertion k v)
+feed x (deleting k) went = begun x (deletion k)
+feed x writing went = storeMade x (x .inHand)
+feed x (beginning s k) went = x
+feed x (turning s) went = x
+feed x (givingUp s) went = x

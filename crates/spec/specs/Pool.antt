@@ -1,0 +1,124 @@
+-- 01, 'Pool and register': the pool's words.
+-- A pool is lent as 32-bit words, eight a node. Nodes are numbered from 1; 0 is no node.
+use Prim.Native.Nat.{ℕ, zero, suc, _+_, _-_, _*_, _/_, _%_}
+use mathlib.Core.Bool.{Bool, true, false, cond, _&&_}
+use mathlib.Core.List.{List, [], _∷_}
+use lib.ListN.{length, getD, set}
+use lib.Dec.{eqb, leb}
+use Rattle.base.specs.Walk.{allIn}
+use Rattle.types.specs.declared.Side.{Side}
+use Rattle.types.specs.declared.Side.the-variants.{L, R}
+
+-- the words of a node, and the least and the largest number of nodes
+abbrev pub nodeWords : ℕ
+nodeWords = 8
+
+abbrev pub leastNodes : ℕ
+leastNodes = 8
+
+abbrev pub mostNodes : ℕ
+mostNodes = 1023
+
+-- reader slots, and the largest mask of slots
+abbrev pub slots : ℕ
+slots = 8
+
+abbrev pub allSlots : ℕ
+allSlots = 255
+
+-- A node's words in order.
+abbrev pub keyWord : ℕ
+keyWord = 0
+
+abbrev pub recordWord : ℕ
+recordWord = 1
+
+abbrev pub leftWord : ℕ
+leftWord = 2
+
+abbrev pub rightWord : ℕ
+rightWord = 3
+
+abbrev pub colourWord : ℕ
+colourWord = 4
+
+abbrev pub standingWord : ℕ
+standingWord = 5
+
+abbrev pub holdersWord : ℕ
+holdersWord = 6
+
+abbrev pub nextWord : ℕ
+nextWord = 7
+
+-- the word of a node's link on a side
+abbrev pub linkWord : Side → ℕ
+linkWord L = leftWord
+linkWord R = rightWord
+
+-- Colour: 0 black, 1 red.
+abbrev pub blackColour : ℕ
+blackColour = 0
+
+abbrev pub redColour : ℕ
+redColour = 1
+
+-- Standing (01's term for what a node is used for): 0 free, 1 linked, 2 retired.
+abbrev pub standingFree : ℕ
+standingFree = 0
+
+abbrev pub standingLinked : ℕ
+standingLinked = 1
+
+abbrev pub standingRetired : ℕ
+standingRetired = 2
+
+-- N, the pool's nodes
+abbrev pub nodes : List ℕ → ℕ
+nodes p = length p / nodeWords
+
+-- where node n's word f stands
+abbrev pub place : ℕ → ℕ → ℕ
+place n f = n * nodeWords - nodeWords + f
+
+-- node n's word f; of no node, 0
+unfoldable pub word : List ℕ → ℕ → ℕ → ℕ
+word p n f = cond (eqb n 0) 0 (getD p (place n f) 0)
+
+-- the pool with node n's word f changed to v; of no node, none is changed
+unfoldable pub setWord : List ℕ → ℕ → ℕ → ℕ → List ℕ
+setWord p n f v = cond (eqb n 0) p (set p (place n f) v)
+
+-- node n's child on a side
+abbrev pub child : List ℕ → Side → ℕ → ℕ
+child p s n = word p n (linkWord s)
+
+-- no node is not red
+abbrev pub isRed : List ℕ → ℕ → Bool
+isRed p n = eqb (word p n colourWord) redColour
+
+abbrev pub paint : List ℕ → ℕ → ℕ → List ℕ
+paint p n c = setWord p n colourWord c
+
+-- Key and record are any 32-bit numbers. Links are 0 to N; colour 0 or 1; standing 0 to 2; holders 0 to 255; next free a link.
+unfoldable pub nodeInRange : List ℕ → ℕ → ℕ → Bool
+nodeInRange p top n =
+    leb (word p n leftWord) top && leb (word p n rightWord) top && leb (word p n colourWord) 1 && leb (word p n standingWord) 2
+    && leb (word p n holdersWord) allSlots
+    && leb (word p n nextWord) top
+
+unfoldable pub poolInRange : List ℕ → Bool
+poolInRange p = allIn (nodeInRange p (nodes p)) 1 (nodes p + 1)
+
+-- N is 8 to 1,023, and the length is 8 × N words.
+unfoldable pub lengthRight : List ℕ → Bool
+lengthRight p = eqb (length p % nodeWords) 0 && leb leastNodes (nodes p) && leb (nodes p) mostNodes
+
+-- Fresh: nodes 1 to N queued free in that order, every other word 0. The k nodes from n on:
+unfoldable pub freshNodes : ℕ → ℕ → List ℕ
+freshNodes zero n = []
+freshNodes (suc zero) n = 0 ∷ 0 ∷ 0 ∷ 0 ∷ 0 ∷ 0 ∷ 0 ∷ 0 ∷ []
+freshNodes (suc (suc k)) n = 0 ∷ 0 ∷ 0 ∷ 0 ∷ 0 ∷ 0 ∷ 0 ∷ (n + 1) ∷ freshNodes (suc k) (n + 1)
+
+unfoldable pub freshPool : ℕ → List ℕ
+freshPool top = freshNodes top 1

@@ -1,0 +1,178 @@
+-- 01, 'Pool and register': the register. It goes by value; docs/REGISTER.md lists its fields.
+use Prim.Native.Nat.{ℕ, zero, suc, _+_, _-_, _/_, _%_, _^_}
+use mathlib.Core.Bool.{Bool, true, false, cond, _&&_}
+use mathlib.Core.List.{List, [], _∷_, _++_}
+use lib.ListN.{length, getD, set, take, drop, replicate}
+use lib.Dec.{eqb, leb, ltb}
+use Rattle.base.specs.Walk.{allIn, foldIn}
+use Rattle.types.specs.declared.Link.{Link}
+use Rattle.types.specs.declared.Link.the-variants.{Root, Left, Right}
+use Rattle.types.specs.declared.Step.{Step}
+use Rattle.types.specs.declared.Step.the-variants.{Vacant, Insert, DiagLower, DiagRaise, ZigLowerA, ZigLowerC, ZigRaise, Unlink, Adopt, Replace, Publish, Detach}
+use Rattle.types.specs.declared.Store.{Store}
+use Rattle.types.specs.declared.Write.{Write}
+use Rattle.types.specs.declared.Reader.{Reader}
+use Rattle.types.specs.declared.Register.{Register}
+use Rattle.spec.specs.Pool.{word, setWord, leftWord, rightWord, nodes, slots, allSlots, freshPool}
+
+-- a pool with its register
+pub record State : Type 0 where
+  pub pool : List ℕ
+  pub register : Register
+
+abbrev pub state : List ℕ → Register → State
+state p r = record { pool = p; register = r }
+
+-- The stores still to come are at most seven.
+abbrev pub mostStores : ℕ
+mostStores = 7
+
+abbrev pub noReader : Reader
+noReader = record { reading = false; key = 0; node = 0 }
+
+abbrev pub vacant : Store
+vacant = record { link = Root; step = Vacant }
+
+-- The register with some of its fields changed.
+unfoldable pub withRoot : Register → ℕ → Register
+withRoot r n =
+    record { root = n; first = r .first; last = r .last; free = r .free; held = r .held; readers = r .readers; awaited = r .awaited; write = r .write }
+
+unfoldable pub withQueue : Register → ℕ → ℕ → ℕ → Register
+withQueue r first last free =
+    record { root = r .root; first = first; last = last; free = free; held = r .held; readers = r .readers; awaited = r .awaited; write = r .write }
+
+unfoldable pub withHeld : Register → ℕ → Register
+withHeld r n =
+    record { root = r .root; first = r .first; last = r .last; free = r .free; held = n; readers = r .readers; awaited = r .awaited; write = r .write }
+
+unfoldable pub withReader : Register → ℕ → Reader → Register
+withReader r s x =
+    record { root = r .root; first = r .first; last = r .last; free = r .free; held = r .held; readers = set (r .readers) s x; awaited = r .awaited; write = r .write }
+
+unfoldable pub withAwaited : Register → ℕ → Register
+withAwaited r m =
+    record { root = r .root; first = r .first; last = r .last; free = r .free; held = r .held; readers = r .readers; awaited = m; write = r .write }
+
+unfoldable pub withWrite : Register → Write → Register
+withWrite r w =
+    record { root = r .root; first = r .first; last = r .last; free = r .free; held = r .held; readers = r .readers; awaited = r .awaited; write = w }
+
+-- the record of a reader slot, and a planned store
+abbrev pub readerOf : Register → ℕ → Reader
+readerOf r s = getD (r .readers) s noReader
+
+abbrev pub storeOf : Register → ℕ → Store
+storeOf r i = getD (r .write .stores) i vacant
+
+-- A count at an end of its range goes no further; at 0 the difference stays 0.
+abbrev pub countUp : ℕ → ℕ → ℕ
+countUp top n = cond (ltb n top) (n + 1) n
+
+abbrev pub countDown : ℕ → ℕ
+countDown n = n - 1
+
+-- the node that a link holds, and the state with a link changed
+unfoldable pub linkNode : State → Link → ℕ
+linkNode st Root = st .register .root
+linkNode st (Left n) = word (st .pool) n leftWord
+linkNode st (Right n) = word (st .pool) n rightWord
+
+unfoldable pub setLink : State → Link → ℕ → State
+setLink st Root v = state (st .pool) (withRoot (st .register) v)
+setLink st (Left n) v = state (setWord (st .pool) n leftWord v) (st .register)
+setLink st (Right n) v = state (setWord (st .pool) n rightWord v) (st .register)
+
+-- Slots as bits of a number: bit s for slot s.
+abbrev pub hasSlot : ℕ → ℕ → Bool
+hasSlot m s = eqb (m / 2 ^ s % 2) 1
+
+unfoldable pub putSlot : ℕ → ℕ → ℕ
+putSlot m s = cond (hasSlot m s) m (m + 2 ^ s)
+
+unfoldable pub dropSlot : ℕ → ℕ → ℕ
+dropSlot m s = cond (hasSlot m s) (m - 2 ^ s) m
+
+-- all reading slots
+abbrev pub addReading : Register → ℕ → ℕ → ℕ
+addReading r m s = cond (readerOf r s .reading) (putSlot m s) m
+
+unfoldable pub readingSlots : Register → ℕ
+readingSlots r = foldIn (addReading r) 0 slots 0
+
+-- The ranges. A node number of the register is 0 to N; a store to come names nodes from 1 to N.
+abbrev pub nodeNumber : ℕ → ℕ → Bool
+nodeNumber top n = leb 1 n && leb n top
+
+abbrev pub linkInRange : ℕ → Link → Bool
+linkInRange top Root = true
+linkInRange top (Left n) = nodeNumber top n
+linkInRange top (Right n) = nodeNumber top n
+
+-- a step to come
+abbrev pub stepInRange : ℕ → Step → Bool
+stepInRange top Vacant = false
+stepInRange top (Insert k v) = true
+stepInRange top (DiagLower s c) = true
+stepInRange top (DiagRaise s c) = true
+stepInRange top (ZigLowerA s c) = true
+stepInRange top (ZigLowerC s c) = true
+stepInRange top (ZigRaise s c) = true
+stepInRange top Unlink = true
+stepInRange top Adopt = true
+stepInRange top Replace = true
+stepInRange top (Publish n) = nodeNumber top n
+stepInRange top Detach = true
+
+abbrev pub isRoot : Link → Bool
+isRoot Root = true
+isRoot (Left n) = false
+isRoot (Right n) = false
+
+abbrev pub isVacant : Step → Bool
+isVacant Vacant = true
+isVacant (Insert k v) = false
+isVacant (DiagLower s c) = false
+isVacant (DiagRaise s c) = false
+isVacant (ZigLowerA s c) = false
+isVacant (ZigLowerC s c) = false
+isVacant (ZigRaise s c) = false
+isVacant Unlink = false
+isVacant Adopt = false
+isVacant Replace = false
+isVacant (Publish n) = false
+isVacant Detach = false
+
+-- the i-th store: to come if i is below the count, else vacant
+unfoldable pub storeInRange : ℕ → Register → ℕ → Bool
+storeInRange top r i =
+    let x = storeOf r i in
+    cond (ltb i (r .write .count)) (linkInRange top (x .link) && stepInRange top (x .step)) (isRoot (x .link) && isVacant (x .step))
+
+abbrev pub readerInRange : ℕ → Register → ℕ → Bool
+readerInRange top r s = leb (readerOf r s .node) top
+
+unfoldable pub registerInRange : ℕ → Register → Bool
+registerInRange top r =
+    leb (r .root) top && leb (r .first) top && leb (r .last) top && leb (r .free) top && leb (r .held) top && leb (r .awaited) allSlots
+    && leb (r .write .count) mostStores
+    && allIn (readerInRange top r) 0 slots
+    && allIn (storeInRange top r) 0 mostStores
+
+-- Fresh: root 0, no slot reading, the nodes queued free, every other field 0.
+abbrev pub noWrite : Write
+noWrite = record { stores = replicate mostStores vacant; count = 0 }
+
+unfoldable pub freshRegister : ℕ → Register
+freshRegister top =
+    record { root = 0; first = 1; last = top; free = top; held = 0; readers = replicate slots noReader; awaited = 0; write = noWrite }
+
+unfoldable pub fresh : ℕ → State
+fresh top = state (freshPool top) (freshRegister top)
+
+-- The write in hand made of a list of stores to come, and what is left of it after its first store.
+unfoldable pub writeOf : List Store → Write
+writeOf l = record { stores = take mostStores (l ++ replicate mostStores vacant); count = length l }
+
+unfoldable pub lessFirst : Write → Write
+lessFirst w = record { stores = drop 1 (w .stores) ++ vacant ∷ []; count = countDown (w .count) }
