@@ -1,0 +1,115 @@
+-- The sequential tree of a list of writes: always a red-black tree of keys in order, whose lookups and size are those that the writes
+-- themselves tell. Used for demand 2's tree and for the plain list of demand 3.
+use Prim.Native.Nat.{ℕ, suc, _+_}
+use mathlib.Core.Path.{_≡_, refl, sym, ap, _∙_}
+use mathlib.Core.Logic.{_≢_}
+use mathlib.Core.List.{List, [], _∷_}
+use mathlib.Core.Option.{Option, none, some}
+use native.Mathlib.Omega.{arith}
+use Rattle.types.specs.declared.Side.the-variants.{L}
+use Rattle.sequential.specs.Tree.{Tree, leaf, rel, pick, find}
+use Rattle.sequential.specs.Insert.{insert}
+use Rattle.sequential.specs.Delete.{delete, Change, insertion, deletion, changed, changedBy}
+use Rattle.tree.specs.Order.{tri-case, ord-apart}
+use Rattle.tree.specs.Sorted.{Ordered, size}
+use Rattle.tree.specs.RedBlack.{RedBlack, rb-leaf}
+use Rattle.tree.specs.Writes.{count}
+use Rattle.tree.specs.Insert.{insert-redblack, insert-writes, insert-held}
+use Rattle.tree.specs.Delete.{delete-writes, delete-absent}
+use Rattle.tree.specs.DeleteShape.{delete-redblack}
+
+-- keys in order, and a red-black tree
+pub record Proper (t : Tree) : Type 0 where
+  pub ordered : Ordered t
+  pub redblack : RedBlack t
+
+pub proper-leaf : Proper leaf
+proper-leaf = record { ordered = tt; redblack = (0, rb-leaf) }
+
+-- a key is held or not
+held-case : {A : Type 0} (t : Tree) (q : ℕ) → (find t q ≡ none → A) → ((v : ℕ) → find t q ≡ some v → A) → A
+held-case {A} t q f g = go (find t q) refl
+  where
+    go : (o : Option ℕ) → find t q ≡ o → A
+    go none e = f e
+    go (some v) e = g v e
+
+-- Insert.
+pub insert-ordered : (t : Tree) (q w : ℕ) → Ordered t → Ordered (insert t q w)
+insert-ordered t q w h = held-case t q (λ e. insert-writes t q w e .ordered h) (λ v e. rw (insert-held t q w v e) h)
+
+pub find-insert : (t : Tree) (q w : ℕ) → Ordered t → find t q ≡ none → find (insert t q w) q ≡ some w
+find-insert t q w h e = insert-writes t q w e .there h
+
+pub find-insert-other : (t : Tree) (q w r : ℕ) → Ordered t → r ≢ q → find (insert t q w) r ≡ find t r
+find-insert-other t q w r h n = held-case t q (λ e. insert-writes t q w e .elsewhere h r n) (λ v e. ap (λ u. find u r) (insert-held t q w v e))
+
+pub size-insert : (t : Tree) (q w : ℕ) → find t q ≡ none → size (insert t q w) ≡ suc (size t)
+size-insert t q w e = let s = insert-writes t q w e .sized in omega arith
+
+-- Delete.
+pub delete-ordered : (t : Tree) (q : ℕ) → Ordered t → Ordered (delete t q)
+delete-ordered t q h = held-case t q (λ e. rw (delete-absent t q e) h) (λ v e. delete-writes t q v e .ordered h)
+
+pub find-delete : (t : Tree) (q : ℕ) → Ordered t → find (delete t q) q ≡ none
+find-delete t q h = held-case t q (λ e. ap (λ u. find u q) (delete-absent t q e) ∙ e) (λ v e. delete-writes t q v e .there h)
+
+pub find-delete-other : (t : Tree) (q r : ℕ) → Ordered t → r ≢ q → find (delete t q) r ≡ find t r
+find-delete-other t q r h n = held-case t q (λ e. ap (λ u. find u r) (delete-absent t q e)) (λ v e. delete-writes t q v e .elsewhere h r n)
+
+pub size-delete : (t : Tree) (q v : ℕ) → find t q ≡ some v → size t ≡ suc (size (delete t q))
+size-delete t q v e = let s = delete-writes t q v e .sized in omega arith
+
+-- One write, and a list of writes.
+pub changed-proper : (t : Tree) (c : Change) → Proper t → Proper (changed t c)
+changed-proper t (insertion k v) p = record { ordered = insert-ordered t k v (p .ordered); redblack = insert-redblack t k v (p .redblack) }
+changed-proper t (deletion k) p = record { ordered = delete-ordered t k (p .ordered); redblack = delete-redblack t k (p .redblack) }
+
+pub changedBy-proper : (t : Tree) (cs : List Change) → Proper t → Proper (changedBy t cs)
+changedBy-proper t [] p = p
+changedBy-proper t (c ∷ cs) p = changedBy-proper (changed t c) cs (changed-proper t c p)
+
+-- the tree of a fresh index's writes
+pub history-proper : (cs : List Change) → Proper (changedBy leaf cs)
+history-proper cs = changedBy-proper leaf cs proper-leaf
+
+-- what a write makes of the answer o that a lookup of q had: an insert of a held key and a delete of a key that is not held make nothing of it
+abbrev pub orElse : Option ℕ → ℕ → Option ℕ
+orElse none w = some w
+orElse (some v) w = some v
+
+abbrev pub told : Change → ℕ → Option ℕ → Option ℕ
+told (insertion k v) q o = pick (rel L q k) o (orElse o v) o
+told (deletion k) q o = pick (rel L q k) o none o
+
+abbrev pub toldBy : List Change → ℕ → Option ℕ → Option ℕ
+toldBy [] q o = o
+toldBy (c ∷ cs) q o = toldBy cs q (told c q o)
+
+find-insert-here : (t : Tree) (q w : ℕ) → Ordered t → find (insert t q w) q ≡ orElse (find t q) w
+find-insert-here t q w h = held-case t q (λ e. rw e (find-insert t q w h e)) (λ v e. rw (insert-held t q w v e, e))
+
+pub find-changed : (t : Tree) (c : Change) (q : ℕ) → Ordered t → find (changed t c) q ≡ told c q (find t q)
+find-changed t (insertion k v) q h =
+    tri-case L q k
+    (λ o e. rw e (find-insert-other t k v q h (ord-apart L q k o)))
+    (λ o e. rw (e, o) (find-insert-here t k v h))
+    (λ o e. rw e (find-insert-other t k v q h (λ i. ord-apart L k q o (sym i))))
+find-changed t (deletion k) q h =
+    tri-case L q k
+    (λ o e. rw e (find-delete-other t k q h (ord-apart L q k o)))
+    (λ o e. rw (e, o) (find-delete t k h))
+    (λ o e. rw e (find-delete-other t k q h (λ i. ord-apart L k q o (sym i))))
+
+pub find-changedBy : (t : Tree) (cs : List Change) (q : ℕ) → Proper t → find (changedBy t cs) q ≡ toldBy cs q (find t q)
+find-changedBy t [] q p = refl
+find-changedBy t (c ∷ cs) q p = find-changedBy (changed t c) cs q (changed-proper t c p) ∙ ap (toldBy cs q) (find-changed t c q (p .ordered))
+
+-- the key that a write is about; the size follows that key's answer
+abbrev pub keyOfChange : Change → ℕ
+keyOfChange (insertion k v) = k
+keyOfChange (deletion k) = k
+
+pub size-changed : (t : Tree) (c : Change) → Ordered t → size (changed t c) + count (find t (keyOfChange c)) ≡ size t + count (find (changed t c) (keyOfChange c))
+size-changed t (insertion k v) h = held-case t k (λ e. rw (find-insert t k v h e, e) (insert-writes t k v e .sized)) (λ u e. rw (insert-held t k v u e))
+size-changed t (deletion k) h = held-case t k (λ e. rw (delete-absent t k e)) (λ u e. rw (find-delete t k h, e) (delete-writes t k u e .sized))
