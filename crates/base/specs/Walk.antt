@@ -1,6 +1,6 @@
 -- A test of each number of a range, and a state taken through each number of a range; with the laws that a loop over them cites.
 use mathlib.Core.Path.{_≡_, refl, ap, sym, _∙_}
-use mathlib.Core.Bool.{Bool, true, false, cond, false≢true}
+use mathlib.Core.Bool.{Bool, true, false, cond, _&&_, false≢true}
 use native.Mathlib.Decide.{ℕ-discrete}
 use Prim.Native.Nat.{ℕ, zero, suc, _+_, _-_, _<_, _≤_}
 use native.Mathlib.Omega.{arith}
@@ -32,6 +32,22 @@ module _ (f : ℕ → Bool) (n e : ℕ) where
   all-end h =
       let a : e - n ≡ 0 = omega arith in
       rw a
+
+  -- the first test and the others
+  pub all-and : n < e → allIn f n e ≡ (f n && allIn f (n + 1) e)
+  all-and h = split (f n) refl
+    where
+      split : (b : Bool) → f n ≡ b → allIn f n e ≡ (f n && allIn f (n + 1) e)
+      split true t = rw t (all-ok h t)
+      split false t = rw t (all-bad h t)
+
+pub and-true : (a : Bool) → (a && true) ≡ a
+and-true true = refl
+and-true false = refl
+
+pub and-assoc : (a b c : Bool) → ((a && b) && c) ≡ (a && (b && c))
+and-assoc true b c = refl
+and-assoc false b c = refl
 
 -- a state taken through the numbers from n on and below e, in rising order
 module _ {A : Type 0} (f : A → ℕ → A) where

@@ -2,11 +2,11 @@
 use mathlib.Core.Path.{_≡_, refl, ap, sym, _∙_}
 use mathlib.Core.Bool.{Bool, true, false, cond}
 use mathlib.Core.Logic.{_≢_}
-use lib.Dec.{eqb}
-use lib.Pow.{pow-pos, pow-mono}
+use lib.Dec.{eqb, lit<}
+use lib.Pow.{pow-pos, pow-mono, shl-exact}
 use borrow.Author.Tests.{eq-eqb, ne-eqb, eqb-true, eqb-false}
 use native.Mathlib.Decide.{ℕ-discrete}
-use native.Mathlib.Nat.{pow-succ', div-div-eq-div-mul, div-one, div-eq-of-lt}
+use native.Mathlib.Nat.{pow-succ', div-div-eq-div-mul, div-one, div-eq-of-lt, one-mul}
 use native.Mathlib.Omega.{arith}
 use Prim.Native.Nat.{ℕ, zero, suc, _+_, _-_, _*_, _/_, _%_, _^_, _<_, _≤_}
 use Rattle.spec.specs.Register.{hasSlot, putSlot, dropSlot}
@@ -94,7 +94,7 @@ unfolding dropSlot
 drop-other m s t d = has-case m s (λ b e. rw (e, sub-other s t m b d)) (λ b e. rw e)
 
 -- masks of w slots stay masks of w slots
-add-below : (w s m : ℕ) → m < 2 ^ w → s < w → bit m s ≡ 0 → m + 2 ^ s < 2 ^ w
+pub add-below : (w s m : ℕ) → m < 2 ^ w → s < w → bit m s ≡ 0 → m + 2 ^ s < 2 ^ w
 add-below zero s m h l b = absurd (omega arith)
 add-below (suc w) zero m h l b =
     let a = sym (bit-low m) ∙ b in
@@ -122,3 +122,14 @@ no-slot (suc w) m h none =
     let low : m % 2 ≢ 1 = λ e. eqb-false _ _ (none 0 (omega arith)) (bit-low m ∙ e) in
     let half = no-slot w (m / 2) (omega arith) (λ s l. rw (bit-half m s) at (none (suc s) (omega arith))) in
     omega arith
+
+-- the bit of a slot as the code shifts it
+pub shifted : (s : ℕ) → s < 32 → (1 * 2 ^ s) % 4294967296 ≡ 2 ^ s
+shifted s h = shl-exact {a = 1} 1 s 32 (lit< tt) (omega arith) ∙ one-mul (2 ^ s)
+
+-- a slot that is not in a mask
+pub bit-out : (m s : ℕ) → hasSlot m s ≡ false → bit m s ≡ 0
+bit-out m s h = let d = eqb-false (bit m s) 1 h in let l = bit-two m s in omega arith
+
+pub bit-in : (m s : ℕ) → hasSlot m s ≡ true → bit m s ≡ 1
+bit-in m s h = eqb-true (bit m s) 1 h

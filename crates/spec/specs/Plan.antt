@@ -183,7 +183,7 @@ unlinkPlan st l b path =
     let p = st .pool in
     plan (store l Unlink ∷ []) (lossClimb p b (onlyChild p b) path .ending)
 
--- Two children. C's right comes to C's place at the end of the path; of C's place B's colour, and no colour of C, is kept.
+-- Two children. C's right comes to C's place, at the end of the path, and C's colour is lost there.
 -- Right child C without left child: C's left := B's left, B's link := C. Other: B's link := C', and F's left := C's right.
 abbrev pub successorPlan : State → Link → ℕ → List Link → Plan
 successorPlan st l b [] = record { possible = false; stores = [] }
@@ -193,7 +193,7 @@ successorPlan st l b (above ∷ up) =
     let e = lossClimb p c (child p R c) (above ∷ up) .ending in
     cond (eqb (child p L (child p R b)) 0)
     (plan (store l Adopt ∷ store l Replace ∷ []) e)
-    (plan (store l (Publish c) ∷ store above Detach ∷ []) e)
+    (plan (store l (Publish c) ∷ store l (Detach (word p b keyWord)) ∷ []) e)
 
 -- delete of node B, which the link l holds
 unfoldable pub deletePlan : State → Link → ℕ → Plan

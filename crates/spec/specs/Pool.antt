@@ -103,9 +103,9 @@ paint p n c = setWord p n colourWord c
 -- Key and record are any 32-bit numbers. Links are 0 to N; colour 0 or 1; standing 0 to 2; holders 0 to 255; next free a link.
 unfoldable pub nodeInRange : List ℕ → ℕ → ℕ → Bool
 nodeInRange p top n =
-    leb (word p n leftWord) top && leb (word p n rightWord) top && leb (word p n colourWord) 1 && leb (word p n standingWord) 2
-    && leb (word p n holdersWord) allSlots
-    && leb (word p n nextWord) top
+    leb (word p n leftWord) top && leb (word p n rightWord) top
+    && (leb (word p n colourWord) 1 && leb (word p n standingWord) 2)
+    && (leb (word p n holdersWord) allSlots && leb (word p n nextWord) top)
 
 unfoldable pub poolInRange : List ℕ → Bool
 poolInRange p = allIn (nodeInRange p (nodes p)) 1 (nodes p + 1)

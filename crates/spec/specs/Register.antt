@@ -73,10 +73,13 @@ abbrev pub countDown : ℕ → ℕ
 countDown n = n - 1
 
 -- the node that a link holds, and the state with a link changed
-unfoldable pub linkNode : State → Link → ℕ
-linkNode st Root = st .register .root
-linkNode st (Left n) = word (st .pool) n leftWord
-linkNode st (Right n) = word (st .pool) n rightWord
+unfoldable pub nodeAt : List ℕ → ℕ → Link → ℕ
+nodeAt p root Root = root
+nodeAt p root (Left n) = word p n leftWord
+nodeAt p root (Right n) = word p n rightWord
+
+abbrev pub linkNode : State → Link → ℕ
+linkNode st l = nodeAt (st .pool) (st .register .root) l
 
 unfoldable pub setLink : State → Link → ℕ → State
 setLink st Root v = state (st .pool) (withRoot (st .register) v)
@@ -122,7 +125,7 @@ stepInRange top Unlink = true
 stepInRange top Adopt = true
 stepInRange top Replace = true
 stepInRange top (Publish n) = nodeNumber top n
-stepInRange top Detach = true
+stepInRange top (Detach k) = true
 
 abbrev pub isRoot : Link → Bool
 isRoot Root = true
@@ -141,23 +144,22 @@ isVacant Unlink = false
 isVacant Adopt = false
 isVacant Replace = false
 isVacant (Publish n) = false
-isVacant Detach = false
+isVacant (Detach k) = false
 
--- the i-th store: to come if i is below the count, else vacant
-unfoldable pub storeInRange : ℕ → Register → ℕ → Bool
-storeInRange top r i =
-    let x = storeOf r i in
-    cond (ltb i (r .write .count)) (linkInRange top (x .link) && stepInRange top (x .step)) (isRoot (x .link) && isVacant (x .step))
+-- the i-th store of a write: to come if i is below the count, else vacant
+unfoldable pub storeInRange : ℕ → Write → ℕ → Bool
+storeInRange top w i =
+    let x = getD (w .stores) i vacant in
+    cond (ltb i (w .count)) (linkInRange top (x .link) && stepInRange top (x .step)) (isRoot (x .link) && isVacant (x .step))
 
 abbrev pub readerInRange : ℕ → Register → ℕ → Bool
 readerInRange top r s = leb (readerOf r s .node) top
 
 unfoldable pub registerInRange : ℕ → Register → Bool
 registerInRange top r =
-    leb (r .root) top && leb (r .first) top && leb (r .last) top && leb (r .free) top && leb (r .held) top && leb (r .awaited) allSlots
-    && leb (r .write .count) mostStores
-    && allIn (readerInRange top r) 0 slots
-    && allIn (storeInRange top r) 0 mostStores
+    leb (r .root) top && leb (r .first) top && leb (r .last) top
+    && (leb (r .free) top && leb (r .held) top && leb (r .awaited) allSlots)
+    && (leb (r .write .count) mostStores && allIn (readerInRange top r) 0 slots && allIn (storeInRange top (r .write)) 0 mostStores)
 
 -- Fresh: root 0, no slot reading, the nodes queued free, every other field 0.
 abbrev pub noWrite : Write

@@ -23,7 +23,7 @@ use Rattle.spec.specs.Pool.{word, child, paint, keyWord, recordWord, col
 use Rattle.spec.specs.Register.{State, state, withHeld, withAwaited, withWrite, countUp, countDown, linkNode, setLink, readingSlots}
 use Rattle.spec.specs.Free.{queueEmpty, takeNode, retire, retireTwo}
 use Rattle.spec.specs.Search.{pathTo}
-use Rattle.spec.specs.Plan.{insertClimb, paintRise, lossClimb, paintLoss, missing, redChild, onlyChild, belowRight, store}
+use Rattle.spec.specs.Plan.{insertClimb, paintRise, lossClimb, paintLoss, missing, redChild, onlyChild, belowRight, successorPath, nearest, store}
 
 -- What a turn leaves, and the link that it stored with its new node.
 pub record Made : Type 0 where
@@ -212,22 +212,35 @@ publishStore st l c =
     let awaiting = withWrite (withAwaited r (readingSlots r)) (movedWrite b n (r .write)) in
     made (retire (state (linked .pool) awaiting) b) l n
 
--- Then F's left := C's right; C retired. C's old colour is lost.
-abbrev pub detachClimb : State → Link → Climb
-detachClimb st l =
-    let c = linkNode st l in
-    lossClimb (st .pool) c (child (st .pool) R c) (unlinkPath st l)
+-- Then F's left := C's right; C retired. C's old colour is lost. C is found again as it was planned: down by B's key k to the link l,
+-- which holds C' now, and leftmost below its right.
+abbrev pub detachPath : State → Link → ℕ → List Link
+detachPath st l k = successorPath (st .pool) (linkNode st l) (pathTo (st .pool) (st .register .root) k l)
 
-unfoldable pub detachStore : State → Link → Made
-detachStore st l =
-    let c = linkNode st l in
+abbrev pub detachNode : State → Link → ℕ → ℕ
+detachNode st l k = linkNode st (nearest (detachPath st l k))
+
+abbrev pub detachClimb : State → Link → ℕ → Climb
+detachClimb st l k =
+    let c = detachNode st l k in
+    lossClimb (st .pool) c (child (st .pool) R c) (detachPath st l k)
+
+unfoldable pub detachStore : State → Link → ℕ → Made
+detachStore st l k =
+    let path = detachPath st l k in
+    let above = nearest path in
+    let c = linkNode st above in
     let x = child (st .pool) R c in
-    made (retire (paintLoss (setLink st l x) (detachClimb st l) x (unlinkPath st l)) c) l x
+    made (retire (paintLoss (setLink st above x) (detachClimb st l k) x path) c) above x
 
 -- Whether a turn's own step finds every node that it names, and a free node if it takes one. Of no node each word is 0, so a node that
 -- is there has the nodes above it there as well.
 abbrev pub isNode : ℕ → Bool
 isNode n = not (eqb n 0)
+
+abbrev pub reached : List Link → Bool
+reached [] = false
+reached (l ∷ up) = true
 
 abbrev pub calmly : Climb → Bool
 calmly c = not (missing (c .ending))
@@ -257,7 +270,7 @@ stepFinds st l Unlink = isNode (linkNode st l) && calmly (unlinkClimb st l)
 stepFinds st l Adopt = isNode (child (st .pool) R (linkNode st l))
 stepFinds st l Replace = isNode (child (st .pool) R (linkNode st l)) && calmly (replaceClimb st l)
 stepFinds st l (Publish c) = isNode (linkNode st l) && not (queueEmpty st)
-stepFinds st l Detach = isNode (linkNode st l) && calmly (detachClimb st l)
+stepFinds st l (Detach k) = reached (detachPath st l k) && isNode (detachNode st l k) && calmly (detachClimb st l k)
 
 unfoldable pub stepMade : State → Link → Step → Made
 stepMade st l Vacant = made st l 0
@@ -271,4 +284,4 @@ stepMade st l Unlink = unlinkStore st l
 stepMade st l Adopt = adoptStore st l
 stepMade st l Replace = replaceStore st l
 stepMade st l (Publish c) = publishStore st l c
-stepMade st l Detach = detachStore st l
+stepMade st l (Detach k) = detachStore st l k

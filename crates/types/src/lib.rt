@@ -44,7 +44,7 @@ pub struct Rotation {
 // ZigLowerA, ZigLowerC, ZigRaise: B's link := A'; B's other link := C'; the link from above := B.
 // Unlink: B's link from above := its only child, or 0.
 // Adopt, Replace: C's left := B's left; B's link from above := C.
-// Publish(C), Detach: B's link from above := C'; F's left := C's right.
+// Publish(C), Detach(key): B's link from above := C'; F's left := C's right. The key is B's, by which the place is found again.
 pub enum Step {
     Vacant,
     Insert(u32, u32),
@@ -57,7 +57,7 @@ pub enum Step {
     Adopt,
     Replace,
     Publish(u32),
-    Detach,
+    Detach(u32),
 }
 
 // A planned store: `link` is the link from above of the place that the step works on.
