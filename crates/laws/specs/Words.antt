@@ -93,10 +93,10 @@ pub sum-zero : (a b : ℕ) → eqb (a + b) 0 ≡ (eqb a 0 && eqb b 0)
 sum-zero a b =
     elim (ℕ-discrete a 0) [
       | yes e ↦
-        elim (ℕ-discrete b 0) [
-          | yes i ↦ rw (eq-eqb a 0 e, eq-eqb b 0 i) (eq-eqb (a + b) 0 (omega arith))
-          | no d ↦ rw (eq-eqb a 0 e, ne-eqb b 0 d) (ne-eqb (a + b) 0 (omega arith))
-        ]
+          elim (ℕ-discrete b 0) [
+            | yes i ↦ rw (eq-eqb a 0 e, eq-eqb b 0 i) (eq-eqb (a + b) 0 (omega arith))
+            | no d ↦ rw (eq-eqb a 0 e, ne-eqb b 0 d) (ne-eqb (a + b) 0 (omega arith))
+          ]
       | no d ↦ rw (ne-eqb a 0 d) (ne-eqb (a + b) 0 (omega arith))
     ]
 

@@ -11,24 +11,37 @@ ghost use Rattle.spec.specs.Free.{fillNode};
 ghost use Rattle.types.specs.Side.{other};
 
 pub const NODE_WORDS: usize = 8;
+
 pub const LEAST_NODES: usize = 8;
+
 pub const MOST_NODES: usize = 1023;
+
 pub const ALL_SLOTS: u32 = 255;
 
 pub const KEY: u32 = 0;
+
 pub const RECORD: u32 = 1;
+
 pub const LEFT: u32 = 2;
+
 pub const RIGHT: u32 = 3;
+
 pub const COLOUR: u32 = 4;
+
 pub const STANDING: u32 = 5;
+
 pub const HOLDERS: u32 = 6;
+
 pub const NEXT: u32 = 7;
 
 pub const BLACK: u32 = 0;
+
 pub const RED: u32 = 1;
 
 pub const FREE: u32 = 0;
+
 pub const LINKED: u32 = 1;
+
 pub const RETIRED: u32 = 2;
 
 pub fn word(pool: &[u32], n: u32, f: u32) -> u32

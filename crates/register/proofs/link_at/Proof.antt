@@ -1,0 +1,27 @@
+use mathlib.Core.Path.{_≡_, refl, sym, ap, _∙_}
+use native.Mathlib.Omega.{arith}
+use borrow.Author.Tests.{eq-eqb, ne-eqb, lt-ltb, le-ltb, lt-leb, le-leb, not-true, not-false}
+use borrow.Author.Needs.{needs}
+use Rattle.register.proofs.link_at.Statement.{statement}
+use Rattle.register.proofs.link_at.Tie as tie
+use Rattle.register.proofs.link_at.Reads as reads
+use Rattle.register.proofs.link_at.Lts as lts
+
+-- src/lib.rt:88:20
+enum-told : tie.Need-enum-told
+enum-told c = search needs
+
+-- src/lib.rt:89:20
+enum-told-2 : tie.Need-enum-told-2
+enum-told-2 c = search needs
+
+-- src/lib.rt:84:1
+returns : tie.Need-returns
+returns c = rw (c .enum-told .given .1)
+
+-- src/lib.rt:84:1
+returns-2 : tie.Need-returns-2
+returns-2 c = rw (c .enum-told2 .given .1)
+
+pub link-at-spec : {M : Type 1} → statement M
+link-at-spec = tie.close (tie.spec enum-told enum-told-2 returns returns-2)

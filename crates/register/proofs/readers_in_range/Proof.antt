@@ -1,0 +1,66 @@
+use Rattle.spec.specs.Register.{readerInRange}
+use Rattle.spec.specs.Pool.{slots}
+use Rattle.base.specs.Walk.{allIn, all-and, all-end, and-assoc, and-true}
+use mathlib.Core.Bool.{_&&_}
+use Prim.Native.Nat.{ℕ, _≤_, _+_, _-_}
+use mathlib.Core.Path.{_≡_, refl, sym, ap, _∙_}
+use native.Mathlib.Omega.{arith}
+use borrow.Author.Tests.{eq-eqb, ne-eqb, lt-ltb, le-ltb, lt-leb, le-leb, not-true, not-false}
+use borrow.Author.Needs.{needs}
+use Rattle.register.proofs.readers_in_range.Statement.{statement}
+use Rattle.register.proofs.readers_in_range.Tie as tie
+use Rattle.register.proofs.readers_in_range.Reads as reads
+use Rattle.register.proofs.readers_in_range.Lts as lts
+
+abbrev Inv-loop : tie.InvT-loop
+Inv-loop top reg ok₀ s₀ ok s = (s ≤ slots) × ((ok && allIn (readerInRange top reg) s slots) ≡ allIn (readerInRange top reg) 0 slots)
+
+abbrev μ-loop : tie.MeasureT-loop
+μ-loop top reg ok₀ s₀ ok s = slots - s
+
+-- src/lib.rt:270:5
+loop-holds : tie.Need-loop-holds Inv-loop μ-loop
+loop-holds c = (search needs, refl)
+
+-- src/lib.rt:271:17
+cast-i : tie.Need-cast-i Inv-loop μ-loop
+cast-i c = search needs
+
+-- src/lib.rt:272:20
+mul-ok : tie.Need-mul-ok Inv-loop μ-loop
+mul-ok c = search needs
+
+-- src/lib.rt:272:20
+element-copy-out-ok : tie.Need-element-copy-out-ok Inv-loop μ-loop
+element-copy-out-ok c = search needs
+
+-- src/lib.rt:273:9
+add-s : tie.Need-add-s Inv-loop μ-loop
+add-s c = search needs
+
+-- src/lib.rt:270:5
+loop-less : tie.Need-loop-less Inv-loop μ-loop
+loop-less c = search needs
+
+-- src/lib.rt:270:5
+loop-again : tie.Need-loop-again Inv-loop μ-loop
+loop-again c = let l = c .before .loop in (search needs, rw and-assoc (rw (sym (all-and (readerInRange (c .before .before .args .top) (c .before .before .args .t1)) (l .s) slots (c .loop-test .taken))) (l .inv .1)))
+
+-- src/lib.rt:265:1
+returns : tie.Need-returns Inv-loop μ-loop
+returns c = let l = c .before .loop in sym (and-true _) ∙ (rw (all-end (readerInRange (c .before .before .args .top) (c .before .before .args .t1)) (l .s) slots (c .loop-test .left)) at (l .inv .1))
+
+pub readers-in-range-spec : {M : Type 1} → statement M
+readers-in-range-spec =
+    tie.close
+    (tie.spec
+    Inv-loop
+    μ-loop
+    loop-holds
+    cast-i
+    mul-ok
+    element-copy-out-ok
+    add-s
+    loop-less
+    loop-again
+    returns)

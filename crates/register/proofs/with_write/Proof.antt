@@ -1,0 +1,17 @@
+use Rattle.spec.specs.Register.{withWrite}
+use mathlib.Core.Path.{_≡_, refl, sym, ap, _∙_}
+use native.Mathlib.Omega.{arith}
+use borrow.Author.Tests.{eq-eqb, ne-eqb, lt-ltb, le-ltb, lt-leb, le-leb, not-true, not-false}
+use borrow.Author.Needs.{needs}
+use Rattle.register.proofs.with_write.Statement.{statement}
+use Rattle.register.proofs.with_write.Tie as tie
+use Rattle.register.proofs.with_write.Reads as reads
+use Rattle.register.proofs.with_write.Lts as lts
+
+-- src/lib.rt:62:1
+returns : tie.Need-returns
+unfolding withWrite
+returns c = search needs
+
+pub with-write-spec : {M : Type 1} → statement M
+with-write-spec = tie.close (tie.spec returns)

@@ -1,0 +1,303 @@
+// The register: fields changed, links read and stored, slots as bits, the test of ranges.
+use types::Link;
+use types::Reader;
+use types::Register;
+use types::Side;
+use types::Step;
+use types::Store;
+use types::Write;
+ghost use mathlib.Core.Path.{_≡_};
+ghost use Prim.Native.Nat.{ℕ, _<_, _≤_, _+_, _*_};
+ghost use mathlib.Core.Bool.{cond, _&&_};
+ghost use Rattle.types.specs.Side.{linkAt, owner, sideOf, sameSide};
+ghost use Rattle.spec.specs.Register.{state, withRoot, withQueue, withHeld, withReader, withAwaited, withWrite, countUp, countDown, nodeAt, setLink, hasSlot, putSlot, dropSlot, readingSlots, nodeNumber, linkInRange, stepInRange, isRoot, isVacant, mostStores, storeInRange, readerInRange, registerInRange};
+ghost use Rattle.spec.specs.Pool.{slots};
+ghost use Rattle.base.specs.Walk.{allIn};
+
+pub const SLOTS: u32 = 8;
+
+pub const MOST_STORES: u32 = 7;
+
+pub fn with_root(reg: Register, n: u32) -> Register
+    ensures { λ r. ⌜ r ≡ withRoot reg n ⌝ }
+{
+    let mut r = reg;
+    r.root = n;
+    r
+}
+
+pub fn with_queue(reg: Register, first: u32, last: u32, free: u32) -> Register
+    ensures { λ r. ⌜ r ≡ withQueue reg first last free ⌝ }
+{
+    let mut r = reg;
+    r.first = first;
+    r.last = last;
+    r.free = free;
+    r
+}
+
+pub fn with_held(reg: Register, n: u32) -> Register
+    ensures { λ r. ⌜ r ≡ withHeld reg n ⌝ }
+{
+    let mut r = reg;
+    r.held = n;
+    r
+}
+
+pub fn with_reader(reg: Register, s: u32, x: Reader) -> Register
+    requires { ⌜ s < 8 ⌝ }
+    ensures { λ r. ⌜ r ≡ withReader reg s x ⌝ }
+{
+    let i = s as usize;
+    let mut r = reg;
+    r.readers[i] = x;
+    r
+}
+
+pub fn with_awaited(reg: Register, m: u32) -> Register
+    ensures { λ r. ⌜ r ≡ withAwaited reg m ⌝ }
+{
+    let mut r = reg;
+    r.awaited = m;
+    r
+}
+
+pub fn with_write(reg: Register, w: Write) -> Register
+    ensures { λ r. ⌜ r ≡ withWrite reg w ⌝ }
+{
+    let mut r = reg;
+    r.write = w;
+    r
+}
+
+// A count at an end of its range goes no further.
+pub fn count_up(top: u32, n: u32) -> u32
+    ensures { λ r. ⌜ r ≡ countUp top n ⌝ }
+{
+    if n < top { n + 1 } else { n }
+}
+
+pub fn count_down(n: u32) -> u32
+    ensures { λ r. ⌜ r ≡ countDown n ⌝ }
+{
+    if n == 0 { 0 } else { n - 1 }
+}
+
+// a node's link on a side; the node and the side of a link
+pub fn link_at(s: Side, n: u32) -> Link
+    ensures { λ r. ⌜ r ≡ linkAt s n ⌝ }
+{
+    match s {
+        Side::L => Link::Left(n),
+        Side::R => Link::Right(n),
+    }
+}
+
+pub fn owner(l: Link) -> u32
+    ensures { λ r. ⌜ r ≡ owner l ⌝ }
+{
+    match l {
+        Link::Root => 0,
+        Link::Left(n) => n,
+        Link::Right(n) => n,
+    }
+}
+
+pub fn side_of(l: Link) -> Side
+    ensures { λ r. ⌜ r ≡ sideOf l ⌝ }
+{
+    match l {
+        Link::Root => Side::L,
+        Link::Left(_) => Side::L,
+        Link::Right(_) => Side::R,
+    }
+}
+
+// the node that a link holds
+pub fn node_at(pool: &[u32], root: u32, l: Link) -> u32
+    ensures { λ r. ⌜ r ≡ nodeAt (now (pool .entry)) root l ⌝ }
+{
+    match l {
+        Link::Root => root,
+        Link::Left(n) => pool::word(pool, n, pool::LEFT),
+        Link::Right(n) => pool::word(pool, n, pool::RIGHT),
+    }
+}
+
+// stores a link
+pub fn set_link(pool: &mut [u32], reg: Register, l: Link, v: u32) -> Register
+    ensures { λ r. ⌜ r ≡ setLink (state (now (pool .entry)) reg) l v .register ⌝ }
+    ensures { λ r. ⌜ now (pool .exit) ≡ setLink (state (now (pool .entry)) reg) l v .pool ⌝ }
+{
+    match l {
+        Link::Root => with_root(reg, v),
+        Link::Left(n) => {
+            pool::set_word(pool, n, pool::LEFT, v);
+            reg
+        }
+        Link::Right(n) => {
+            pool::set_word(pool, n, pool::RIGHT, v);
+            reg
+        }
+    }
+}
+
+// whether slot s is in a mask, and the mask with it and without it
+pub fn has_slot(m: u32, s: u32) -> bool
+    requires { ⌜ s < 32 ⌝ }
+    ensures { λ r. ⌜ r ≡ hasSlot m s ⌝ }
+{
+    (m >> s) % 2 == 1
+}
+
+pub fn put_slot(m: u32, s: u32) -> u32
+    requires { ⌜ s < 32 ⌝ }
+    ensures { λ r. ⌜ r ≡ putSlot m s ⌝ }
+{
+    if has_slot(m, s) { m } else { m + (1 << s) }
+}
+
+pub fn drop_slot(m: u32, s: u32) -> u32
+    requires { ⌜ s < 32 ⌝ }
+    ensures { λ r. ⌜ r ≡ dropSlot m s ⌝ }
+{
+    if has_slot(m, s) { m - (1 << s) } else { m }
+}
+
+// the mask with slot s too, if it reads
+fn add_slot(m: u32, s: u32, reading: bool) -> u32
+    requires { ⌜ s < 32 ⌝ }
+    ensures { λ r. ⌜ r ≡ cond reading (putSlot m s) m ⌝ }
+{
+    if reading { put_slot(m, s) } else { m }
+}
+
+// all reading slots
+pub fn reading_slots(reg: Register) -> u32
+    ensures { λ r. ⌜ r ≡ readingSlots reg ⌝ }
+{
+    let mut m: u32 = 0;
+    let mut s: u32 = 0;
+    while s < SLOTS {
+        let i = s as usize;
+        m = add_slot(m, s, reg.readers[i].reading);
+        s += 1;
+    }
+    m
+}
+
+fn node_number(n: u32, top: u32) -> bool
+    ensures { λ r. ⌜ r ≡ nodeNumber top n ⌝ }
+{
+    (1 <= n) & (n <= top)
+}
+
+fn link_in_range(l: Link, top: u32) -> bool
+    ensures { λ r. ⌜ r ≡ linkInRange top l ⌝ }
+{
+    match l {
+        Link::Root => true,
+        Link::Left(n) => node_number(n, top),
+        Link::Right(n) => node_number(n, top),
+    }
+}
+
+fn step_in_range(s: Step, top: u32) -> bool
+    ensures { λ r. ⌜ r ≡ stepInRange top s ⌝ }
+{
+    match s {
+        Step::Vacant => false,
+        Step::Insert(_, _) => true,
+        Step::DiagLower(_, _) => true,
+        Step::DiagRaise(_, _) => true,
+        Step::ZigLowerA(_, _) => true,
+        Step::ZigLowerC(_, _) => true,
+        Step::ZigRaise(_, _) => true,
+        Step::Unlink => true,
+        Step::Adopt => true,
+        Step::Replace => true,
+        Step::Publish(n) => node_number(n, top),
+        Step::Detach(_) => true,
+    }
+}
+
+fn is_root(l: Link) -> bool
+    ensures { λ r. ⌜ r ≡ isRoot l ⌝ }
+{
+    match l {
+        Link::Root => true,
+        Link::Left(_) => false,
+        Link::Right(_) => false,
+    }
+}
+
+fn is_vacant(s: Step) -> bool
+    ensures { λ r. ⌜ r ≡ isVacant s ⌝ }
+{
+    match s {
+        Step::Vacant => true,
+        Step::Insert(_, _) => false,
+        Step::DiagLower(_, _) => false,
+        Step::DiagRaise(_, _) => false,
+        Step::ZigLowerA(_, _) => false,
+        Step::ZigLowerC(_, _) => false,
+        Step::ZigRaise(_, _) => false,
+        Step::Unlink => false,
+        Step::Adopt => false,
+        Step::Replace => false,
+        Step::Publish(_) => false,
+        Step::Detach(_) => false,
+    }
+}
+
+// a store that is to come, or a vacant one
+fn store_in_range(x: Store, coming: bool, top: u32) -> bool
+    ensures { λ r. ⌜ r ≡ cond coming (linkInRange top (x .link) && stepInRange top (x .step)) (isRoot (x .link) && isVacant (x .step)) ⌝ }
+{
+    let link = x.link;
+    let step = x.step;
+    if coming {
+        link_in_range(link, top) & step_in_range(step, top)
+    } else {
+        is_root(link) & is_vacant(step)
+    }
+}
+
+fn readers_in_range(reg: Register, top: u32) -> bool
+    ensures { λ r. ⌜ r ≡ allIn (readerInRange top reg) 0 slots ⌝ }
+{
+    let mut ok = true;
+    let mut s: u32 = 0;
+    while s < SLOTS {
+        let i = s as usize;
+        ok = ok & (reg.readers[i].node <= top);
+        s += 1;
+    }
+    ok
+}
+
+fn stores_in_range(w: Write, top: u32) -> bool
+    ensures { λ r. ⌜ r ≡ allIn (storeInRange top w) 0 mostStores ⌝ }
+{
+    let count = w.count;
+    let mut ok = true;
+    let mut i: u32 = 0;
+    while i < MOST_STORES {
+        let at = i as usize;
+        let x = w.stores[at];
+        ok = ok & store_in_range(x, i < count, top);
+        i += 1;
+    }
+    ok
+}
+
+// every field of the register in its range
+pub fn register_in_range(reg: Register, top: u32) -> bool
+    ensures { λ r. ⌜ r ≡ registerInRange top reg ⌝ }
+{
+    let a = (reg.root <= top) & (reg.first <= top) & (reg.last <= top);
+    let b = (reg.free <= top) & (reg.held <= top) & (reg.awaited <= pool::ALL_SLOTS);
+    let w = reg.write;
+    let c = (w.count <= MOST_STORES) & readers_in_range(reg, top) & stores_in_range(w, top);
+    a & b & c
+}
