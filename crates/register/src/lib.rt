@@ -70,6 +70,13 @@ pub fn with_write(reg: Register, w: Write) -> Register
     r
 }
 
+// one of two numbers
+pub fn choose(test: bool, x: u32, y: u32) -> u32
+    ensures { λ r. ⌜ r ≡ cond test x y ⌝ }
+{
+    if test { x } else { y }
+}
+
 // A count at an end of its range goes no further.
 pub fn count_up(top: u32, n: u32) -> u32
     ensures { λ r. ⌜ r ≡ countUp top n ⌝ }

@@ -1,0 +1,36 @@
+-- What releasing, freeing and retiring leave as it was.
+use mathlib.Core.Path.{_≡_, refl, sym, _∙_}
+use mathlib.Core.List.{List}
+use mathlib.Core.Bool.{Bool, true, false, cond}
+use lib.Dec.{eqb}
+use lib.ListN.{length}
+use Prim.Native.Nat.{ℕ}
+use Rattle.base.specs.Walk.{cond-both, fold-keeps}
+use Rattle.spec.specs.Pool.{word, setWord, standingWord, standingRetired, holdersWord, nextWord, standingFree, nodes}
+use Rattle.spec.specs.Register.{State, state, withQueue, withReader, withAwaited, dropSlot, readingSlots}
+use Rattle.spec.specs.Free.{queueEmpty, freeNode, retire, release, endReading}
+use Rattle.laws.specs.Words.{length-setWord}
+
+-- a node that does not stand retired is not released
+pub release-other : (s : ℕ) (st : State) (n : ℕ) → eqb (word (st .pool) n standingWord) standingRetired ≡ false → release s st n ≡ st
+unfolding release
+release-other s st n h = rw h
+
+-- the pool keeps its length
+pub free-length : (st : State) (n : ℕ) → length (freeNode st n .pool) ≡ length (st .pool)
+unfolding freeNode
+free-length st n =
+    let q = setWord (setWord (st .pool) n standingWord standingFree) n holdersWord 0 in
+    simp length-setWord
+    (cond-both (λ (p : List ℕ). length p ≡ length (st .pool)) (queueEmpty st) {x = q} {y = setWord q (st .register .last) nextWord n}
+    (simp length-setWord)
+    (simp length-setWord))
+
+pub release-length : (s : ℕ) (st : State) (n : ℕ) → length (release s st n .pool) ≡ length (st .pool)
+unfolding release
+release-length s st n =
+    let h = dropSlot (word (st .pool) n holdersWord) s in
+    let P : State → Type 0 = λ x. length (x .pool) ≡ length (st .pool) in
+    cond-both P (eqb (word (st .pool) n standingWord) standingRetired)
+    (cond-both P (eqb h 0) (free-length st n) (simp length-setWord))
+    refl
