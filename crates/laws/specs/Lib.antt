@@ -2,3 +2,5 @@ pub mod Words
 pub mod Slots
 pub mod Queue
 pub mod Freed
+pub mod Tests
+pub mod Descend

@@ -176,16 +176,17 @@ writerTurn st =
     (cond waiting (outcome wait st) (stored (stepMade st (x .link) (x .step))))
 
 -- Begin: the slot reads, with the wanted key, before any node.
-unfoldable pub begin : State → ℕ → ℕ → Outcome
-begin st s k =
-    unless
-    (wrongLength st gives 1
+abbrev pub beginTests : State → ℕ → List Test
+beginTests st s =
+    wrongLength st gives 1
     ∷ outOfRange st gives 2
     ∷ slotTooHigh s gives 3
     ∷ reading st s gives 4
-    ∷ [])
-    st
-    (outcome ok (state (st .pool) (withReader (st .register) s (record { reading = true; key = k; node = 0 }))))
+    ∷ []
+
+unfoldable pub begin : State → ℕ → ℕ → Outcome
+begin st s k =
+    unless (beginTests st s) st (outcome ok (state (st .pool) (withReader (st .register) s (record { reading = true; key = k; node = 0 }))))
 
 -- A loaded 0 answers absent and ends the reading, else go.
 abbrev pub loaded : State → ℕ → ℕ → ℕ → Outcome

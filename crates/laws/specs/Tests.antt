@@ -1,0 +1,89 @@
+-- Facts from passed tests.
+use mathlib.Core.Path.{_≡_, refl, sym, _∙_}
+use mathlib.Core.List.{List, [], _∷_}
+use mathlib.Core.Bool.{Bool, true, false, cond, not, _&&_, false≢true}
+use lib.Dec.{eqb, leb}
+use lib.ListN.{length}
+use borrow.Author.Tests.{leb-true, leb-false, eqb-true, eq-eqb, ne-eqb}
+use native.Mathlib.Omega.{arith}
+use Prim.Native.Nat.{ℕ, _<_, _≤_, _/_, _%_}
+use Rattle.spec.specs.Pool.{nodes, lengthRight, poolInRange}
+use Rattle.spec.specs.Register.{State, registerInRange}
+use Rattle.spec.specs.Calls.{Test, _gives_, firstOf, Outcome, outcome, unless, refused, wrongLength, outOfRange, slotTooHigh}
+
+pub and-left : (a b : Bool) → (a && b) ≡ true → a ≡ true
+and-left true b h = refl
+and-left false b h = absurd (false≢true h)
+
+pub and-right : (a b : Bool) → (a && b) ≡ true → b ≡ true
+and-right true b h = h
+and-right false b h = absurd (false≢true h)
+
+-- a pool of the right length has at most 1,023 nodes
+pub right-length : (p : List ℕ) → lengthRight p ≡ true → length p < 8192
+unfolding lengthRight
+right-length p h =
+    let a = eqb (length p % 8) 0 && leb 8 (nodes p) in
+    let top = leb-true (nodes p) 1023 (and-right a (leb (nodes p) 1023) h) in
+    let whole = eqb-true (length p % 8) 0 (and-left (eqb (length p % 8) 0) (leb 8 (nodes p)) (and-left a (leb (nodes p) 1023) h)) in
+    omega arith
+
+-- Tests 1 and 2, which begin every call but set up.
+abbrev pub lentNumber : State → ℕ
+lentNumber st = firstOf (wrongLength st gives 1 ∷ outOfRange st gives 2 ∷ [])
+
+-- the first of a list of tests that begins with them
+pub first-lent : (a b : Bool) (ts : List Test) → firstOf (a gives 1 ∷ b gives 2 ∷ ts)
+    ≡ cond (eqb (firstOf (a gives 1 ∷ b gives 2 ∷ [])) 0) (firstOf ts) (firstOf (a gives 1 ∷ b gives 2 ∷ []))
+first-lent true b ts = refl
+first-lent false true ts = refl
+first-lent false false ts = refl
+
+lent-passed : (a b : Bool) → _≡_ {A = ℕ} (firstOf (not a gives 1 ∷ not b gives 2 ∷ [])) 0 → (a ≡ true) × (b ≡ true)
+lent-passed true true h = (refl, refl)
+lent-passed true false h = absurd (let z : ⊥ = omega arith in z)
+lent-passed false b h = absurd (let z : ⊥ = omega arith in z)
+
+-- what holds of a pool and register that passed
+pub record Lent (st : State) : Type 0 where
+  pub size : length (st .pool) < 8192
+  pub right : lengthRight (st .pool) ≡ true
+  pub ranges : (poolInRange (st .pool) && registerInRange (nodes (st .pool)) (st .register)) ≡ true
+
+pub lent : (st : State) → lentNumber st ≡ 0 → Lent st
+lent st h =
+    let t = lent-passed (lengthRight (st .pool)) (poolInRange (st .pool) && registerInRange (nodes (st .pool)) (st .register)) h in
+    record { size = right-length (st .pool) (t .0); right = t .0; ranges = t .1 }
+
+-- a call that tests 1 or 2 refuses, and one that goes on to its other tests
+pub lent-refused : (st : State) (ts : List Test) → (lentNumber st ≡ 0 → ⊥) → firstOf (wrongLength st gives 1 ∷ outOfRange st gives 2 ∷ ts) ≡ lentNumber st
+lent-refused st ts d = first-lent (wrongLength st) (outOfRange st) ts ∙ rw (ne-eqb (lentNumber st) 0 d)
+
+pub lent-passes : (st : State) (ts : List Test) → lentNumber st ≡ 0 → firstOf (wrongLength st gives 1 ∷ outOfRange st gives 2 ∷ ts) ≡ firstOf ts
+lent-passes st ts e = first-lent (wrongLength st) (outOfRange st) ts ∙ rw (eq-eqb (lentNumber st) 0 e)
+
+passed-lent : (a b : Bool) (ts : List Test) → firstOf (a gives 1 ∷ b gives 2 ∷ ts) ≡ 0 → _≡_ {A = ℕ} (firstOf (a gives 1 ∷ b gives 2 ∷ [])) 0
+passed-lent true b ts h = absurd (let z : ⊥ = omega arith in z)
+passed-lent false true ts h = absurd (let z : ⊥ = omega arith in z)
+passed-lent false false ts h = refl
+
+-- a call that passed all its tests passed these
+pub lent-of : (st : State) (ts : List Test) → firstOf (wrongLength st gives 1 ∷ outOfRange st gives 2 ∷ ts) ≡ 0 → Lent st
+lent-of st ts h = lent st (passed-lent (wrongLength st) (outOfRange st) ts h)
+
+slot-passed : (a b c d : Bool) (k : ℕ) → (k ≡ 0 → ⊥) → firstOf (a gives 1 ∷ b gives 2 ∷ c gives 3 ∷ d gives k ∷ []) ≡ 0 → c ≡ false
+slot-passed true b c d k n h = absurd (let z : ⊥ = omega arith in z)
+slot-passed false true c d k n h = absurd (let z : ⊥ = omega arith in z)
+slot-passed false false true d k n h = absurd (let z : ⊥ = omega arith in z)
+slot-passed false false false d k n h = refl
+
+pub slot-of : (st : State) (s : ℕ) (d : Bool) (k : ℕ) → (k ≡ 0 → ⊥)
+    → firstOf (wrongLength st gives 1 ∷ outOfRange st gives 2 ∷ slotTooHigh s gives 3 ∷ d gives k ∷ []) ≡ 0 → s < 8
+slot-of st s d k n h = leb-false 8 s (slot-passed (wrongLength st) (outOfRange st) (slotTooHigh s) d k n h)
+
+-- a call's tests as one number
+pub unless-refused : (tests : List Test) (st : State) (o : Outcome) (k : ℕ) → firstOf tests ≡ k → (k ≡ 0 → ⊥) → unless tests st o ≡ outcome (refused k) st
+unless-refused tests st o k e d = rw (e, ne-eqb k 0 d)
+
+pub unless-done : (tests : List Test) (st : State) (o : Outcome) → firstOf tests ≡ 0 → unless tests st o ≡ o
+unless-done tests st o e = rw e

@@ -1,0 +1,45 @@
+// The search, and the paths that the writer's colour work goes by.
+use types::Link;
+use types::Place;
+use types::Side;
+ghost use mathlib.Core.Path.{_≡_};
+ghost use Prim.Native.Nat.{ℕ, _<_, _≤_, _+_, _*_};
+ghost use Rattle.types.specs.Side.{linkAt};
+ghost use Rattle.spec.specs.Pool.{child};
+ghost use Rattle.spec.specs.Search.{towards, seek};
+
+// the side of node n that a key lies on; a smaller key lies left
+pub fn towards(pool: &[u32], k: u32, n: u32) -> Side
+    ensures { λ r. ⌜ r ≡ towards (now (pool .entry)) k n ⌝ }
+{
+    if k < pool::word(pool, n, pool::KEY) {
+        Side::L
+    } else {
+        Side::R
+    }
+}
+
+// node n's child on that side
+pub fn child_towards(pool: &[u32], k: u32, n: u32) -> u32
+    ensures { λ r. ⌜ r ≡ child (now (pool .entry)) (towards (now (pool .entry)) k n) n ⌝ }
+{
+    pool::child(pool, towards(pool, k, n), n)
+}
+
+// The search for a key from node n, which the link l holds, with so many nodes still allowed.
+pub fn seek(pool: &[u32], k: u32, l: Link, n: u32, allowed: u32) -> Place
+    ensures { λ r. ⌜ r ≡ seek (now (pool .entry)) k allowed l n ⌝ }
+{
+    if n == 0 {
+        return Place::Empty(l);
+    }
+    if allowed == 0 {
+        return Place::TooDeep;
+    }
+    if k == pool::word(pool, n, pool::KEY) {
+        return Place::Held(l, n);
+    }
+    let s = towards(pool, k, n);
+    let next = pool::child(pool, s, n);
+    seek(pool, k, register::link_at(s, n), next, allowed - 1)
+}
