@@ -178,3 +178,21 @@ pub fn give_up(pool: &mut [u32], reg: Register, s: u32) -> Reply
         register,
     }
 }
+
+pub fn set_up(pool: &mut [u32], reg: Register) -> Reply
+    ensures { λ r. ⌜ accepts (r .answer) ≡ setUp (state (now (pool .entry)) reg) .answer ⌝ }
+    ensures { λ r. ⌜ state (now (pool .exit)) (r .register) ≡ setUp (state (now (pool .entry)) reg) .after ⌝ }
+{
+    if pool::length_right(pool) {} else {
+        return Reply {
+            answer: Acceptance::Refused(1),
+            register: reg,
+        };
+    }
+    let register = fresh::fresh_register(pool::nodes(pool));
+    fresh::fresh_pool(pool);
+    Reply {
+        answer: Acceptance::Accepted,
+        register,
+    }
+}

@@ -4,3 +4,4 @@ pub mod Queue
 pub mod Freed
 pub mod Tests
 pub mod Descend
+pub mod Fresh

@@ -6,7 +6,7 @@ use lib.Dec.{eqb, leb}
 use lib.ListN.{length}
 use borrow.Author.Tests.{leb-true, leb-false, eqb-true, eq-eqb, ne-eqb}
 use native.Mathlib.Omega.{arith}
-use Prim.Native.Nat.{ℕ, _<_, _≤_, _/_, _%_}
+use Prim.Native.Nat.{ℕ, _<_, _≤_, _*_, _/_, _%_}
 use Rattle.spec.specs.Pool.{nodes, lengthRight, poolInRange}
 use Rattle.spec.specs.Register.{State, registerInRange}
 use Rattle.spec.specs.Calls.{Test, _gives_, firstOf, Outcome, outcome, unless, refused, wrongLength, outOfRange, slotTooHigh}
@@ -87,3 +87,11 @@ unless-refused tests st o k e d = rw (e, ne-eqb k 0 d)
 
 pub unless-done : (tests : List Test) (st : State) (o : Outcome) → firstOf tests ≡ 0 → unless tests st o ≡ o
 unless-done tests st o e = rw e
+
+-- and its length is 8 × N
+pub whole-length : (p : List ℕ) → lengthRight p ≡ true → length p ≡ nodes p * 8
+unfolding lengthRight
+whole-length p h =
+    let a = eqb (length p % 8) 0 && leb 8 (nodes p) in
+    let whole = eqb-true (length p % 8) 0 (and-left (eqb (length p % 8) 0) (leb 8 (nodes p)) (and-left a (leb (nodes p) 1023) h)) in
+    omega arith
