@@ -1,0 +1,119 @@
+// The climbs of colour work along a path, and the colours of the levels that they pass.
+use types::Climb;
+use types::Ending;
+use types::Form;
+use types::Link;
+use types::Rotation;
+use types::Rule;
+use types::Side;
+ghost use mathlib.Core.Path.{_≡_};
+ghost use mathlib.Core.Bool.{cond};
+ghost use Prim.Native.Nat.{ℕ, _<_, _≤_, _+_};
+ghost use lib.ListN.{length};
+ghost use Rattle.types.specs.declared.Form.the-variants.{Diag, Zig};
+ghost use Rattle.types.specs.Side.{sameSide};
+ghost use Rattle.spec.specs.Pool.{paint, blackColour, redColour};
+ghost use Rattle.spec.specs.Plan.{rise, paintRise};
+ghost use Rattle.paths.specs.Upward.{linkOf, upward};
+ghost use Rattle.climbs.specs.Rises.{linkIn};
+
+// the i-th link of a path
+fn link_in(path: &[u64], i: u32) -> Link
+    requires { ⌜ i < length (now path) ⌝ }
+    ensures { λ r. ⌜ r ≡ linkIn (now (path .entry)) i ⌝ }
+{
+    let at = i as usize;
+    paths::link_of(path[at])
+}
+
+// a diag on the outer side, a zig on the inner one
+fn form_of(x: Side, y: Side) -> Form
+    ensures { λ r. ⌜ r ≡ cond (sameSide x y) Diag Zig ⌝ }
+{
+    match x {
+        Side::L => match y {
+            Side::L => Form::Diag,
+            Side::R => Form::Zig,
+        },
+        Side::R => match y {
+            Side::L => Form::Zig,
+            Side::R => Form::Diag,
+        },
+    }
+}
+
+// Insert's climb from the c-th link of a path, with m levels passed.
+pub fn rise(pool: &[u32], path: &[u64], c: u32, m: u32) -> Climb
+    requires { ⌜ (c ≤ length (now path)) × (m + c ≤ 100) ⌝ }
+    ensures { λ r. ⌜ r ≡ rise (now (pool .entry)) m (upward (now (path .entry)) c) ⌝ }
+{
+    if c == 0 {
+        return Climb {
+            levels: m,
+            ending: Ending::Missing,
+        };
+    }
+    if c == 1 {
+        return Climb {
+            levels: m,
+            ending: Ending::Calm,
+        };
+    }
+    let x = link_in(path, c - 1);
+    if pool::is_red(pool, register::owner(x)) {} else {
+        return Climb {
+            levels: m,
+            ending: Ending::Calm,
+        };
+    }
+    if c == 2 {
+        return Climb {
+            levels: m,
+            ending: Ending::Missing,
+        };
+    }
+    let y = link_in(path, c - 2);
+    let s = register::side_of(y);
+    let aunt = pool::child(pool, pool::other(s), register::owner(y));
+    if pool::is_red(pool, aunt) {
+        return rise(pool, path, c - 2, m + 1);
+    }
+    let link = link_in(path, c - 3);
+    let form = form_of(register::side_of(x), s);
+    Climb {
+        levels: m,
+        ending: Ending::Rotate(Rotation {
+            link,
+            form,
+            side: s,
+            rule: Rule::Grow,
+        }),
+    }
+}
+
+// the colours of one level: parent and aunt black, grandparent red
+fn paint_level(pool: &mut [u32], parent: u32, aunt: u32, grandparent: u32)
+    ensures { λ _. ⌜ now (pool .exit) ≡ paint (paint (paint (now (pool .entry)) parent blackColour) aunt blackColour) grandparent redColour ⌝ }
+{
+    pool::set_word(pool, parent, pool::COLOUR, pool::BLACK);
+    pool::set_word(pool, aunt, pool::COLOUR, pool::BLACK);
+    pool::set_word(pool, grandparent, pool::COLOUR, pool::RED);
+}
+
+// The colours of m levels from the c-th link of a path.
+pub fn paint_rise(pool: &mut [u32], path: &[u64], c: u32, m: u32)
+    requires { ⌜ c ≤ length (now path) ⌝ }
+    ensures { λ _. ⌜ now (pool .exit) ≡ paintRise m (upward (now (path .entry)) c) (now (pool .entry)) ⌝ }
+{
+    if m == 0 {
+        return;
+    }
+    if c < 2 {
+        return;
+    }
+    let x = link_in(path, c - 1);
+    let y = link_in(path, c - 2);
+    let aunt = pool::child(pool, pool::other(register::side_of(y)), register::owner(y));
+    paint_level(pool, register::owner(x), aunt, register::owner(y));
+    paint_rise(pool, path, c - 2, m - 1);
+}
