@@ -13,7 +13,7 @@ ghost use lib.ListN.{length};
 ghost use Rattle.types.specs.declared.Form.the-variants.{Diag, Zig};
 ghost use Rattle.types.specs.Side.{sameSide};
 ghost use Rattle.spec.specs.Pool.{paint, blackColour, redColour};
-ghost use Rattle.spec.specs.Plan.{rise, paintRise};
+ghost use Rattle.spec.specs.Plan.{rise, paintRise, redChild, borrow as borrowed, redSibling, sink, paintSink};
 ghost use Rattle.paths.specs.Upward.{linkOf, upward};
 ghost use Rattle.climbs.specs.Rises.{linkIn};
 
@@ -116,4 +116,118 @@ pub fn paint_rise(pool: &mut [u32], path: &[u64], c: u32, m: u32)
     let aunt = pool::child(pool, pool::other(register::side_of(y)), register::owner(y));
     paint_level(pool, register::owner(x), aunt, register::owner(y));
     paint_rise(pool, path, c - 2, m - 1);
+}
+
+// whether a child of w is red
+pub fn red_child(pool: &[u32], w: u32) -> bool
+    ensures { λ r. ⌜ r ≡ redChild (now (pool .entry)) w ⌝ }
+{
+    pool::is_red(pool, pool::child(pool, Side::L, w))
+        | pool::is_red(pool, pool::child(pool, Side::R, w))
+}
+
+fn form_if(outer: bool) -> Form
+    ensures { λ r. ⌜ r ≡ cond outer Diag Zig ⌝ }
+{
+    if outer { Form::Diag } else { Form::Zig }
+}
+
+// a black sibling w with a red child, on the side z under the link l
+fn borrow(pool: &[u32], l: Link, z: Side, w: u32) -> Rotation
+    ensures { λ r. ⌜ r ≡ borrowed (now (pool .entry)) l z w ⌝ }
+{
+    let form = form_if(pool::is_red(pool, pool::child(pool, z, w)));
+    Rotation {
+        link: l,
+        form,
+        side: z,
+        rule: Rule::Borrow,
+    }
+}
+
+// a red sibling w
+fn red_sibling(pool: &[u32], l: Link, z: Side, w: u32) -> Ending
+    ensures { λ r. ⌜ r ≡ redSibling (now (pool .entry)) l z w ⌝ }
+{
+    let s = pool::other(z);
+    let inner = pool::child(pool, s, w);
+    if inner == 0 {
+        return Ending::Missing;
+    }
+    let first = Rotation {
+        link: l,
+        form: Form::Diag,
+        side: z,
+        rule: Rule::Pass,
+    };
+    if red_child(pool, inner) {
+        let second = borrow(pool, register::link_at(s, w), z, inner);
+        return Ending::RotateTwice(first, second);
+    }
+    Ending::Rotate(first)
+}
+
+// Delete's climb from the c-th link of a path, where x came, with m levels passed.
+pub fn sink(pool: &[u32], path: &[u64], c: u32, m: u32, x: u32) -> Climb
+    requires { ⌜ (c ≤ length (now path)) × (m + c ≤ 100) ⌝ }
+    ensures { λ r. ⌜ r ≡ sink (now (pool .entry)) m x (upward (now (path .entry)) c) ⌝ }
+{
+    if pool::is_red(pool, x) {
+        return Climb {
+            levels: m,
+            ending: Ending::Blacken,
+        };
+    }
+    if c == 0 {
+        return Climb {
+            levels: m,
+            ending: Ending::Missing,
+        };
+    }
+    if c == 1 {
+        return Climb {
+            levels: m,
+            ending: Ending::Calm,
+        };
+    }
+    let l = link_in(path, c - 1);
+    let z = pool::other(register::side_of(l));
+    let parent = register::owner(l);
+    let w = pool::child(pool, z, parent);
+    if w == 0 {
+        return Climb {
+            levels: m,
+            ending: Ending::Missing,
+        };
+    }
+    let above = link_in(path, c - 2);
+    if pool::is_red(pool, w) {
+        let ending = red_sibling(pool, above, z, w);
+        return Climb { levels: m, ending };
+    }
+    if red_child(pool, w) {
+        let rotation = borrow(pool, above, z, w);
+        return Climb {
+            levels: m,
+            ending: Ending::Rotate(rotation),
+        };
+    }
+    sink(pool, path, c - 1, m + 1, parent)
+}
+
+// The colours of m levels from the c-th link of a path: each sibling red.
+pub fn paint_sink(pool: &mut [u32], path: &[u64], c: u32, m: u32)
+    requires { ⌜ c ≤ length (now path) ⌝ }
+    ensures { λ _. ⌜ now (pool .exit) ≡ paintSink m (upward (now (path .entry)) c) (now (pool .entry)) ⌝ }
+{
+    if m == 0 {
+        return;
+    }
+    if c == 0 {
+        return;
+    }
+    let l = link_in(path, c - 1);
+    let w = pool::child(pool, pool::other(register::side_of(l)), register::owner(l));
+    pool::set_word(pool, w, pool::COLOUR, pool::RED);
+    paint_sink(pool, path, c - 1, m - 1);
 }
