@@ -1,0 +1,92 @@
+-- A write in hand filled store by store, and how many stores a climb's ending plans.
+use mathlib.Core.Path.{_≡_, refl, sym, ap, _∙_}
+use mathlib.Core.List.{List, [], _∷_, _++_, append-assoc}
+use mathlib.Core.Bool.{Bool, true, false, cond}
+use lib.ListN.{length, set, take, replicate, length-append}
+use lib.Seq.{take-set-lt, set-append-seam, take-append-le}
+use native.Mathlib.Omega.{arith}
+use Prim.Native.Nat.{ℕ, zero, suc, _+_, _<_, _≤_}
+use Rattle.types.specs.declared.Link.{Link}
+use Rattle.types.specs.declared.Link.the-variants.{Root}
+use Rattle.types.specs.declared.Form.{Form}
+use Rattle.types.specs.declared.Form.the-variants.{Diag, Zig}
+use Rattle.types.specs.declared.Store.{Store}
+use Rattle.types.specs.declared.Write.{Write}
+use Rattle.types.specs.declared.Climb.{Climb}
+use Rattle.types.specs.declared.Rule.the-variants.{Grow}
+use Rattle.types.specs.declared.Ending.{Ending}
+use Rattle.types.specs.declared.Ending.the-variants.{Calm, Rotate, Missing}
+use Rattle.types.specs.declared.Rotation.{Rotation}
+use Rattle.types.specs.Side.{other, sameSide, owner, sideOf}
+use Rattle.base.specs.Walk.{cond-both}
+use Rattle.spec.specs.Pool.{child, isRed}
+use Rattle.spec.specs.Register.{State, vacant, mostStores, writeOf}
+use Rattle.spec.specs.Search.{pathTo}
+use Rattle.spec.specs.Plan.{climb, rotationStores, turnStores, endingStores, rotation, rise, insertClimb}
+
+abbrev pub pushed : Write → Store → Write
+pushed w x = record { stores = set (w .stores) (w .count) x; count = w .count + 1 }
+
+abbrev pub pushAll : Write → List Store → Write
+pushAll w [] = w
+pushAll w (x ∷ xs) = pushAll (pushed w x) xs
+
+pub push-append : (w : Write) (a b : List Store) → pushAll w (a ++ b) ≡ pushAll (pushAll w a) b
+push-append w [] b = refl
+push-append w (x ∷ a) b = push-append (pushed w x) a b
+
+six : List Store
+six = replicate 6 vacant
+
+push-one : (a : List Store) (x : Store) → length a < mostStores → pushed (writeOf a) x ≡ writeOf (a ++ x ∷ [])
+unfolding writeOf six
+push-one a x h =
+    let e : set (take 7 (a ++ vacant ∷ six)) (length a) x ≡ take 7 ((a ++ x ∷ []) ++ replicate 7 vacant) =
+    sym (take-set-lt 7 (a ++ vacant ∷ six) (length a) x h)
+    ∙ (ap (take 7) (set-append-seam a vacant six x)
+    ∙ (sym (take-append-le 7 (a ++ x ∷ six) (vacant ∷ []) (rw length-append (omega arith)))
+    ∙ ap (take 7) (append-assoc a (x ∷ six) (vacant ∷ []) ∙ sym (append-assoc a (x ∷ []) (replicate 7 vacant))))) in
+    let n : length a + 1 ≡ length (a ++ x ∷ []) = sym (length-append a (x ∷ [])) in
+    λ i. record { stores = e i; count = n i }
+
+pub push-write : (a b : List Store) → length a + length b ≤ mostStores → pushAll (writeOf a) b ≡ writeOf (a ++ b)
+push-write a [] h = ap writeOf (sym (end a))
+  where
+    end : (a : List Store) → a ++ [] ≡ a
+    end [] = refl
+    end (x ∷ a) = ap (x ∷_) (end a)
+push-write a (x ∷ b) h =
+    ap (λ (w : Write). pushAll w b) (push-one a x (omega arith))
+    ∙ (push-write (a ++ x ∷ []) b (rw length-append (omega arith)) ∙ ap writeOf (append-assoc a (x ∷ []) b))
+
+-- one rotation plans at most three stores
+pub rotation-short : (t : Rotation) → length (rotationStores t) ≤ 3
+rotation-short t = by (t .form)
+  where
+    by : (f : Form) → length (turnStores f (t .link) (t .side) (t .rule)) ≤ 3
+    by Diag = omega arith
+    by Zig = omega arith
+
+abbrev pub Short : ℕ → Climb → Type 0
+Short n c = length (endingStores (c .ending)) ≤ n
+
+pub rise-short : (p : List ℕ) (m : ℕ) (path : List Link) → Short 3 (rise p m path)
+unfolding rise
+rise-short p m [] = omega arith
+rise-short p m (x ∷ []) = omega arith
+rise-short p m (x ∷ y ∷ []) = cond-both (λ (e : Ending). length (endingStores e) ≤ 3) (isRed p (owner x)) (omega arith) (omega arith)
+rise-short p m (x ∷ y ∷ z ∷ up) =
+    let s = sideOf y in
+    let form = cond (sameSide (sideOf x) s) Diag Zig in
+    cond-both (Short 3) (isRed p (owner x))
+    (cond-both (Short 3) (isRed p (child p (other s) (owner y))) (rise-short p (m + 1) (z ∷ up)) (rotation-short (rotation z form s Grow)))
+    (omega arith)
+
+pub insert-short : (st : State) (k : ℕ) (l : Link) → Short 3 (insertClimb st k l)
+unfolding insertClimb
+insert-short st k l =
+    cond-both (Short 3) (isRed (st .pool) (owner l)) (rise-short (st .pool) 0 (pathTo (st .pool) (st .register .root) k l)) (omega arith)
+
+pub push-count : (w : Write) (l : List Store) → pushAll w l .count ≡ w .count + length l
+push-count w [] = omega arith
+push-count w (x ∷ l) = push-count (pushed w x) l ∙ omega arith
