@@ -1,0 +1,146 @@
+-- Acceptance of a write at rest: the search finds the key's place, the plan is possible (no 12), and the accepted write is in hand. The fresh
+-- index is at rest with the empty tree.
+use Prim.Native.Nat.{ℕ, zero, suc, _+_, _*_, _≤_}
+use mathlib.Core.Path.{_≡_, refl, sym, _∙_}
+use mathlib.Core.Bool.{Bool, true, false}
+use mathlib.Core.List.{List, [], _∷_, _++_}
+use mathlib.Core.Option.{Option, none, some}
+use lib.ListN.{length}
+use native.Mathlib.Omega.{arith}
+use Rattle.types.specs.declared.Side.{Side}
+use Rattle.types.specs.declared.Side.the-variants.{R}
+use Rattle.types.specs.declared.Link.{Link}
+use Rattle.types.specs.declared.Form.{Form}
+use Rattle.types.specs.declared.Form.the-variants.{Diag, Zig}
+use Rattle.types.specs.declared.Rule.{Rule}
+use Rattle.types.specs.declared.Rule.the-variants.{Borrow}
+use Rattle.types.specs.declared.Place.{Place}
+use Rattle.types.specs.declared.Store.{Store}
+use Rattle.types.specs.Side.{other, linkAt}
+use Rattle.spec.specs.Pool.{freshNodes, freshPool}
+use Rattle.spec.specs.Register.{State, mostStores, writeOf, freshRegister, fresh}
+use Rattle.spec.specs.Plan.{Plan, turnStores, endingStores}
+use Rattle.spec.specs.Calls.{accepted, placeOf, insertAt, deleteAt, isHeld, tooDeep}
+use Rattle.sequential.specs.Tree.{Colour, red, black, Tree, colourOf}
+use Rattle.sequential.specs.Insert as SeqInsert
+use Rattle.sequential.specs.Delete as SeqDelete
+use Rattle.tree.specs.Changes.{proper-leaf}
+use Rattle.tree.specs.Linked.{copy, Linked, nil, find}
+use Rattle.tree.specs.Zipper.{Frame, hole}
+use Rattle.tree.specs.Erase.{erase, eraseWay}
+use Rattle.tree.specs.Rise as Rise
+use Rattle.tree.specs.Rise.{RiseEnd, calm, rotate, rootRed}
+use Rattle.tree.specs.Sink.{noLoan, loan, SinkEnd, darken, borrowed, passed}
+use Rattle.heap.specs.Sites.{linkTo}
+use Rattle.heap.specs.Colours.{colours}
+use Rattle.heap.specs.Climbs.{formOf, numOf, pairsUp, riseEnding, framesUp, tip, sinkEnding}
+use Rattle.heap.specs.SinkRun.{sinkOf}
+use Rattle.heap.specs.Phase.{Follow, byGrow, byBorrow, byPass, followStores, lossEnding, standIn, Phases, at-rest, diag-0, diag-1, zig-0, zig-1, zig-2, insert-0, unlink-0, adopt-0, replace-0, publish-0, detach-0}
+use Rattle.heap.specs.Plans.{Rest, Placed, empty-at, held-at, placed, Planned, insert-planned}
+use Rattle.heap.specs.DeletePlans.{delete-planned}
+use Rattle.heap.specs.Writes.{InHand, with-root, with-write}
+
+-- The stores to come are at most seven.
+turn-room : (f : Form) (l : Link) (s : Side) (c : Rule) → length (turnStores f l s c) ≤ 3
+turn-room Diag l s c = omega arith
+turn-room Zig l s c = omega arith
+
+grow-room : (e : RiseEnd) (fs : List Frame) → length (endingStores (riseEnding e fs)) ≤ 3
+grow-room calm fs = omega arith
+grow-room (rotate b z) fs = turn-room (formOf b) _ _ _
+grow-room rootRed fs = omega arith
+
+loss-room : (e : SinkEnd) (c : Colour) (fs : List Frame) → length (endingStores (sinkEnding e c fs)) ≤ 5
+loss-room darken red fs = omega arith
+loss-room darken black fs = omega arith
+loss-room (borrowed b) c [] = omega arith
+loss-room (borrowed b) c (hole s N y ∷ fs) = let a = turn-room (formOf b) (linkTo fs) (other s) Borrow in omega arith
+loss-room (passed o) c [] = omega arith
+loss-room (passed noLoan) c (hole s N y ∷ fs) = omega arith
+loss-room (passed (loan b)) c (hole s N y ∷ fs) = let a = turn-room (formOf b) (linkAt s (numOf y)) (other s) Borrow in omega arith
+
+follow-room : (w : Follow) (s : Side) (b : ℕ) → length (followStores w s b) ≤ 3
+follow-room byGrow s b = omega arith
+follow-room byBorrow s b = omega arith
+follow-room (byPass noLoan) s b = omega arith
+follow-room (byPass (loan o)) s b = turn-room (formOf o) _ _ _
+
+lost-room : (d : Colour) (f : ℕ → Colour) (c : Colour) (fs : List Frame) → length (endingStores (lossEnding d f c fs)) ≤ 5
+lost-room red f c fs = omega arith
+lost-room black f c fs = loss-room (sinkOf f c fs .end) (tip f c (sinkOf f c fs .levels) fs) (framesUp (sinkOf f c fs .levels) fs)
+
+pub phase-room : {p : List ℕ} {root : ℕ} {f : ℕ → Colour} {G : Tree} {T : Linked} {l : List Store} → Phases p root f G T l → length l ≤ mostStores
+phase-room (at-rest T h s e) = omega arith
+phase-room (diag-0 w fs s B C o x r h i g n e) = let a = follow-room w s (B .num) in omega arith
+phase-room (diag-1 w fs s B C n o x r h i z c g d e) = let a = follow-room w s (B .num) in omega arith
+phase-room (zig-0 w fs s A B C b x y r h i g e) = omega arith
+phase-room (zig-1 w fs s A B C m b x y r h i z c g e) = omega arith
+phase-room (zig-2 w fs s A B C m n b x y r h i z u d c k g e) = omega arith
+phase-room {f = f} (insert-0 k v fs h s i e) = let a = grow-room (Rise.rise (eraseWay f fs) .end) (pairsUp (Rise.rise (eraseWay f fs) .levels) fs) in omega arith
+phase-room {f = f} (unlink-0 fs s B x h i g e) = let a = lost-room (f (B .num)) f (colourOf (erase f x)) fs in omega arith
+phase-room {f = f} (adopt-0 fs B C l y h i g d e) = let a = lost-room (f (C .num)) f (colourOf (erase f y)) (hole R (standIn B C) l ∷ fs) in omega arith
+phase-room {f = f} (replace-0 fs B C l y h i g d e) = let a = lost-room (f (C .num)) f (colourOf (erase f y)) (hole R (standIn B C) l ∷ fs) in omega arith
+phase-room {f = f} (publish-0 fs gs B C l y al h i g d e) = let a = lost-room (f (C .num)) f (colourOf (erase f y)) (gs ++ (hole R (standIn B C) l ∷ fs)) in omega arith
+phase-room {f = f} (detach-0 fs gs B C n l y al sh h t i k z c g e) = let a = lost-room (f (C .num)) f (colourOf (erase f y)) (gs ++ (hole R (copy C n) l ∷ fs)) in omega arith
+
+-- an accepted write is in hand
+pub accepted-in-hand : (st : State) (G : Tree) (T : Linked) (w : Plan) → Rest st T → Planned st G T w → InHand (accepted st w .after) G T (w .stores)
+accepted-in-hand st G T w h i = record {
+  phase = rw (with-root (st .register) (writeOf (w .stores))) (i .phase);
+  write = with-write (st .register) (writeOf (w .stores));
+  room = phase-room (i .phase);
+  small = h .small;
+}
+
+-- What insert and delete test of the search and of the plan.
+pub record Searched (st : State) (k : ℕ) (held : Bool) : Type 0 where
+  pub not-deep : tooDeep (placeOf st k) ≡ false
+  pub is-held : isHeld (placeOf st k) ≡ held
+
+abbrev pub heldOf : Option ℕ → Bool
+heldOf none = false
+heldOf (some v) = true
+
+pub searched : (st : State) (T : Linked) (k : ℕ) → Rest st T → Searched st k (heldOf (find T k))
+searched st T k h = record { not-deep = deep (placed st T k h); is-held = held (placed st T k h) }
+  where
+    deep : {x : Place} → Placed T k x → tooDeep x ≡ false
+    deep (empty-at fs e i n) = refl
+    deep (held-at fs N l r e i q n) = refl
+
+    held : {x : Place} → Placed T k x → isHeld x ≡ heldOf (find T k)
+    held (empty-at fs e i n) = rw n
+    held (held-at fs N l r e i q n) = rw n
+
+-- a key that is not held: insert's plan
+pub insert-possible : (st : State) (T : Linked) (k v : ℕ) → Rest st T → find T k ≡ none
+    → Planned st (SeqInsert.insert (erase (colours (st .pool)) T) k v) T (insertAt st k v (placeOf st k))
+insert-possible st T k v h n = go (placed st T k h)
+  where
+    go : {x : Place} → Placed T k x → Planned st (SeqInsert.insert (erase (colours (st .pool)) T) k v) T (insertAt st k v x)
+    go (empty-at fs e i q) = rw (sym e) (insert-planned st k v fs (rw e h) i)
+    go (held-at fs N l r e i q m) = let z : _≡_ {A = Option ℕ} none (some (N .val)) = sym n ∙ m in let y : _≡_ {A = ℕ} 0 1 = cc in absurd (omega arith)
+
+-- a key that is held: delete's plan
+pub delete-possible : (st : State) (T : Linked) (k v : ℕ) → Rest st T → find T k ≡ some v
+    → Planned st (SeqDelete.delete (erase (colours (st .pool)) T) k) T (deleteAt st (placeOf st k))
+delete-possible st T k v h n = go (placed st T k h)
+  where
+    go : {x : Place} → Placed T k x → Planned st (SeqDelete.delete (erase (colours (st .pool)) T) k) T (deleteAt st x)
+    go (held-at fs N l r e i q m) = rw (sym e, q) (delete-planned st fs N l r (rw e h))
+    go (empty-at fs e i q) = let z : _≡_ {A = Option ℕ} none (some v) = sym q ∙ n in let y : _≡_ {A = ℕ} 0 1 = cc in absurd (omega arith)
+
+-- The fresh index.
+fresh-length : (k n : ℕ) → length (freshNodes k n) ≡ k * 8
+unfolding freshNodes
+fresh-length zero n = refl
+fresh-length (suc zero) n = refl
+fresh-length (suc (suc k)) n = let a = fresh-length (suc k) (n + 1) in omega arith
+
+pub fresh-rest : (top : ℕ) → top ≤ 1023 → Rest (fresh top) nil
+unfolding fresh freshRegister freshPool
+fresh-rest top h = record {
+  rep = refl;
+  sound = record { once = λ i. omega arith; proper = proper-leaf };
+  small = let a = fresh-length top 1 in omega arith;
+}

@@ -1,0 +1,200 @@
+-- The writer's climbs over the pool are the climbs of the sequential tree: `rise` is the tree's rise, `sink` the tree's sink, on the way
+-- erased with the pool's colours, and a rotation that they end with is named by the link of the way at its top. In a red-black tree
+-- (`Rises`, `Sinks`) no node is missing.
+use Prim.Native.Nat.{ℕ, zero, suc, _+_, _≤_}
+use mathlib.Core.Path.{_≡_, refl, _∙_}
+use mathlib.Core.Logic.{_≢_}
+use mathlib.Core.Bool.{Bool, true, false, cond, _||_}
+use mathlib.Core.List.{List, [], _∷_}
+use lib.ListN.{length}
+use native.Mathlib.Omega.{arith}
+use native.Mathlib.Nat.{add-zero}
+use Rattle.types.specs.declared.Side.{Side}
+use Rattle.types.specs.declared.Side.the-variants.{L, R}
+use Rattle.types.specs.declared.Link.{Link}
+use Rattle.types.specs.declared.Form.{Form}
+use Rattle.types.specs.declared.Form.the-variants.{Diag, Zig}
+use Rattle.types.specs.declared.Rule.the-variants.{Grow, Pass, Borrow}
+use Rattle.types.specs.declared.Ending.{Ending}
+use Rattle.types.specs.declared.Ending.the-variants.{Calm, Blacken, Rotate, RotateTwice, Missing}
+use Rattle.types.specs.Side.{other, sameSide, linkAt, owner, sideOf}
+use Rattle.spec.specs.Pool.{child, isRed}
+use Rattle.spec.specs.Plan.{climb, rotation, rise, redChild, borrow}
+use Rattle.laws.specs.Words.{Node as Within, word-none}
+use Rattle.sequential.specs.Tree as Seq
+use Rattle.sequential.specs.Tree.{Colour, red, black, colourOf}
+use Rattle.tree.specs.Sorted.{NotLeaf, colour-case}
+use Rattle.tree.specs.Linked.{Node, Linked, nil, cell}
+use Rattle.tree.specs.Zipper.{Frame, hole}
+use Rattle.tree.specs.Erase.{erase, eraseWay}
+use Rattle.tree.specs.Rise as Rise
+use Rattle.tree.specs.Rise.{RiseEnd, calm, rotate, rootRed}
+use Rattle.tree.specs.Sink.{Loan, noLoan, loan, SinkEnd, darken, borrowed, passed, loanOf}
+use Rattle.heap.specs.Rep.{Rep, Alike, rep-alike}
+use Rattle.heap.specs.Sites.{linkTo, links, Way}
+use Rattle.heap.specs.Colours.{redly, colours, red-is, red-tree}
+
+pub owner-at : (s : Side) (n : ℕ) → owner (linkAt s n) ≡ n
+owner-at L n = refl
+owner-at R n = refl
+
+pub side-at : (s : Side) (n : ℕ) → sideOf (linkAt s n) ≡ s
+side-at L n = refl
+side-at R n = refl
+
+-- What a climb reads of a way: its nodes and the subtrees beside it. Keys and records do not matter.
+abbrev pub Sides : List ℕ → List Frame → Type 0
+Sides p [] = Unit {0}
+Sides p (hole s N y ∷ fs) = Within p (N .num) × Rep p (child p (other s) (N .num)) y × Sides p fs
+
+pub way-sides : (p : List ℕ) (root : ℕ) (fs : List Frame) → Way p root fs → Sides p fs
+way-sides p root [] w = tt
+way-sides p root (hole s N y ∷ fs) w = (w .0 .within, w .1, way-sides p root fs (w .2))
+
+pub sides-alike : {p q : List ℕ} → Alike 4 p q → (fs : List Frame) → Sides p fs → Sides q fs
+sides-alike a [] w = tt
+sides-alike {p} {q} a (hole s N y ∷ fs) w =
+    let e : child q (other s) (N .num) ≡ child p (other s) (N .num) = kept s in
+    (record { low = w .0 .low; high = rw (a .size) (w .0 .high) }, rw e (rep-alike a y _ (w .1)), sides-alike a fs (w .2))
+  where
+    kept : (s : Side) → child q (other s) (N .num) ≡ child p (other s) (N .num)
+    kept L = a .words (N .num) 3 (omega arith)
+    kept R = a .words (N .num) 2 (omega arith)
+
+-- Insert's climb.
+abbrev pub pairsUp : ℕ → List Frame → List Frame
+pairsUp zero fs = fs
+pairsUp (suc m) [] = []
+pairsUp (suc m) (f ∷ []) = f ∷ []
+pairsUp (suc m) (f ∷ g ∷ fs) = pairsUp m fs
+
+abbrev pub twoUp : List Frame → List Frame
+twoUp [] = []
+twoUp (f ∷ []) = []
+twoUp (f ∷ g ∷ fs) = fs
+
+abbrev pub formOf : Bool → Form
+formOf true = Diag
+formOf false = Zig
+
+abbrev pub riseEnding : RiseEnd → List Frame → Ending
+riseEnding calm fs = Calm
+riseEnding rootRed fs = Missing
+riseEnding (rotate b z) fs = Rotate (rotation (linkTo (twoUp fs)) (formOf b) z Grow)
+
+form-cond : (b : Bool) → cond b Diag Zig ≡ formOf b
+form-cond true = refl
+form-cond false = refl
+
+pub rise-links : (p : List ℕ) (m : ℕ) (fs : List Frame) → Sides p fs
+    → rise p m (links fs) ≡ climb (m + Rise.rise (eraseWay (colours p) fs) .levels) (riseEnding (Rise.rise (eraseWay (colours p) fs) .end) (pairsUp (Rise.rise (eraseWay (colours p) fs) .levels) fs))
+unfolding rise
+rise-links p m [] w = rw (add-zero m)
+rise-links p m (hole s N y ∷ []) w =
+    colour-case (colours p (N .num))
+    (λ e. rw (owner-at s (N .num), red-is p (N .num), e, add-zero m))
+    (λ e. rw (owner-at s (N .num), red-is p (N .num), e, add-zero m))
+rise-links p m (hole s N y ∷ hole z G a ∷ fs) w =
+    let t = red-tree p (child p (other z) (G .num)) a (w .2 .1) in
+    let i = rise-links p (m + 1) fs (w .2 .2) in
+    let r = Rise.rise (eraseWay (colours p) fs) .levels in
+    let more : m + 1 + r ≡ m + suc r = omega arith in
+    colour-case (colours p (N .num))
+    (λ e. colour-case (colourOf (erase (colours p) a))
+    (λ d. rw (owner-at s (N .num), owner-at z (G .num), side-at s (N .num), side-at z (G .num), red-is p (N .num), e, t, d) (i ∙ rw more))
+    (λ d. rw (owner-at s (N .num), owner-at z (G .num), side-at s (N .num), side-at z (G .num), red-is p (N .num), e, t, d, form-cond (sameSide s z), add-zero m)))
+    (λ e. rw (owner-at s (N .num), red-is p (N .num), e, add-zero m))
+
+-- each level is two frames of the way
+pub rise-room : (f : ℕ → Colour) (fs : List Frame) → Rise.rise (eraseWay f fs) .levels + Rise.rise (eraseWay f fs) .levels ≤ length fs
+rise-room f [] = omega arith
+rise-room f (hole s N y ∷ []) = colour-case (f (N .num)) (λ e. rw e (omega arith)) (λ e. rw e (omega arith))
+rise-room f (hole s N y ∷ hole z G a ∷ fs) =
+    let i = rise-room f fs in
+    colour-case (f (N .num))
+    (λ e. colour-case (colourOf (erase f a)) (λ d. rw (e, d) (omega arith)) (λ d. rw (e, d) (omega arith)))
+    (λ e. rw e (omega arith))
+
+-- Delete's climb: the colours of a sibling's children.
+abbrev pub childOf : Side → Linked → Linked
+childOf s nil = nil
+childOf L (cell N l r) = l
+childOf R (cell N l r) = r
+
+pub rep-child : (p : List ℕ) (s : Side) (w : ℕ) (y : Linked) → Rep p w y → Rep p (child p s w) (childOf s y)
+rep-child p L w nil h = rw h (word-none p 2)
+rep-child p R w nil h = rw h (word-none p 3)
+rep-child p L w (cell N l r) h = let i = h .0 .is in rw i (h .1)
+rep-child p R w (cell N l r) h = let i = h .0 .is in rw i (h .2)
+
+pub erase-child : (f : ℕ → Colour) (s : Side) (y : Linked) → erase f (childOf s y) ≡ Seq.child s (erase f y)
+erase-child f L nil = refl
+erase-child f R nil = refl
+erase-child f L (cell N l r) = refl
+erase-child f R (cell N l r) = refl
+
+pub red-side : (p : List ℕ) (s : Side) (w : ℕ) (y : Linked) → Rep p w y → isRed p (child p s w) ≡ redly (colourOf (Seq.child s (erase (colours p) y)))
+red-side p s w y h = red-tree p (child p s w) (childOf s y) (rep-child p s w y h) ∙ rw (erase-child (colours p) s y)
+
+pub there-tree : (f : ℕ → Colour) (p : List ℕ) (w : ℕ) (y : Linked) → Rep p w y → NotLeaf (erase f y) → w ≢ 0
+there-tree f p w nil h n = absurd n
+there-tree f p w (cell N l r) h n = let i = h .0 .is in let l = h .0 .within .low in omega arith
+
+or-sides : (s : Side) (h : Side → Bool) → (h L || h R) ≡ (h (other s) || h s)
+or-sides R h = refl
+or-sides L h = swap (h L) (h R)
+  where
+    swap : (a b : Bool) → (a || b) ≡ (b || a)
+    swap true true = refl
+    swap true false = refl
+    swap false true = refl
+    swap false false = refl
+
+-- a sibling's loan, as the plan tests it and as the tree does
+pub loan-cases {ℓ} : {A : Type ℓ} (p : List ℕ) (s : Side) (w : ℕ) (y : Linked) → Rep p w y
+    → ((b : Bool) → loanOf s (erase (colours p) y) ≡ loan b → redChild p w ≡ true → ((l : Link) → borrow p l (other s) w ≡ rotation l (formOf b) (other s) Borrow) → A)
+    → (loanOf s (erase (colours p) y) ≡ noLoan → redChild p w ≡ false → A) → A
+loan-cases p s w y h f g =
+    let out = red-side p (other s) w y h in
+    let inn = red-side p s w y h in
+    let either = or-sides s (λ z. isRed p (child p z w)) in
+    colour-case (colourOf (Seq.child (other s) (erase (colours p) y)))
+    (λ e. f true (rw e) (either ∙ rw (out, e)) (λ l. rw (out, e)))
+    (λ e. colour-case (colourOf (Seq.child s (erase (colours p) y)))
+    (λ d. f false (rw (e, d)) (either ∙ rw (out, inn, e, d)) (λ l. rw (out, e)))
+    (λ d. g (rw (e, d)) (either ∙ rw (out, inn, e, d))))
+
+-- where the sink ends: the way above the levels, and the colour of the node that it ends at
+abbrev pub framesUp : ℕ → List Frame → List Frame
+framesUp zero fs = fs
+framesUp (suc m) [] = []
+framesUp (suc m) (f ∷ fs) = framesUp m fs
+
+abbrev pub tip : (ℕ → Colour) → Colour → ℕ → List Frame → Colour
+tip f c zero fs = c
+tip f c (suc m) [] = c
+tip f c (suc m) (hole s N y ∷ fs) = tip f (f (N .num)) m fs
+
+abbrev pub numOf : Linked → ℕ
+numOf nil = 0
+numOf (cell N l r) = N .num
+
+abbrev pub loanEnding : Loan → Link → Side → ℕ → Ending
+loanEnding noLoan l s w = Rotate (rotation l Diag (other s) Pass)
+loanEnding (loan b) l s w = RotateTwice (rotation l Diag (other s) Pass) (rotation (linkAt s w) (formOf b) (other s) Borrow)
+
+abbrev pub sinkEnding : SinkEnd → Colour → List Frame → Ending
+sinkEnding darken c fs = cond (redly c) Blacken Calm
+sinkEnding (borrowed b) c [] = Missing
+sinkEnding (borrowed b) c (hole s N y ∷ fs) = Rotate (rotation (linkTo fs) (formOf b) (other s) Borrow)
+sinkEnding (passed o) c [] = Missing
+sinkEnding (passed o) c (hole s N y ∷ fs) = loanEnding o (linkTo fs) s (numOf y)
+
+-- what holds there
+pub data Stop (f : ℕ → Colour) : Colour → List Frame → SinkEnd → Type 0 where
+  stop-root : {c : Colour} → Stop f c [] darken
+  stop-red : {h : Frame} {fs : List Frame} → Stop f red (h ∷ fs) darken
+  stop-turn : {s : Side} {N : Node} {y : Linked} {fs : List Frame} {b : Bool} → NotLeaf (erase f y) → colourOf (erase f y) ≡ black → loanOf s (erase f y) ≡ loan b
+      → Stop f black (hole s N y ∷ fs) (borrowed b)
+  stop-pass : {s : Side} {N : Node} {y : Linked} {fs : List Frame} {o : Loan} → f (N .num) ≡ black → colourOf (erase f y) ≡ red → NotLeaf (Seq.child s (erase f y))
+      → colourOf (Seq.child s (erase f y)) ≡ black → loanOf s (Seq.child s (erase f y)) ≡ o → Stop f black (hole s N y ∷ fs) (passed o)

@@ -1,0 +1,285 @@
+-- The last store of a diag, for each rule: the tree at its place, and the coloured tree afterwards is the sequential rotation's.
+use Prim.Native.Nat.{ℕ, _+_, _<_, _≤_}
+use mathlib.Core.Path.{_≡_, refl, sym, ap, _∙_}
+use mathlib.Core.Bool.{Bool, true}
+use mathlib.Core.List.{List, _∷_}
+use lib.ListN.{length}
+use native.Mathlib.Omega.{arith}
+use Rattle.types.specs.declared.Side.{Side}
+use Rattle.types.specs.declared.Rule.{Rule}
+use Rattle.types.specs.declared.Rule.the-variants.{Grow, Pass, Borrow}
+use Rattle.types.specs.declared.Step.the-variants.{DiagRaise}
+use Rattle.types.specs.Side.{other}
+use Rattle.spec.specs.Pool.{child, paint, blackColour, redColour}
+use Rattle.spec.specs.Register.{State, setLink}
+use Rattle.spec.specs.Free.{retire}
+use Rattle.spec.specs.Turn.{made, painted, blackRoot, risenColour, colourOf, endDiag, diagRaise, endDiagFinds, stepFinds}
+use Rattle.laws.specs.Words.{Node as Within}
+use Rattle.sequential.specs.Tree as Seq
+use Rattle.sequential.specs.Tree.{Colour, red, black, Tree, mk}
+use Rattle.sequential.specs.Delete.{blackOuter}
+use Rattle.tree.specs.Sorted.{NotLeaf}
+use Rattle.tree.specs.Sink.{noLoan, loan, loanOf}
+use Rattle.tree.specs.Linked.{Node, copy, Linked, at, nodes}
+use Rattle.tree.specs.Zipper.{Frame, hole, plug}
+use Rattle.tree.specs.Erase.{erase, eraseWay, erase-at, erase-plug, erase-agree}
+use Rattle.tree.specs.Ends.{Stays, diag-end, diag-end-outer}
+use Rattle.tree.specs.Occurs.{one, one-same, one-other, occ, occ-at, in-occ, occWay}
+use Rattle.tree.specs.Rotations.{diag₁, diag₂}
+use Rattle.heap.specs.Rep.{Rep}
+use Rattle.heap.specs.Sites.{linkTo, Clear, site-store}
+use Rattle.heap.specs.Colours.{hue, colours, colours-is, colours-alike, colours-link, paint-alike, paint-other, paint-same, erase-occ, way-occ, erase-paint, erase-top}
+use Rattle.heap.specs.Fill.{Quiet, retire-quiet}
+use Rattle.heap.specs.Climbs.{there-tree}
+use Rattle.heap.specs.SinkRun.{loan-none, loan-some}
+use Rattle.heap.specs.Paints.{top-outside}
+use Rattle.heap.specs.Moves.{At, Once, new-apart, one-swap, apart-one, Fields, fields-queued, fields-trans, link-fields, link-held, link-size, at-quiet, quiet-erase, at-painted, black-root, clear-of}
+use Rattle.heap.specs.Lowers.{is-node, Top, top-of, far-down, near-down, below-is, diag-count}
+
+-- what a raising store leaves, but for the colours
+pub record Raised (st after : State) (fs : List Frame) (u : Linked) : Type 0 where
+  pub site : At after fs u
+  pub size : length (after .pool) ≡ length (st .pool)
+  pub fields : Fields (st .register) (after .register)
+  pub held : after .register .held ≡ st .register .held
+
+pub raised-quiet : {st mid after : State} {fs : List Frame} {u : Linked} → Raised st mid fs u → Quiet mid after → Raised st after fs u
+raised-quiet {mid = mid} {after = after} {fs = fs} {u = u} a q = record {
+  site = at-quiet {st = mid} {after = after} q fs u (a .site);
+  size = q .words .size ∙ a .size;
+  fields = fields-trans (a .fields) (fields-queued (q .fields));
+  held = q .fields .held ∙ a .held;
+}
+
+pub raised-painted : {st mid : State} {fs : List Frame} {u : Linked} → Raised st mid fs u → (n c : ℕ) → Raised st (painted mid n c) fs u
+raised-painted {mid = mid} {fs = fs} {u = u} a n c = record {
+  site = at-painted mid n c fs u (a .site);
+  size = paint-alike (mid .pool) n c .size ∙ a .size;
+  fields = a .fields;
+  held = a .held;
+}
+
+pub raised-link : (st : State) (fs : List Frame) (t u : Linked) (b : ℕ) → Clear fs u → At st fs t → Rep (st .pool) b u → Raised st (setLink st (linkTo fs) b) fs u
+raised-link st fs t u b c h r = record {
+  site = site-store st fs t u b c h r;
+  size = link-size st (linkTo fs) b;
+  fields = link-fields st (linkTo fs) b;
+  held = link-held st (linkTo fs) b;
+}
+
+-- a raising store finishes: quiet retirement keeps the coloured tree
+pub record Ended (st after : State) (fs : List Frame) (u : Linked) (G : Tree) : Type 0 where
+  pub raised : Raised st after fs u
+  pub tree : erase (colours (after .pool)) (plug fs u) ≡ G
+
+pub ended-quiet : {st mid after : State} {fs : List Frame} {u : Linked} {G : Tree} → Ended st mid fs u G → Quiet mid after → Ended st after fs u G
+ended-quiet {mid = mid} {after = after} {fs = fs} {u = u} a q = record { raised = raised-quiet (a .raised) q; tree = quiet-erase {st = mid} {after = after} q (plug fs u) ∙ a .tree }
+
+module _ (st : State) (fs : List Frame) (s : Side) (B C : Node) (n : ℕ) (o x r : Linked)
+    (h : At st fs (diag₁ s B C n o x r)) (once : Once (plug fs (at s C (at s B o x) r))) (old : occ n (nodes (plug fs (at s C (at s B o x) r))) ≡ 0) where
+  abbrev f : ℕ → Colour
+  f = colours (st .pool)
+
+  abbrev low : Linked
+  low = at s (copy C n) x r
+
+  abbrev risen : ℕ → State
+  risen c = painted (setLink st (linkTo fs) (B .num)) (B .num) c
+
+  pub diag-raise-is : (rule : Rule) → diagRaise st (linkTo fs) s rule ≡ made (retire (endDiag rule (risen (risenColour rule st (C .num))) s (B .num)) (C .num)) (linkTo fs) (B .num)
+  unfolding diagRaise
+  diag-raise-is rule =
+      let t = top-of st fs s C (at s B o low) r h in
+      let b = below-is st s s (C .num) B o low (t .near) in
+      rw (t .is, b)
+
+  -- the facts of numbers
+  record Apart : Type 0 where
+    bn : one (B .num) n ≡ 0
+    bo : occ (B .num) (nodes o) ≡ 0
+    bx : occ (B .num) (nodes x) ≡ 0
+    br : occ (B .num) (nodes r) ≡ 0
+    bw : occWay (B .num) fs ≡ 0
+    no : occ n (nodes o) ≡ 0
+    nx : occ n (nodes x) ≡ 0
+    nr : occ n (nodes r) ≡ 0
+    nw : occWay n fs ≡ 0
+    bc : one (B .num) (C .num) ≡ 0
+    each : (i : ℕ) → one i (C .num) + (one i (B .num) + occ i (nodes o) + occ i (nodes x)) + occ i (nodes r) + occWay i fs ≤ 1
+
+  apart : Apart
+  apart =
+      let cb = diag-count fs s B C o x r (B .num) in
+      let cn = diag-count fs s B C o x r n in
+      let ob = once (B .num) in
+      let sb = one-same (B .num) in
+      record {
+        bn = new-apart (B .num) n (nodes (plug fs (at s C (at s B o x) r))) old (omega arith);
+        bo = omega arith;
+        bx = omega arith;
+        br = omega arith;
+        bw = omega arith;
+        no = omega arith;
+        nx = omega arith;
+        nr = omega arith;
+        nw = omega arith;
+        bc = omega arith;
+        each = λ i. let a = once i in let b = diag-count fs s B C o x r i in omega arith;
+      }
+
+  pub diag-linked : Raised st (setLink st (linkTo fs) (B .num)) fs (diag₂ s B C n o x r)
+  diag-linked =
+      let t = top-of st fs s C (at s B o low) r h in
+      let b = below-is st s s (C .num) B o low (t .near) in
+      let clear = clear-of fs (at s C (at s B o x) r) (diag₂ s B C n o x r) once
+      (λ i w. let a = once i in let c = diag-count fs s B C o x r i in
+      let d = occ-at s B o low i in let e = occ-at s (copy C n) x r i in
+      let g = new-apart i n (nodes (plug fs (at s C (at s B o x) r))) old (omega arith) in omega arith) in
+      raised-link st fs (diag₁ s B C n o x r) (diag₂ s B C n o x r) (B .num) clear h (rw b at (t .near))
+
+  pub diag-risen : (c : ℕ) → Raised st (risen c) fs (diag₂ s B C n o x r)
+  diag-risen c = raised-painted diag-linked (B .num) c
+
+  within-b : Within (setLink st (linkTo fs) (B .num) .pool) (B .num)
+  within-b = top-of (setLink st (linkTo fs) (B .num)) fs s B o low (diag-linked .site) .words .within
+
+  -- only B's colour changes
+  pub risen-b : (c : ℕ) → colours (risen c .pool) (B .num) ≡ hue c
+  risen-b c = paint-same (setLink st (linkTo fs) (B .num) .pool) (B .num) c within-b
+
+  pub risen-else : (c i : ℕ) → one (B .num) i ≡ 0 → colours (risen c .pool) i ≡ f i
+  risen-else c i e = paint-other (setLink st (linkTo fs) (B .num) .pool) (B .num) c i (apart-one (B .num) i e) ∙ colours-link st (linkTo fs) (B .num) i
+
+  stays-risen : (c : ℕ) (t : Linked) → occ (B .num) (nodes t) ≡ 0 → Stays f (colours (risen c .pool)) t
+  stays-risen c t e i m = risen-else c i (one-swap (B .num) i ∙ new-apart i (B .num) (nodes t) e (in-occ i (nodes t) m))
+
+  same-risen : (c : ℕ) (t : Linked) → occ (B .num) (nodes t) ≡ 0 → erase (colours (risen c .pool)) t ≡ erase f t
+  same-risen c t e = erase-agree (colours (risen c .pool)) f t (stays-risen c t e)
+
+  way-risen : (c : ℕ) → eraseWay (colours (risen c .pool)) fs ≡ eraseWay f fs
+  way-risen c = way-occ f (colours (risen c .pool)) fs (λ i w. risen-else c i (one-other (B .num) i (λ e. let z : occWay (B .num) fs ≡ occWay i fs = rw e in let a = apart .bw in omega arith)))
+
+  -- Insert: the root ends black.
+  pub diag-grow : f n ≡ red → Ended st (diagRaise st (linkTo fs) s Grow .after) fs (diag₂ s B C n o x r)
+      (Seq.paint black (Seq.plug (eraseWay f fs) (Seq.diag s black red (C .key) (C .val) (erase f (at s B o x)) (erase f r))))
+  diag-grow e =
+      let g = colours (risen blackColour .pool) in
+      let a = apart in
+      let site = diag-risen blackColour .site in
+      let rot = diag-end f g s B C n o x r black red (risen-b blackColour) (risen-else blackColour n (a .bn) ∙ e) (stays-risen _ x (a .bx)) (stays-risen _ r (a .br)) (stays-risen _ o (a .bo)) in
+      let tree : erase g (plug fs (diag₂ s B C n o x r)) ≡ Seq.plug (eraseWay f fs) (Seq.diag s black red (C .key) (C .val) (erase f (at s B o x)) (erase f r))
+      = erase-plug g fs (diag₂ s B C n o x r) ∙ rw (way-risen blackColour, rot) in
+      rw (diag-raise-is Grow)
+      (ended-quiet record {
+        raised = raised-painted (diag-risen blackColour) (risen blackColour .register .root) blackColour;
+        tree = black-root (risen blackColour) fs (diag₂ s B C n o x r) site ∙ ap (Seq.paint black) tree;
+      } (retire-quiet (blackRoot (risen blackColour)) (C .num)))
+
+  -- Delete's last rotation: B takes C's colour, the outer child turns black.
+  pub diag-borrow : f n ≡ black → Ended st (diagRaise st (linkTo fs) s Borrow .after) fs (diag₂ s B C n o x r)
+      (Seq.plug (eraseWay f fs) (Seq.diag s (f (C .num)) black (C .key) (C .val) (blackOuter s (erase f (at s B o x))) (erase f r)))
+  diag-borrow e =
+      let c = colourOf st (C .num) in
+      let g1 = colours (risen c .pool) in
+      let a = apart in
+      let t = top-of (risen c) fs s B o low (diag-risen c .site) in
+      let w = child (risen c .pool) s (B .num) in
+      let mid = painted (risen c) w blackColour in
+      let g = colours (mid .pool) in
+      let out : (i : ℕ) → occ i (nodes o) ≡ 0 → g i ≡ g1 i = λ i z. top-outside (risen c .pool) w blackColour o i (t .near) z in
+      let stay : (u : Linked) → occ (B .num) (nodes u) ≡ 0 → ((i : ℕ) → 0 < occ i (nodes u) → occ i (nodes o) ≡ 0) → Stays f g u
+      = λ u z d i m. out i (d i (in-occ i (nodes u) m)) ∙ stays-risen c u z i m in
+      let eb : g (B .num) ≡ f (C .num) = out (B .num) (a .bo) ∙ risen-b c ∙ sym (colours-is (st .pool) (C .num) c refl) in
+      let en : g n ≡ black = out n (a .no) ∙ risen-else c n (a .bn) ∙ e in
+      let eo = erase-top (risen c .pool) w blackColour o (t .near) ∙ ap (Seq.paint black) (same-risen c o (a .bo)) in
+      let rot = diag-end-outer f g s B C n o x r (f (C .num)) black eb en
+      (stay x (a .bx) (λ i m. let b = a .each i in omega arith)) (stay r (a .br) (λ i m. let b = a .each i in omega arith)) eo in
+      let way = way-occ g1 g fs (λ i m. out i (let b = a .each i in omega arith)) ∙ way-risen c in
+      rw (diag-raise-is Borrow)
+      (ended-quiet record {
+        raised = raised-painted (diag-risen c) w blackColour;
+        tree = erase-plug g fs (diag₂ s B C n o x r) ∙ rw (way, rot);
+      } (retire-quiet mid (C .num)))
+
+  -- A red sibling: the work goes on under the copy.
+  copy-is : (c : ℕ) → child (risen c .pool) (other s) (B .num) ≡ n
+  copy-is c = below-is (risen c) (other s) s (B .num) (copy C n) x r (top-of (risen c) fs s B o low (diag-risen c .site) .far)
+
+  copy-top : (c : ℕ) → Top (risen c) (hole (other s) B o ∷ fs) s (copy C n) x r
+  copy-top c = top-of (risen c) (hole (other s) B o ∷ fs) s (copy C n) x r (far-down (risen c) fs s B o low (diag-risen c .site))
+
+  -- the new sibling without a red child turns red, and the copy black
+  pub diag-pass-none : f n ≡ red → loanOf (other s) (erase f x) ≡ noLoan → Ended st (diagRaise st (linkTo fs) s Pass .after) fs (diag₂ s B C n o x r)
+      (Seq.plug (eraseWay f fs) (mk s black (B .key) (B .val) (erase f o) (mk s black (C .key) (C .val) (Seq.paint red (erase f x)) (erase f r))))
+  diag-pass-none e none =
+      let r0 = risen blackColour in
+      let g1 = colours (r0 .pool) in
+      let a = apart in
+      let t = copy-top blackColour in
+      let w = child (r0 .pool) s n in
+      let no-red = loan-none (r0 .pool) (other s) w x (t .near) (rw (same-risen blackColour x (a .bx)) none) in
+      let one′ = painted r0 w redColour in
+      let mid = painted one′ n blackColour in
+      let g2 = colours (one′ .pool) in
+      let g = colours (mid .pool) in
+      let win : Within (one′ .pool) n = record { low = t .words .within .low; high = rw (paint-alike (r0 .pool) w redColour .size) (t .words .within .high) } in
+      let out2 : (i : ℕ) → occ i (nodes x) ≡ 0 → g2 i ≡ g1 i = λ i z. top-outside (r0 .pool) w redColour x i (t .near) z in
+      let out : (i : ℕ) → one n i ≡ 0 → occ i (nodes x) ≡ 0 → g i ≡ g1 i = λ i z y. paint-other (one′ .pool) n blackColour i (apart-one n i z) ∙ out2 i y in
+      let apart-n : (u : Linked) (i : ℕ) → occ n (nodes u) ≡ 0 → 0 < occ i (nodes u) → one n i ≡ 0 = λ u i z m. one-swap n i ∙ new-apart i n (nodes u) z m in
+      let stay : (u : Linked) → occ n (nodes u) ≡ 0 → ((i : ℕ) → 0 < occ i (nodes u) → occ i (nodes x) ≡ 0) → erase g u ≡ erase g1 u
+      = λ u z d. erase-occ g1 g u (λ i m. out i (apart-n u i z m) (d i m)) in
+      let eb : g (B .num) ≡ black = out (B .num) (one-swap n (B .num) ∙ a .bn) (a .bx) ∙ risen-b blackColour in
+      let en : g n ≡ black = paint-same (one′ .pool) n blackColour win in
+      let eo = stay o (a .no) (λ i m. let b = a .each i in omega arith) ∙ same-risen blackColour o (a .bo) in
+      let er = stay r (a .nr) (λ i m. let b = a .each i in omega arith) ∙ same-risen blackColour r (a .br) in
+      let ex = erase-paint (one′ .pool) n blackColour x (a .nx) ∙ erase-top (r0 .pool) w redColour x (t .near) ∙ ap (Seq.paint red) (same-risen blackColour x (a .bx)) in
+      let way = way-occ g1 g fs (λ i m. out i (one-other n i (λ q. let z : occWay n fs ≡ occWay i fs = rw q in let b = a .nw in omega arith)) (let b = a .each i in omega arith)) ∙ way-risen blackColour in
+      let rot : erase g (diag₂ s B C n o x r) ≡ mk s black (B .key) (B .val) (erase f o) (mk s black (C .key) (C .val) (Seq.paint red (erase f x)) (erase f r)) = simp (erase-at, eb, en, eo, er, ex) in
+      rw (diag-raise-is Pass, copy-is blackColour, no-red)
+      (ended-quiet record {
+        raised = raised-painted (raised-painted (diag-risen blackColour) w redColour) n blackColour;
+        tree = erase-plug g fs (diag₂ s B C n o x r) ∙ rw (way, rot);
+      } (retire-quiet mid (C .num)))
+
+  -- a rotation under the copy is still to come
+  pub record Passed (after : State) : Type 0 where
+    pub raised : Raised st after fs (diag₂ s B C n o x r)
+    pub risen-black : colours (after .pool) (B .num) ≡ black
+    pub elsewhere : (i : ℕ) → one (B .num) i ≡ 0 → colours (after .pool) i ≡ f i
+
+  pub diag-pass-some : (b : Bool) → loanOf (other s) (erase f x) ≡ loan b → Passed (diagRaise st (linkTo fs) s Pass .after)
+  diag-pass-some b some =
+      let r0 = risen blackColour in
+      let a = apart in
+      let t = copy-top blackColour in
+      let is-red = loan-some (r0 .pool) (other s) (child (r0 .pool) s n) x b (t .near) (rw (same-risen blackColour x (a .bx)) some) in
+      let q = retire-quiet r0 (C .num) in
+      rw (diag-raise-is Pass, copy-is blackColour, is-red) record {
+        raised = raised-quiet (diag-risen blackColour) q;
+        risen-black = colours-alike (q .words) (B .num) ∙ risen-b blackColour;
+        elsewhere = λ i e. colours-alike (q .words) i ∙ risen-else blackColour i e;
+      }
+
+  -- it finds its nodes
+  pub diag-raise-finds : (rule : Rule) → endDiagFinds rule st s (B .num) ≡ true → stepFinds st (linkTo fs) (DiagRaise s rule) ≡ true
+  unfolding stepFinds
+  diag-raise-finds rule e =
+      let t = top-of st fs s C (at s B o low) r h in
+      let b = below-is st s s (C .num) B o low (t .near) in
+      let tb = top-of st (hole s C r ∷ fs) s B o low (near-down st fs s C (at s B o low) r h) in
+      rw (t .is, b, is-node (B .num) (tb .words .within .low), e)
+
+  pub pass-finds : NotLeaf (erase f x) → endDiagFinds Pass st s (B .num) ≡ true
+  pass-finds there =
+      let hb = near-down st fs s C (at s B o low) r h in
+      let tb = top-of st (hole s C r ∷ fs) s B o low hb in
+      let c = below-is st (other s) s (B .num) (copy C n) x r (tb .far) in
+      let tc = top-of st (hole (other s) B o ∷ hole s C r ∷ fs) s (copy C n) x r (far-down st (hole s C r ∷ fs) s B o low hb) in
+      let d = there-tree f (st .pool) (child (st .pool) s n) x (tc .near) there in
+      rw (c, is-node (child (st .pool) s n) (omega arith))
+
+  pub borrow-finds : NotLeaf (erase f o) → endDiagFinds Borrow st s (B .num) ≡ true
+  borrow-finds there =
+      let tb = top-of st (hole s C r ∷ fs) s B o low (near-down st fs s C (at s B o low) r h) in
+      let d = there-tree f (st .pool) (child (st .pool) s (B .num)) o (tb .near) there in
+      rw (is-node (child (st .pool) s (B .num)) (omega arith))

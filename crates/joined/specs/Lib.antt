@@ -1,0 +1,9 @@
+pub mod Nodes
+pub mod Ways
+pub mod Steps
+pub mod Meet
+pub mod Tickets
+pub mod Joined
+pub mod Rests
+pub mod Deletes
+pub mod Theorem

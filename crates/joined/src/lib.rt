@@ -1,0 +1,1 @@
+// No code: the stores of crate heap meet the readers of crate readers, in specs/.

@@ -1,0 +1,150 @@
+-- Demands 2 and 3 as statements about whole lists of calls, in the words of 01. To check them no proof need be read: what they name is
+-- defined in crate `spec` (the calls, the plain list), in crate `sequential` (the sequential tree) and in Run.
+use Prim.Native.Nat.{ℕ, _+_, _<_, _≤_}
+use mathlib.Core.Path.{_≡_}
+use mathlib.Core.Logic.{_≢_, _↔_}
+use mathlib.Core.Bool.{Bool, true, false, cond}
+use mathlib.Core.List.{List}
+use mathlib.Core.Option.{Option, none, some}
+use lib.Dec.{eqb}
+use lib.ListN.{length}
+use Rattle.types.specs.declared.Side.{Side}
+use Rattle.types.specs.declared.Side.the-variants.{L, R}
+use Rattle.types.specs.declared.Link.{Link}
+use Rattle.types.specs.declared.Step.{Step}
+use Rattle.types.specs.declared.Step.the-variants.{Vacant, Insert, DiagLower, DiagRaise, ZigLowerA, ZigLowerC, ZigRaise, Unlink, Adopt, Replace, Publish, Detach}
+use Rattle.types.specs.declared.Reader.{Reader}
+use Rattle.sequential.specs.Tree.{Colour, red, black, Tree, leaf, node}
+use Rattle.sequential.specs.Delete.{changedBy}
+use Rattle.tree.specs.Distinct.{_∈_}
+use Rattle.spec.specs.Pool.{word, child, nodes, slots, keyWord, recordWord, colourWord, standingWord, standingFree, blackColour, redColour}
+use Rattle.spec.specs.Register.{State, state, mostStores, withReader, readerOf, storeOf, hasSlot}
+use Rattle.spec.specs.Calls.{Answer, go, absent, found, more, wait, refused, Outcome, Call, inserting, deleting, writing, beginning, turning, givingUp, call, reading, writeInHand, readerStep}
+use Rattle.spec.specs.PlainList.{Heard, went, heard, recordFor, accepted}
+use Rattle.laws.specs.Queue.{Queue, Distinct}
+use Rattle.promise.specs.Run.{callAt, indexAfter, plainAfter, ticketsAfter, Gives, Lookup}
+
+-- 'Lookup': found means that at one of the lookup's moments the plain list has the wanted key with just this record, absent that at one of
+-- them it doesn't have the key.
+abbrev pub AtOneMoment : ℕ → List Call → ℕ → ℕ → ℕ → Option ℕ → Type 0
+AtOneMoment N cs k i j o = (t : ℕ) × (i < t) × (t ≤ j + 1) × (recordFor k (ticketsAfter N cs t) ≡ o)
+
+pub record LookupsRight (N : ℕ) (cs : List Call) : Type 0 where
+  pub whenFound : (s k i j v : ℕ) → Lookup N cs s k i j → Gives N cs j (turning s) (found v) → AtOneMoment N cs k i j (some v)
+  pub whenAbsent : (s k i j : ℕ) → Lookup N cs s k i j → Gives N cs j (turning s) absent → AtOneMoment N cs k i j none
+
+-- 'Holds': going from the root as a reader's turns do, with no other call between. It is the reader's own step: what it answers with the
+-- key k at node n (0 before any), made of the same pool and root again and again. Which slot's record it goes by does not matter: slot 0.
+abbrev pub turnAt : State → ℕ → ℕ → Outcome
+turnAt st k n = readerStep (state (st .pool) (withReader (st .register) 0 (record { reading = true; key = k; node = n }))) 0
+
+-- from node n the turns for the key k end with the answer a
+pub data Going (st : State) (k : ℕ) : ℕ → Answer → Type 0 where
+  ends : (n : ℕ) (a : Answer) → turnAt st k n .answer ≡ a → Going st k n a
+  goes : (n : ℕ) (a : Answer) → turnAt st k n .answer ≡ go → Going st k (readerOf (turnAt st k n .after .register) 0 .node) a → Going st k n a
+
+-- found with the plain list's record, or absent if the plain list doesn't have the key
+abbrev pub answerOf : Option ℕ → Answer
+answerOf none = absent
+answerOf (some v) = found v
+
+pub record TreeHolds (N : ℕ) (cs : List Call) : Type 0 where
+  pub everyKey : (j k : ℕ) → Going (indexAfter N cs j) k 0 (answerOf (recordFor k (ticketsAfter N cs j)))
+  pub keysHeld : (j : ℕ) → indexAfter N cs j .register .held ≡ length (ticketsAfter N cs j)
+
+-- 'Reach': left and right links, as they stand, lead from node n to node m
+pub data Leads (p : List ℕ) : ℕ → ℕ → Type 0 where
+  arrived : (n : ℕ) → n ≢ 0 → Leads p n n
+  onward : (n m : ℕ) (s : Side) → n ≢ 0 → Leads p (child p s n) m → Leads p n m
+
+-- the node last loaded for the slot, or the root's node before it has loaded one
+abbrev pub origin : State → ℕ → ℕ
+origin st s =
+    let n = readerOf (st .register) s .node in
+    cond (eqb n 0) (st .register .root) n
+
+pub record Reaches (st : State) (s m : ℕ) : Type 0 where
+  pub slot : s < slots
+  pub reads : reading st s ≡ true
+  pub leads : Leads (st .pool) (origin st s) m
+
+-- A call takes a node if it is a writer's turn that makes a store whose step takes one ('The writer's stores': a new node, a copy):
+-- it takes the first free node.
+abbrev pub takesOne : Step → Bool
+takesOne Vacant = false
+takesOne (Insert k v) = true
+takesOne (DiagLower s c) = true
+takesOne (DiagRaise s c) = false
+takesOne (ZigLowerA s c) = true
+takesOne (ZigLowerC s c) = true
+takesOne (ZigRaise s c) = false
+takesOne Unlink = false
+takesOne Adopt = false
+takesOne Replace = false
+takesOne (Publish n) = true
+takesOne (Detach k) = false
+
+pub record Takes (st : State) (c : Call) (m : ℕ) : Type 0 where
+  pub turn : c ≡ writing
+  pub makes : heard (call st c .answer) ≡ went
+  pub step : takesOne (storeOf (st .register) 0 .step) ≡ true
+  pub first : st .register .first ≡ m
+
+-- A node that a reading slot reached at a moment of its lookup (after t calls) doesn't stand free and is not taken by any call, from that
+-- moment until the lookup ends.
+pub record NodesKept (N : ℕ) (cs : List Call) : Type 0 where
+  pub notFree : (s k i j t m u : ℕ) → Lookup N cs s k i j → i < t → Reaches (indexAfter N cs t) s m → t ≤ u → u ≤ j
+      → word (indexAfter N cs u .pool) m standingWord ≢ standingFree
+  pub notTaken : (s k i j t m u : ℕ) (c : Call) → Lookup N cs s k i j → i < t → Reaches (indexAfter N cs t) s m → t ≤ u → u < j → callAt cs u ≡ some c
+      → ¬ (Takes (indexAfter N cs u) c m)
+
+-- Demand 3 is a single claim about the whole list of calls.
+pub record Demand3 (N : ℕ) (cs : List Call) : Type 0 where
+  pub lookups : LookupsRight N cs
+  pub holds : TreeHolds N cs
+  pub kept : NodesKept N cs
+
+-- Demand 2. The link value a holds, in the pool, a tree of this shape with these keys, records and colours.
+abbrev pub colourNumber : Colour → ℕ
+colourNumber red = redColour
+colourNumber black = blackColour
+
+abbrev pub Stands : List ℕ → ℕ → Tree → Type 0
+Stands p a leaf = a ≡ 0
+Stands p a (node c k v l r) =
+    (1 ≤ a) × (a ≤ nodes p)
+    × (word p a keyWord ≡ k)
+    × (word p a recordWord ≡ v)
+    × (word p a colourWord ≡ colourNumber c)
+    × Stands p (child p L a) l
+    × Stands p (child p R a) r
+
+-- the queue holds just the nodes standing free, once each; the free count is their number
+pub record FreeRight (st : State) : Type 0 where
+  pub queue : List ℕ
+  pub queued : Queue st queue
+  pub once : Distinct queue
+  pub standing : (n : ℕ) → (n ∈ queue) ↔ ((1 ≤ n) × (n ≤ nodes (st .pool)) × (word (st .pool) n standingWord ≡ standingFree))
+  pub counted : st .register .free ≡ length queue
+
+-- whenever no write is in hand the tree is the sequential tree of the writes accepted, in order
+pub record Demand2 (N : ℕ) (cs : List Call) : Type 0 where
+  pub atRest : (j : ℕ) → writeInHand (indexAfter N cs j) ≡ false
+      → Stands (indexAfter N cs j .pool) (indexAfter N cs j .register .root) (changedBy leaf (accepted (plainAfter N cs j)))
+  pub free : (j : ℕ) → FreeRight (indexAfter N cs j)
+  -- a write is done after at most seven stores
+  pub soon : (j : ℕ) (l : Link) (n : ℕ) → Gives N cs j writing (more l n) → plainAfter N cs (j + 1) .made < mostStores
+  -- a turn answers wait only while an awaited slot is reading
+  pub waits : (j : ℕ) → Gives N cs j writing wait
+      → (s : ℕ) × (s < slots) × (hasSlot (indexAfter N cs j .register .awaited) s ≡ true) × (reading (indexAfter N cs j) s ≡ true)
+
+-- 'When a call is turned down': no run from a fresh index meets 2 or 12.
+pub record NeverMet (N : ℕ) (cs : List Call) : Type 0 where
+  pub range : (j : ℕ) (c : Call) → ¬ (Gives N cs j c (refused 2))
+  pub steps : (j : ℕ) (c : Call) → ¬ (Gives N cs j c (refused 12))
+
+-- The theorem wanted: for every N from 8 to 1,023 and every list of calls.
+pub record Promise (N : ℕ) (cs : List Call) : Type 0 where
+  pub demand2 : Demand2 N cs
+  pub demand3 : Demand3 N cs
+  pub never : NeverMet N cs

@@ -1,0 +1,170 @@
+-- The write in hand through a store: only a publish touches it, before the first store still to come is dropped.
+use Prim.Native.Nat.{ℕ, _+_, _<_, _≤_}
+use mathlib.Core.Path.{_≡_, refl, sym, ap, _∙_, subst}
+use mathlib.Core.Bool.{Bool, true, false, cond, not, _&&_, false≢true}
+use mathlib.Core.List.{List, [], _∷_}
+use mathlib.Core.Logic.{_≢_}
+use native.Mathlib.Omega.{arith}
+use lib.Dec.{eqb}
+use borrow.Author.Tests.{eqb-false}
+use Rattle.base.specs.Walk.{cond-both, foldIn, fold-keeps}
+use Rattle.types.specs.declared.Side.{Side}
+use Rattle.types.specs.declared.Side.the-variants.{L, R}
+use Rattle.types.specs.declared.Link.{Link}
+use Rattle.types.specs.declared.Link.the-variants.{Root, Left, Right}
+use Rattle.types.specs.declared.Rule.{Rule}
+use Rattle.types.specs.declared.Rule.the-variants.{Grow, Pass, Borrow}
+use Rattle.types.specs.declared.Ending.{Ending}
+use Rattle.types.specs.declared.Ending.the-variants.{Calm, Blacken, Rotate, RotateTwice, Missing}
+use Rattle.types.specs.declared.Climb.{Climb}
+use Rattle.types.specs.declared.Step.{Step}
+use Rattle.types.specs.declared.Step.the-variants.{Vacant, Insert, DiagLower, DiagRaise, ZigLowerA, ZigLowerC, ZigRaise, Unlink, Adopt, Replace, Publish, Detach}
+use Rattle.types.specs.declared.Write.{Write}
+use Rattle.types.specs.declared.Register.{Register}
+use Rattle.types.specs.Side.{other}
+use Rattle.spec.specs.Pool.{word, setWord, child, nodes, redColour, keyWord, recordWord, standingWord, holdersWord, standingRetired}
+use Rattle.spec.specs.Register.{State, state, noReader, linkNode, setLink, withRoot, withQueue, withHeld, withReader, withAwaited, withWrite, readingSlots, dropSlot}
+use Rattle.spec.specs.Free.{queueEmpty, takeFree, takeNode, freeNode, retire, release, endReading}
+use Rattle.spec.specs.Search.{pathTo}
+use Rattle.spec.specs.Plan.{insertClimb, paintRise, paintLoss, redChild, onlyChild, nearest}
+use Rattle.spec.specs.Turn.{Made, painted, colourOf, oneMore, oneLess, endInsert, insertStore, copyColour, risenColour, copyNode, diagLower, underCopy, endDiag, diagRaise, zigLowerA, zigLowerC, endZig, zigRaise, unlinkStore, adoptStore, replaceStore, movedWrite, publishStore, detachStore, isNode, stepFinds, stepMade, unlinkPath, unlinkClimb, replacePath, replaceClimb}
+use Rattle.heap.specs.Fill.{retire-quiet, retireTwo-quiet}
+use Rattle.ranges.specs.Fits.{Within}
+use Rattle.ranges.specs.Writes.{Number, WriteOk, write-moved}
+
+abbrev hand : State → Write
+hand st = st .register .write
+
+hand-link : (st : State) (l : Link) (v : ℕ) → hand (setLink st l v) ≡ hand st
+unfolding setLink withRoot
+hand-link st Root v = refl
+hand-link st (Left n) v = refl
+hand-link st (Right n) v = refl
+
+hand-take : (st : State) (k v : ℕ) (s : Side) (x y c : ℕ) → hand (takeNode st k v s x y c) ≡ hand st
+unfolding takeNode takeFree withQueue
+hand-take st k v s x y c = refl
+
+hand-more : (st : State) → hand (oneMore st) ≡ hand st
+unfolding withHeld
+hand-more st = refl
+
+hand-less : (st : State) → hand (oneLess st) ≡ hand st
+unfolding withHeld
+hand-less st = refl
+
+hand-loss : (st : State) (c : Climb) (x : ℕ) (path : List Link) → hand (paintLoss st c x path) ≡ hand st
+unfolding paintLoss
+hand-loss st c x path = refl
+
+hand-insert : (e : Ending) (st : State) → hand (endInsert e st) ≡ hand st
+hand-insert Calm st = refl
+hand-insert Blacken st = refl
+hand-insert (Rotate t) st = refl
+hand-insert (RotateTwice t u) st = refl
+hand-insert Missing st = refl
+
+hand-diag : (rule : Rule) (st : State) (s : Side) (b : ℕ) → hand (endDiag rule st s b) ≡ hand st
+hand-diag Grow st s b = refl
+hand-diag Pass st s b = cond-both (λ x. hand x ≡ hand st) (redChild (st .pool) (child (st .pool) s (child (st .pool) (other s) b))) refl refl
+hand-diag Borrow st s b = refl
+
+hand-zig : (rule : Rule) (st : State) → hand (endZig rule st) ≡ hand st
+hand-zig Grow st = refl
+hand-zig Pass st = refl
+hand-zig Borrow st = refl
+
+hand-retire : (st : State) (n : ℕ) → hand (retire st n) ≡ hand st
+hand-retire st n = retire-quiet st n .fields .write
+
+hand-free : (st : State) (n : ℕ) → hand (freeNode st n) ≡ hand st
+unfolding freeNode withQueue
+hand-free st n = refl
+
+hand-release : (s : ℕ) (st : State) (n : ℕ) → hand (release s st n) ≡ hand st
+unfolding release
+hand-release s st n =
+    let d = dropSlot (word (st .pool) n holdersWord) s in
+    cond-both {A = State} (λ x. hand x ≡ hand st) (eqb (word (st .pool) n standingWord) standingRetired)
+    {x = cond (eqb d 0) (freeNode st n) (state (setWord (st .pool) n holdersWord d) (st .register))} {y = st}
+    (cond-both {A = State} (λ x. hand x ≡ hand st) (eqb d 0) {x = freeNode st n} {y = state (setWord (st .pool) n holdersWord d) (st .register)} (hand-free st n) refl) refl
+
+-- a reader's end
+pub hand-end : (st : State) (s : ℕ) → hand (endReading st s) ≡ hand st
+unfolding endReading withReader withAwaited
+hand-end st s =
+    let r = withReader (st .register) s noReader in
+    fold-keeps (release s) (λ x. hand x ≡ hand st) 1 (nodes (st .pool) + 1) (state (st .pool) (withAwaited r (dropSlot (r .awaited) s))) (λ x i u v e. step x i e) refl
+  where
+    step : (x : State) (i : ℕ) → hand x ≡ hand st → hand (release s x i) ≡ hand st
+    step x i e = hand-release s x i ∙ e
+
+-- both parts of a test hold
+both : (a b : Bool) → (a && b) ≡ true → b ≡ true
+both true b e = e
+both false b e = absurd (false≢true e)
+
+filled : (st : State) → not (queueEmpty st) ≡ true → st .register .first ≢ 0
+filled st e = eqb-false (st .register .first) 0 (go (queueEmpty st) e)
+  where
+    go : (b : Bool) → not b ≡ true → b ≡ false
+    go true e = absurd (false≢true e)
+    go false e = refl
+
+insert-hand : (st : State) (l : Link) (k v : ℕ) → hand (insertStore st l k v .after) ≡ hand st
+unfolding insertStore withHeld
+insert-hand st l k v =
+    let c = insertClimb st k l in
+    let path = pathTo (st .pool) (st .register .root) k l in
+    let linked = oneMore (setLink (takeNode st k v L 0 0 redColour) l (st .register .first)) in
+    hand-insert (c .ending) (state (paintRise (c .levels) path (linked .pool)) (linked .register)) ∙ hand-link (takeNode st k v L 0 0 redColour) l (st .register .first) ∙ hand-take st k v L 0 0 redColour
+
+unlink-hand : (st : State) (l : Link) → hand (unlinkStore st l .after) ≡ hand st
+unfolding unlinkStore withHeld
+unlink-hand st l =
+    let b = linkNode st l in
+    let x = onlyChild (st .pool) b in
+    let less = oneLess (setLink st l x) in
+    hand-retire (paintLoss less (unlinkClimb st l) x (unlinkPath st l)) b ∙ hand-loss less (unlinkClimb st l) x (unlinkPath st l) ∙ hand-link st l x
+
+replace-hand : (st : State) (l : Link) → hand (replaceStore st l .after) ≡ hand st
+unfolding replaceStore withHeld
+replace-hand st l =
+    let b = linkNode st l in
+    let c = child (st .pool) R b in
+    let x = child (st .pool) R c in
+    let replaced = painted (oneLess (setLink st l c)) c (colourOf st b) in
+    hand-retire (paintLoss replaced (replaceClimb st l) x (replacePath st l)) b ∙ hand-loss replaced (replaceClimb st l) x (replacePath st l) ∙ hand-link st l c
+
+publish-hand : (st : State) (l : Link) (c : ℕ) → hand (publishStore st l c .after) ≡ movedWrite (linkNode st l) (st .register .first) (hand st)
+unfolding publishStore withHeld withAwaited withWrite
+publish-hand st l c =
+    let p = st .pool in
+    let b = linkNode st l in
+    let n = st .register .first in
+    let base = setLink (copyNode st c L (child p L b) (child p R b) (colourOf st b)) l n in
+    let r = oneLess base .register in
+    let mid = state (base .pool) (withWrite (withAwaited r (readingSlots r)) (movedWrite b n (r .write))) in
+    hand-retire mid b ∙ ap (movedWrite b n) (hand-link (copyNode st c L (child p L b) (child p R b) (colourOf st b)) l n ∙ hand-take st (word p c keyWord) (word p c recordWord) L (child p L b) (child p R b) (colourOf st b))
+
+module _ (top : ℕ) (st : State) (h : Within top st) (w : WriteOk top (st .register .write)) where
+  same : (x : Write) → x ≡ st .register .write → WriteOk top x
+  same x e = rw e w
+
+  pub step-hand : (l : Link) (x : Step) → stepFinds st l x ≡ true → WriteOk top (stepMade st l x .after .register .write)
+  unfolding stepMade stepFinds diagLower diagRaise zigLowerA zigLowerC zigRaise adoptStore detachStore
+  step-hand l Vacant f = w
+  step-hand l (Insert k v) f = same _ (insert-hand st l k v)
+  step-hand l (DiagLower s c) f = same _ (hand-link _ _ _ ∙ hand-take st _ _ _ _ _ _)
+  step-hand l (DiagRaise s c) f = same _ (hand-retire _ _ ∙ hand-diag c _ s _ ∙ hand-link st l _)
+  step-hand l (ZigLowerA s c) f = same _ (hand-link _ _ _ ∙ hand-take st _ _ _ _ _ _)
+  step-hand l (ZigLowerC s c) f = same _ (hand-link _ _ _ ∙ hand-take st _ _ _ _ _ _)
+  step-hand l (ZigRaise s c) f = same _ (retireTwo-quiet _ _ _ .fields .write ∙ hand-zig c _ ∙ hand-link st l _)
+  step-hand l Unlink f = same _ (unlink-hand st l)
+  step-hand l Adopt f = same _ (hand-link st _ _)
+  step-hand l Replace f = same _ (replace-hand st l)
+  step-hand l (Publish c) f =
+      let n = st .register .first in
+      let d = filled st (both (isNode (linkNode st l)) (not (queueEmpty st)) f) in
+      rw (publish-hand st l c) (write-moved top (linkNode st l) n (st .register .write) (record { low = omega arith; high = h .first }) w)
+  step-hand l (Detach k) f = same _ (hand-retire _ _ ∙ hand-loss _ _ _ _ ∙ hand-link st _ _)

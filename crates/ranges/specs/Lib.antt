@@ -1,0 +1,6 @@
+pub mod Fits
+pub mod Stores
+pub mod Writes
+pub mod Plans
+pub mod Kept
+pub mod Calls

@@ -1,0 +1,17 @@
+pub mod Marks
+pub mod Words
+pub mod Stock
+pub mod Release
+pub mod Owned
+pub mod Reach
+pub mod Fates
+pub mod Graft
+pub mod Thinner
+pub mod Lookups
+pub mod Descends
+pub mod Stored
+pub mod Tints
+pub mod Turns
+pub mod Steps
+pub mod Does
+pub mod Safe

@@ -1,0 +1,202 @@
+-- Who has which node: each stands free, linked or retired; the free ones are the queue's; a retired one has holders, which are reading;
+-- awaited slots are reading. Kept by begin, a reader's step, the end of a reading, retire, take, and a store of a link or a colour.
+use Prim.Native.Nat.{ℕ, zero, suc, _+_, _*_, _^_, _<_, _≤_}
+use mathlib.Core.Path.{_≡_, refl, sym, ap, _∙_, subst}
+use mathlib.Core.Bool.{Bool, true, false, cond, _&&_, false≢true}
+use mathlib.Core.List.{List, [], _∷_, _++_, append-nil}
+use mathlib.Core.Logic.{_≢_, _⊎_, inl, inr}
+use native.Mathlib.Omega.{arith}
+use native.Mathlib.Decide.{ℕ-discrete}
+use lib.Dec.{eqb, ltb}
+use lib.ListN.{length, getD, set, length-set}
+use lib.Seq.{getD-set-same, getD-set-other}
+use borrow.Author.Tests.{eqb-true, eqb-false, eq-eqb, ne-eqb}
+use Rattle.base.specs.Walk.{foldIn}
+use Rattle.types.specs.declared.Side.{Side}
+use Rattle.types.specs.declared.Reader.{Reader}
+use Rattle.types.specs.declared.Register.{Register}
+use Rattle.spec.specs.Pool.{nodeWords, word, setWord, nodes, slots, standingWord, holdersWord, standingFree, standingLinked, standingRetired}
+use Rattle.spec.specs.Register.{State, state, noReader, readerOf, hasSlot, putSlot, dropSlot, readingSlots, withReader, withAwaited, withQueue}
+use Rattle.spec.specs.Free.{fillNode, takeFree, takeNode, freeNode, retire, retireTwo, endReading}
+use Rattle.laws.specs.Words.{Node, length-setWord, word-other}
+use Rattle.laws.specs.Slots.{drop-same, drop-other, drop-le}
+use Rattle.readers.specs.Marks.{no-bit, reading-bit, reading-below}
+use Rattle.readers.specs.Words.{node-set, node-length, node-high, free-length, free-other, free-standing, free-holders, retire-none, retire-some, marked, marked-length, marked-other, marked-standing, marked-holders, fill-length, fill-other, fill-standing, fill-holders}
+use Rattle.readers.specs.Stock.{Stock, free-stock, take-stock, mark-stock, word-stock, field-stock}
+use Rattle.readers.specs.Release.{SameElse, else-free, retired, freedBy, freedBelow, Released, ended, end-released}
+
+abbrev pub readingIn : List Reader → ℕ → Bool
+readingIn xs s = getD xs s noReader .reading
+
+-- a node's standing and holders, with these reader records
+pub record Good (xs : List Reader) (standing holders : ℕ) : Type 0 where
+  pub rank : standing ≤ standingRetired
+  pub mask : holders < 2 ^ slots
+  pub holder : standing ≡ standingRetired → holders ≢ 0
+  pub reads : standing ≡ standingRetired → (s : ℕ) → s < slots → hasSlot holders s ≡ true → readingIn xs s ≡ true
+
+-- a set of slots that are reading
+pub record Slots (xs : List Reader) (m : ℕ) : Type 0 where
+  pub below : m < 2 ^ slots
+  pub reads : (s : ℕ) → s < slots → hasSlot m s ≡ true → readingIn xs s ≡ true
+
+pub record Owned (st : State) (l : List ℕ) : Type 0 where
+  pub stock : Stock st l
+  pub good : (n : ℕ) → Node (st .pool) n → Good (st .register .readers) (word (st .pool) n standingWord) (word (st .pool) n holdersWord)
+  pub awaited : Slots (st .register .readers) (st .register .awaited)
+  pub eight : length (st .register .readers) ≡ slots
+
+good-free : (xs : List Reader) → Good xs standingFree 0
+good-free xs = record { rank = omega arith; mask = omega arith; holder = λ e. absurd (omega arith); reads = λ e. absurd (omega arith) }
+
+good-linked : (xs : List Reader) → Good xs standingLinked 0
+good-linked xs = record { rank = omega arith; mask = omega arith; holder = λ e. absurd (omega arith); reads = λ e. absurd (omega arith) }
+
+pub slots-reading : (r : Register) → Slots (r .readers) (readingSlots r)
+slots-reading r = record { below = reading-below r; reads = λ s u e. sym (reading-bit r s u) ∙ e }
+
+good-retired : (r : Register) → readingSlots r ≢ 0 → Good (r .readers) standingRetired (readingSlots r)
+good-retired r d = record { rank = omega arith; mask = reading-below r; holder = λ e. d; reads = λ e s u i. slots-reading r .reads s u i }
+
+-- Begin and go: no slot stops reading, and pool, queue and awaited slots stay.
+module _ (p : List ℕ) (r q : Register) (l : List ℕ) where
+  pub own-readers : q .first ≡ r .first → q .last ≡ r .last → q .free ≡ r .free → q .awaited ≡ r .awaited → length (q .readers) ≡ length (r .readers)
+      → ((s : ℕ) → s < slots → readingIn (r .readers) s ≡ true → readingIn (q .readers) s ≡ true) → Owned (state p r) l → Owned (state p q) l
+  own-readers a b c w e more h = record {
+    stock = field-stock p r q l a b c (h .stock);
+    good = λ n hn. (let g = h .good n hn in
+        record { rank = g .rank; mask = g .mask; holder = g .holder; reads = λ i s u v. more s u (g .reads i s u v) });
+    awaited = rw w (record { below = h .awaited .below; reads = λ s u v. more s u (h .awaited .reads s u v) });
+    eight = e ∙ h .eight;
+  }
+
+-- slot s reads
+pub own-reader : (st : State) (l : List ℕ) (s : ℕ) (x : Reader) → s < slots → x .reading ≡ true → Owned st l → Owned (state (st .pool) (withReader (st .register) s x)) l
+unfolding withReader
+own-reader st l s x u e h =
+    let xs = st .register .readers in
+    own-readers (st .pool) (st .register) (withReader (st .register) s x) l refl refl refl refl (length-set xs s x)
+    (λ t v i. elim (ℕ-discrete s t) [
+      | yes d ↦ rw (← d) (ap (λ y. y .reading) (getD-set-same xs s x noReader (rw (h .eight) u)) ∙ e)
+      | no d ↦ ap (λ y. y .reading) (getD-set-other xs s t x noReader (λ z. d (sym z))) ∙ i
+    ])
+    h
+
+-- The end of a reading.
+slots-drop : (xs : List Reader) (s m : ℕ) → Slots xs m → Slots (set xs s noReader) (dropSlot m s)
+slots-drop xs s m h = record {
+  below = let a = drop-le m s in let b = h .below in omega arith;
+  reads = λ t u i. elim (ℕ-discrete s t) [
+    | yes d ↦ absurd (false≢true (sym (drop-same m s) ∙ subst (λ z. hasSlot (dropSlot m s) z ≡ true) (sym d) i))
+    | no d ↦ ap (λ y. y .reading) (getD-set-other xs s t noReader noReader (λ z. d (sym z))) ∙ h .reads t u (sym (drop-other m s t d) ∙ i)
+  ];
+}
+
+good-drop : (xs : List Reader) (s a b : ℕ) → Good xs a b
+    → Good (set xs s noReader) (cond (eqb a standingRetired && eqb (dropSlot b s) 0) standingFree a) (cond (eqb a standingRetired) (dropSlot b s) b)
+good-drop xs s a b h = go (eqb a standingRetired) refl (eqb (dropSlot b s) 0) refl
+  where
+    both : a ≡ standingRetired → Slots xs b
+    both e = record { below = h .mask; reads = h .reads e }
+
+    go : (x : Bool) → eqb a standingRetired ≡ x → (y : Bool) → eqb (dropSlot b s) 0 ≡ y
+        → Good (set xs s noReader) (cond (x && y) standingFree a) (cond x (dropSlot b s) b)
+    go true e true z = rw (eqb-true (dropSlot b s) 0 z) (good-free (set xs s noReader))
+    go true e false z =
+        let i = eqb-true a standingRetired e in
+        let k = slots-drop xs s b (both i) in
+        record { rank = h .rank; mask = k .below; holder = λ _. eqb-false (dropSlot b s) 0 z; reads = λ _. k .reads }
+    go false e y z =
+        let d = eqb-false a standingRetired e in
+        record { rank = h .rank; mask = h .mask; holder = λ i. absurd (d i); reads = λ i. absurd (d i) }
+
+pub own-end : (st : State) (l : List ℕ) (s : ℕ) → Owned st l → Owned (endReading st s) (l ++ freedBelow (st .pool) s (nodes (st .pool) + 1))
+unfolding withReader withAwaited
+own-end st l s h =
+    let p = st .pool in
+    let d = end-released st s l (h .stock) in
+    let xs = st .register .readers in
+    record {
+      stock = d .stock;
+      good = λ n hn. (
+          let k = node-length (endReading st s .pool) p n (sym (d .size)) hn in
+          let u : n < nodes p + 1 = (let a = node-high p n k in omega arith) in
+          rw (d .standing n u, d .holders n u, d .else .readers) (good-drop xs s (word p n standingWord) (word p n holdersWord) (h .good n k))
+          );
+      awaited = rw (d .else .readers, d .else .awaited) (slots-drop xs s (st .register .awaited) (h .awaited));
+      eight = ap length (d .else .readers) ∙ length-set xs s noReader ∙ h .eight;
+    }
+
+-- Retire and take.
+pub own-free : (st : State) (l : List ℕ) (n : ℕ) → Owned st l → Node (st .pool) n → word (st .pool) n standingWord ≢ standingFree → Owned (freeNode st n) (l ++ n ∷ [])
+own-free st l n h hn d =
+    let p = st .pool in
+    let e = else-free (st .register) st n (record { root = refl; held = refl; readers = refl; awaited = refl; write = refl }) in
+    record {
+      stock = free-stock st l n (h .stock) hn d;
+      good = λ m hm. rw (e .readers) (elim (ℕ-discrete n m) [
+        | yes i ↦ rw (← i, free-standing st n hn, free-holders st n hn) (good-free (st .register .readers))
+        | no c ↦ rw (free-other st n m standingWord c (omega arith), free-other st n m holdersWord c (omega arith))
+            (h .good m (node-length (freeNode st n .pool) p m (sym (free-length st n)) hm))
+      ]);
+      awaited = rw (e .readers, e .awaited) (h .awaited);
+      eight = ap length (e .readers) ∙ h .eight;
+    }
+
+-- two words of a node that stands linked or retired
+pub own-mark : (st : State) (l : List ℕ) (n a b : ℕ) → Owned st l → Node (st .pool) n → word (st .pool) n standingWord ≢ standingFree → a ≢ standingFree
+    → Good (st .register .readers) a b → Owned (state (marked (st .pool) n a b) (st .register)) l
+own-mark st l n a b h hn d e g =
+    let p = st .pool in
+    record {
+      stock = mark-stock st l n a b (h .stock) hn d e;
+      good = λ m hm. elim (ℕ-discrete n m) [
+        | yes i ↦ rw (← i, marked-standing p n a b hn, marked-holders p n a b hn) g
+        | no c ↦ rw (marked-other p n a b m standingWord (omega arith) c, marked-other p n a b m holdersWord (omega arith) c)
+            (h .good m (node-length (marked p n a b) p m (sym (marked-length p n a b)) hm))
+      ];
+      awaited = h .awaited;
+      eight = h .eight;
+    }
+
+-- the nodes that a retire frees: with none reading the node itself
+abbrev pub freedNow : Register → ℕ → List ℕ
+freedNow r n = cond (eqb (readingSlots r) 0) (n ∷ []) []
+
+pub own-retire : (st : State) (l : List ℕ) (n : ℕ) → Owned st l → Node (st .pool) n → word (st .pool) n standingWord ≢ standingFree → Owned (retire st n) (l ++ freedNow (st .register) n)
+own-retire st l n h hn d = elim (ℕ-discrete (readingSlots (st .register)) 0) [
+  | yes e ↦ rw (retire-none st n e, eq-eqb (readingSlots (st .register)) 0 e) (own-free st l n h hn d)
+  | no c ↦ rw (retire-some st n c, ne-eqb (readingSlots (st .register)) 0 c, append-nil l)
+      (own-mark st l n standingRetired (readingSlots (st .register)) h hn d (omega arith) (good-retired (st .register) c))
+]
+
+pub own-take : (st : State) (n : ℕ) (l : List ℕ) (k v : ℕ) (s : Side) (x y c : ℕ) → Owned st (n ∷ l) → Owned (takeNode st k v s x y c) l
+unfolding takeNode takeFree withQueue
+own-take st n l k v s x y c h =
+    let p = st .pool in
+    let a = st .register .first in
+    let first : a ≡ n = h .stock .queued .chain .0 in
+    let ha : Node p a = rw first (h .stock .standing n .0 (inl refl) .0) in
+    let q = fillNode p a k v s x y c in
+    record {
+      stock = take-stock st n l k v s x y c (h .stock);
+      good = λ m hm. elim (ℕ-discrete a m) [
+        | yes i ↦ rw (← i, fill-standing p a k v s x y c ha, fill-holders p a k v s x y c ha) (good-linked (st .register .readers))
+        | no d ↦ rw (fill-other p a k v s x y c m standingWord (omega arith) d, fill-other p a k v s x y c m holdersWord (omega arith) d)
+            (h .good m (node-length q p m (sym (fill-length p a k v s x y c)) hm))
+      ];
+      awaited = h .awaited;
+      eight = h .eight;
+    }
+
+-- key, record, links and colour
+pub own-word : (st : State) (l : List ℕ) (n f v : ℕ) → f < standingWord → Owned st l → Owned (state (setWord (st .pool) n f v) (st .register)) l
+own-word st l n f v u h =
+    let p = st .pool in
+    record {
+      stock = word-stock st l n f v u (h .stock);
+      good = λ m hm. rw (word-other p n m f standingWord v (omega arith) (omega arith) (inr (omega arith)), word-other p n m f holdersWord v (omega arith) (omega arith) (inr (omega arith)))
+          (h .good m (node-length (setWord p n f v) p m (sym (length-setWord p n f v)) hm));
+      awaited = h .awaited;
+      eight = h .eight;
+    }

@@ -1,0 +1,145 @@
+-- What a reader's turn answers is right: one of the answers possible so far.
+use Prim.Native.Nat.{ℕ, _<_}
+use mathlib.Core.Path.{_≡_, refl, sym, ap, _∙_, subst}
+use mathlib.Core.Bool.{Bool, true, false}
+use mathlib.Core.List.{List}
+use mathlib.Core.Option.{Option, none, some}
+use mathlib.Core.Logic.{_≢_, _⊎_, inl, inr}
+use native.Mathlib.Omega.{arith}
+use lib.ListN.{length}
+use Rattle.types.specs.declared.Reader.{Reader}
+use Rattle.types.specs.declared.Register.{Register}
+use Rattle.spec.specs.Pool.{word, child, keyWord, recordWord, slots}
+use Rattle.spec.specs.Register.{State, state, readerOf, storeOf, withReader}
+use Rattle.spec.specs.Turn.{stepMade, Made}
+use Rattle.spec.specs.Search.{towards}
+use Rattle.spec.specs.Calls.{Answer, ok, go, absent, wait, found, more, done, refused, Outcome, stored, reading, Call, inserting, deleting, writing, beginning, turning, givingUp}
+use Rattle.spec.specs.PlainList.{Plain, recordFor}
+use Rattle.tree.specs.Linked.{Linked, nil, cell, find}
+use Rattle.heap.specs.Rep.{Rep}
+use Rattle.readers.specs.Marks.{reader-same}
+use Rattle.readers.specs.Lookups.{Finds}
+use Rattle.readers.specs.Descends.{turn-found, turn-finds, turn-absent}
+use Rattle.readers.specs.Does.{Does, refuses, plansInsert, plansDelete, waits, stores, begins, loads, misses, finds, leaves, Loads, atRoot, atNode, Passed}
+use Rattle.readers.specs.Safe.{Safe}
+use Rattle.runs.specs.Writer.{Writer}
+use Rattle.runs.specs.Sound.{Sound}
+use Rattle.runs.specs.Slot.{Stand, stand-begin}
+use Rattle.runs.specs.Follow.{StandAt}
+
+-- which slot a call names, and which call it is
+abbrev slotOf : Call → ℕ
+slotOf (inserting k v) = 0
+slotOf (deleting k) = 0
+slotOf writing = 0
+slotOf (beginning s k) = s
+slotOf (turning s) = s
+slotOf (givingUp s) = s
+
+abbrev keyOf : Call → ℕ
+keyOf (inserting k v) = k
+keyOf (deleting k) = k
+keyOf writing = 0
+keyOf (beginning s k) = k
+keyOf (turning s) = 0
+keyOf (givingUp s) = 0
+
+abbrev kindOf : Call → ℕ
+kindOf (inserting k v) = 0
+kindOf (deleting k) = 1
+kindOf writing = 2
+kindOf (beginning s k) = 3
+kindOf (turning s) = 4
+kindOf (givingUp s) = 5
+
+-- which answer it is, and its record
+abbrev toldOf : Answer → ℕ
+toldOf ok = 0
+toldOf go = 1
+toldOf absent = 2
+toldOf wait = 3
+toldOf (found v) = 4
+toldOf (more l n) = 5
+toldOf (done l n) = 6
+toldOf (refused n) = 7
+
+abbrev recordOf : Answer → ℕ
+recordOf ok = 0
+recordOf go = 0
+recordOf absent = 0
+recordOf wait = 0
+recordOf (found v) = v
+recordOf (more l n) = 0
+recordOf (done l n) = 0
+recordOf (refused n) = 0
+
+nil-none : (p : List ℕ) (a : ℕ) (T : Linked) (k : ℕ) → Rep p a T → a ≡ 0 → find T k ≡ none
+nil-none p a nil k h e = refl
+nil-none p a (cell N l r) k h e = let i = h .0 .is in let j = h .0 .within .low in absurd (omega arith)
+
+begun-stand : (st : State) (A : Option ℕ → Type 0) (s k t j : ℕ) → t ≡ s → j ≡ k → t < length (st .register .readers)
+    → StandAt (state (st .pool) (withReader (st .register) t (record { reading = true; key = j; node = 0 }))) A s k
+begun-stand st A s k t j e f u =
+    subst (λ m. StandAt (state (st .pool) (withReader (st .register) t (record { reading = true; key = j; node = 0 }))) A m k) e
+    (subst (λ m. StandAt (state (st .pool) (withReader (st .register) t (record { reading = true; key = j; node = 0 }))) A t m) f
+    (subst (λ y. Stand (st .pool) (withReader (st .register) t (record { reading = true; key = j; node = 0 }) .root) (withReader (st .register) t (record { reading = true; key = j; node = 0 }) .awaited) y A t j)
+    (sym (reader-same (st .register) t (record { reading = true; key = j; node = 0 }) u)) (stand-begin _ _ _ A t j)))
+
+-- an accepted begin
+pub begun-right : (st : State) (c : Call) (o : Outcome) (A : Option ℕ → Type 0) (s k : ℕ) → Does st c o → Safe st → c ≡ beginning s k → o .answer ≡ ok → (s < slots) × StandAt (o .after) A s k
+begun-right st c o A s k (refuses d n) safe e a = absurd (let z = ap toldOf a in omega arith)
+begun-right st c o A s k (plansInsert j v f) safe e a = absurd (let z = ap kindOf e in omega arith)
+begun-right st c o A s k (plansDelete j f) safe e a = absurd (let z = ap kindOf e in omega arith)
+begun-right st c o A s k (waits f) safe e a = absurd (let z = ap kindOf e in omega arith)
+begun-right st c o A s k (stores f g i) safe e a = absurd (let z = ap kindOf e in omega arith)
+begun-right st c o A s k (begins t j u f) safe e a =
+    let y = ap slotOf e in
+    let z = ap keyOf e in
+    (subst (λ m. m < slots) y u, begun-stand st A s k t j y z (rw (safe .owned .eight) u))
+begun-right st c o A s k (loads t n p l f) safe e a = absurd (let z = ap kindOf e in omega arith)
+begun-right st c o A s k (misses t n p l f) safe e a = absurd (let z = ap kindOf e in omega arith)
+begun-right st c o A s k (finds t p f g) safe e a = absurd (let z = ap kindOf e in omega arith)
+begun-right st c o A s k (leaves t p) safe e a = absurd (let z = ap kindOf e in omega arith)
+
+module _ (W : State → Plain → Linked → Type 0) (writer : Writer W) where
+  -- found
+  pub found-right : (st : State) (x : Plain) (c : Call) (o : Outcome) (A : Option ℕ → Type 0) (s k v : ℕ) → Does st c o → Sound W writer st x → c ≡ turning s → o .answer ≡ found v → StandAt st A s k → A (some v)
+  found-right st x c o A s k v (refuses d n) h e a g = absurd (let z = ap toldOf a in omega arith)
+  found-right st x c o A s k v (plansInsert j w f) h e a g = absurd (let z = ap kindOf e in omega arith)
+  found-right st x c o A s k v (plansDelete j f) h e a g = absurd (let z = ap kindOf e in omega arith)
+  found-right st x c o A s k v (waits f) h e a g = absurd (let z = ap kindOf e in omega arith)
+  found-right st x c o A s k v (stores f i j) h e a g = absurd (let z = ap kindOf e in omega arith)
+  found-right st x c o A s k v (begins t j u f) h e a g = absurd (let z = ap kindOf e in omega arith)
+  found-right st x c o A s k v (loads t n p l f) h e a g = absurd (let z = ap toldOf a in omega arith)
+  found-right st x c o A s k v (misses t n p l f) h e a g = absurd (let z = ap toldOf a in omega arith)
+  found-right st x c o A s k v (finds t p d f) h e a g =
+      let y = ap slotOf e in
+      let z = ap recordOf a in
+      let d′ = subst (λ m. readerOf (st .register) m .node ≢ 0) y d in
+      let f′ = subst (λ m. readerOf (st .register) m .key ≡ word (st .pool) (readerOf (st .register) m .node) keyWord) y f in
+      let z′ = subst (λ m. word (st .pool) (readerOf (st .register) m .node) recordWord ≡ v) y z in
+      subst (λ w. A (some w)) z′ (turn-found (st .pool) A (readerOf (st .register) s .node) k d′ (sym (g .key) ∙ f′) (g .finds d′))
+  found-right st x c o A s k v (leaves t p) h e a g = absurd (let z = ap toldOf a in omega arith)
+
+  -- absent
+  pub absent-right : (st : State) (x : Plain) (c : Call) (o : Outcome) (A : Option ℕ → Type 0) (s k : ℕ) → Does st c o → Sound W writer st x → c ≡ turning s → o .answer ≡ absent
+      → A (recordFor k (x .tickets)) → StandAt st A s k → A none
+  absent-right st x c o A s k (refuses d n) h e a was g = absurd (let z = ap toldOf a in omega arith)
+  absent-right st x c o A s k (plansInsert j w f) h e a was g = absurd (let z = ap kindOf e in omega arith)
+  absent-right st x c o A s k (plansDelete j f) h e a was g = absurd (let z = ap kindOf e in omega arith)
+  absent-right st x c o A s k (waits f) h e a was g = absurd (let z = ap kindOf e in omega arith)
+  absent-right st x c o A s k (stores f i j) h e a was g = absurd (let z = ap kindOf e in omega arith)
+  absent-right st x c o A s k (begins t j u f) h e a was g = absurd (let z = ap kindOf e in omega arith)
+  absent-right st x c o A s k (loads t n p l f) h e a was g = absurd (let z = ap toldOf a in omega arith)
+  absent-right st x c o A s k (misses t n p l f) h e a was g = go (subst (λ m. Loads st m n) (ap slotOf e) l) f
+    where
+      go : Loads st s n → n ≡ 0 → A none
+      go (atRoot i j) z =
+          let T = h .tree in
+          subst A (sym (writer .finds st x T (h .holds) k) ∙ nil-none (st .pool) (st .register .root) T k (writer .unfolds st x T (h .holds)) (sym j ∙ z)) was
+      go (atNode d i j) z =
+          let m = readerOf (st .register) s .node in
+          turn-absent (st .pool) A k (child (st .pool) (towards (st .pool) k m) m) (ap (λ y. child (st .pool) (towards (st .pool) y m) m) (sym (g .key)) ∙ sym j ∙ z)
+          (turn-finds (st .pool) A m k d (λ y. i (g .key ∙ y)) (g .finds d))
+  absent-right st x c o A s k (finds t p d f) h e a was g = absurd (let z = ap toldOf a in omega arith)
+  absent-right st x c o A s k (leaves t p) h e a was g = absurd (let z = ap toldOf a in omega arith)

@@ -1,0 +1,9 @@
+pub mod Writer
+pub mod Sound
+pub mod Slot
+pub mod Follow
+pub mod Begin
+pub mod Answers
+pub mod Theorem
+pub mod Rest
+pub mod Whole

@@ -1,0 +1,217 @@
+-- The other promises about runs: the free queue, waits, writes done within seven stores, the tree at rest, and that 2 and 12 are never met.
+-- What of them is the writer's side alone is asked as `Completes`.
+use Prim.Native.Nat.{ℕ, zero, suc, _+_, _^_, _<_, _≤_}
+use mathlib.Core.Path.{_≡_, refl, sym, ap, _∙_, subst}
+use mathlib.Core.Bool.{Bool, true, false, cond, not, _&&_, false≢true}
+use mathlib.Core.List.{List, [], _∷_}
+use mathlib.Core.Option.{Option, none, some}
+use mathlib.Core.Logic.{_≢_, _⊎_, inl, inr, ⊎-elim, _↔_}
+use native.Mathlib.Omega.{arith}
+use native.Mathlib.Numerals.{add-one}
+use native.Mathlib.Decide.{ℕ-discrete}
+use lib.Dec.{eqb}
+use lib.ListN.{length}
+use borrow.Author.Tests.{eqb-true, eqb-false, eq-eqb, ne-eqb}
+use Rattle.types.specs.declared.Link.{Link}
+use Rattle.types.specs.declared.Register.{Register}
+use Rattle.sequential.specs.Tree.{leaf}
+use Rattle.sequential.specs.Delete.{changedBy}
+use Rattle.spec.specs.Pool.{word, colourWord, nodes, slots, lengthRight}
+use Rattle.spec.specs.Register.{State, state, mostStores, storeOf, hasSlot, withWrite, lessFirst}
+use Rattle.spec.specs.Turn.{Made, stepFinds, stepMade}
+use Rattle.spec.specs.Calls.{Answer, ok, go, absent, wait, found, more, done, refused, Outcome, outcome, stored, Test, _gives_, firstOf, unless, wrongLength, outOfRange, slotTooHigh, reading, writeInHand, placeOf, tooDeep, isHeld, full, fewerFree, insertAt, deleteAt, insert, delete, writerTurn, begin, readerTests, readerStep, readerTurn, giveUp, Call, inserting, deleting, writing, beginning, turning, givingUp, call}
+use Rattle.spec.specs.PlainList.{Plain, accepted}
+use Rattle.laws.specs.Words.{Node}
+use Rattle.laws.specs.Slots.{no-slot}
+use Rattle.tree.specs.Linked.{Linked}
+use Rattle.promise.specs.Run.{Moment, thenPerhaps, callAt, after, indexAfter, plainAfter, Gives}
+use Rattle.promise.specs.Demands.{Stands, FreeRight, Demand2, NeverMet}
+use Rattle.readers.specs.Words.{node-high, node-in}
+use Rattle.readers.specs.Owned.{Slots}
+use Rattle.readers.specs.Does.{Does, does, refuses, plansInsert, plansDelete, waits, stores, begins, loads, misses, finds, leaves, testsOf, insertTests, deleteTests, turnTests, beginTests, own, not-false}
+use Rattle.readers.specs.Safe.{Safe}
+use Rattle.runs.specs.Writer.{Writer, afterStore}
+use Rattle.runs.specs.Sound.{Sound}
+use Rattle.runs.specs.Theorem.{sound-at}
+
+-- the free queue
+pub safe-free : (st : State) → Safe st → FreeRight st
+safe-free st h =
+    let z = h .owned .stock in
+    record {
+      queue = h .queue;
+      queued = z .queued;
+      once = z .once;
+      standing = λ n. (
+        λ i. (let a = z .standing n .0 i in (a .0 .low, node-high (st .pool) n (a .0), a .1)),
+        λ a. z .standing n .1 (node-in (st .pool) n (a .0) (a .1), a .2),
+      );
+      counted = z .counted;
+    }
+
+-- a mask that is not 0 has a slot
+find-slot : (w m : ℕ) → ((s : ℕ) × (s < w) × (hasSlot m s ≡ true)) ⊎ ((s : ℕ) → s < w → hasSlot m s ≡ false)
+find-slot zero m = inr (λ s u. absurd (omega arith))
+find-slot (suc w) m = go (hasSlot m w) refl (find-slot w m)
+  where
+    go : (b : Bool) → hasSlot m w ≡ b → ((s : ℕ) × (s < w) × (hasSlot m s ≡ true)) ⊎ ((s : ℕ) → s < w → hasSlot m s ≡ false)
+        → ((s : ℕ) × (s < suc w) × (hasSlot m s ≡ true)) ⊎ ((s : ℕ) → s < suc w → hasSlot m s ≡ false)
+    go true e r = inl (w, omega arith, e)
+    go false e (inl r) = inl (r .0, (let a = r .1 in omega arith), r .2)
+    go false e (inr r) = inr (λ s u. elim (ℕ-discrete s w) [ yes i ↦ rw i e | no d ↦ r s (omega arith) ])
+
+pub some-slot : (m : ℕ) → m < 2 ^ slots → m ≢ 0 → (s : ℕ) × (s < slots) × (hasSlot m s ≡ true)
+some-slot m u d = go (find-slot slots m)
+  where
+    go : ((s : ℕ) × (s < slots) × (hasSlot m s ≡ true)) ⊎ ((s : ℕ) → s < slots → hasSlot m s ≡ false) → (s : ℕ) × (s < slots) × (hasSlot m s ≡ true)
+    go (inl r) = r
+    go (inr r) = absurd (d (no-slot slots m u r))
+
+abbrev pub toldOf : Answer → ℕ
+toldOf ok = 0
+toldOf go = 1
+toldOf absent = 2
+toldOf wait = 3
+toldOf (found v) = 4
+toldOf (more l n) = 5
+toldOf (done l n) = 6
+toldOf (refused n) = 7
+
+-- a store answers more while stores are left, else done
+pub stored-told : (m : Made) → (toldOf (stored m .answer) ≡ 6) ⊎ ((toldOf (stored m .answer) ≡ 5) × (stored m .after .register .write .count ≢ 0))
+unfolding stored withWrite
+stored-told m = go (eqb (lessFirst (m .after .register .write) .count) 0) refl
+  where
+    go : (b : Bool) → eqb (lessFirst (m .after .register .write) .count) 0 ≡ b
+        → (toldOf (cond b (done (m .link) (m .node)) (more (m .link) (m .node))) ≡ 6) ⊎ ((toldOf (cond b (done (m .link) (m .node)) (more (m .link) (m .node))) ≡ 5) × (lessFirst (m .after .register .write) .count ≢ 0))
+    go true e = inl refl
+    go false e = inr (refl, eqb-false _ 0 e)
+
+stored-not : (m : Made) → ¬ (stored m .answer ≡ wait)
+stored-not m e = ⊎-elim (λ a. let z = ap toldOf e in omega arith) (λ a. let z = ap toldOf e in let b = a .0 in omega arith) (stored-told m)
+
+-- a turn answers wait only while an awaited slot is reading
+pub wait-right : (st : State) (c : Call) (o : Outcome) → Does st c o → Safe st → o .answer ≡ wait → (s : ℕ) × (s < slots) × (hasSlot (st .register .awaited) s ≡ true) × (reading st s ≡ true)
+wait-right st c o (refuses d n) h e = absurd (let z = ap toldOf e in omega arith)
+wait-right st c o (plansInsert j v f) h e = absurd (let z = ap toldOf e in omega arith)
+wait-right st c o (plansDelete j f) h e = absurd (let z = ap toldOf e in omega arith)
+wait-right st c o (waits d) h e =
+    let a = h .owned .awaited in
+    let s = some-slot (st .register .awaited) (a .below) d in
+    (s .0, s .1, s .2, a .reads (s .0) (s .1) (s .2))
+wait-right st c o (stores a w f) h e = absurd (stored-not (stepMade st (storeOf (st .register) 0 .link) (storeOf (st .register) 0 .step)) e)
+wait-right st c o (begins t j u f) h e = absurd (let z = ap toldOf e in omega arith)
+wait-right st c o (loads t n p l f) h e = absurd (let z = ap toldOf e in omega arith)
+wait-right st c o (misses t n p l f) h e = absurd (let z = ap toldOf e in omega arith)
+wait-right st c o (finds t p d f) h e = absurd (let z = ap toldOf e in omega arith)
+wait-right st c o (leaves t p) h e = absurd (let z = ap toldOf e in omega arith)
+
+-- No test that gives the number n refuses: each gives another, or its cause fails where it is tested.
+abbrev Avoids : ℕ → List Test → Type 0
+Avoids n [] = Unit {0}
+Avoids n ((b gives k) ∷ ts) = ((k ≢ n) ⊎ (b ≡ false)) × (b ≡ false → Avoids n ts)
+
+avoided : (n : ℕ) (ts : List Test) → n ≢ 0 → Avoids n ts → firstOf ts ≢ n
+avoided n [] d h e = d (sym e)
+avoided n ((true gives k) ∷ ts) d h e = go (h .0)
+  where
+    go : (k ≢ n) ⊎ (true ≡ false) → ⊥
+    go (inl x) = x e
+    go (inr x) = false≢true (sym x)
+avoided n ((false gives k) ∷ ts) d h e = avoided n ts d (h .1 refl) e
+
+abbrev numberOf : Answer → ℕ
+numberOf ok = 0
+numberOf go = 0
+numberOf absent = 0
+numberOf wait = 0
+numberOf (found v) = 0
+numberOf (more l n) = 0
+numberOf (done l n) = 0
+numberOf (refused n) = n
+
+stored-number : (m : Made) → numberOf (stored m .answer) ≡ 0
+unfolding stored
+stored-number m = go (eqb (lessFirst (m .after .register .write) .count) 0)
+  where
+    go : (b : Bool) → numberOf (cond b (done (m .link) (m .node)) (more (m .link) (m .node))) ≡ 0
+    go true = refl
+    go false = refl
+
+-- a refusal is its tests'
+pub refused-by : (st : State) (c : Call) (o : Outcome) (n : ℕ) → n ≢ 0 → Does st c o → o .answer ≡ refused n → firstOf (testsOf st c) ≡ n
+refused-by st c o n z (refuses d x) e = ap numberOf e
+refused-by st c o n z (plansInsert j v f) e = absurd (z (sym (ap numberOf e)))
+refused-by st c o n z (plansDelete j f) e = absurd (z (sym (ap numberOf e)))
+refused-by st c o n z (waits d) e = absurd (z (sym (ap numberOf e)))
+refused-by st c o n z (stores a w f) e = absurd (z (sym (sym (stored-number (stepMade st (storeOf (st .register) 0 .link) (storeOf (st .register) 0 .step))) ∙ ap numberOf e)))
+refused-by st c o n z (begins t j u f) e = absurd (z (sym (ap numberOf e)))
+refused-by st c o n z (loads t m p l f) e = absurd (z (sym (ap numberOf e)))
+refused-by st c o n z (misses t m p l f) e = absurd (z (sym (ap numberOf e)))
+refused-by st c o n z (finds t p d f) e = absurd (z (sym (ap numberOf e)))
+refused-by st c o n z (leaves t p) e = absurd (z (sym (ap numberOf e)))
+
+pub not-two : (st : State) (c : Call) → outOfRange st ≡ false → firstOf (testsOf st c) ≢ 2
+not-two st (inserting k v) r =
+    avoided 2 (insertTests st k v) (omega arith)
+    (inl (omega arith), λ _. (inr r, λ _. (inl (omega arith), λ _. (inl (omega arith), λ _. (inl (omega arith), λ _. (inl (omega arith), λ _. (inl (omega arith), λ _. (inl (omega arith), λ _. tt))))))))
+not-two st (deleting k) r =
+    avoided 2 (deleteTests st k) (omega arith)
+    (inl (omega arith), λ _. (inr r, λ _. (inl (omega arith), λ _. (inl (omega arith), λ _. (inl (omega arith), λ _. (inl (omega arith), λ _. (inl (omega arith), λ _. tt)))))))
+not-two st writing r = avoided 2 (turnTests st) (omega arith) (inl (omega arith), λ _. (inr r, λ _. (inl (omega arith), λ _. (inl (omega arith), λ _. tt))))
+not-two st (beginning s k) r = avoided 2 (beginTests st s) (omega arith) (inl (omega arith), λ _. (inr r, λ _. (inl (omega arith), λ _. (inl (omega arith), λ _. tt))))
+not-two st (turning s) r = avoided 2 (readerTests st s) (omega arith) (inl (omega arith), λ _. (inr r, λ _. (inl (omega arith), λ _. (inl (omega arith), λ _. tt))))
+not-two st (givingUp s) r = avoided 2 (readerTests st s) (omega arith) (inl (omega arith), λ _. (inr r, λ _. (inl (omega arith), λ _. (inl (omega arith), λ _. tt))))
+
+-- What the writer's side gives of these.
+pub record Completes (W : State → Plain → Linked → Type 0) : Type 0 where
+  pub rest : (st : State) (x : Plain) (T : Linked) → W st x T → ((n : ℕ) → word (st .pool) n colourWord ≤ 1) → writeInHand st ≡ false → Stands (st .pool) (st .register .root) (changedBy leaf (accepted x))
+  pub few : (st : State) (x : Plain) (T : Linked) → W st x T → writeInHand st ≡ true → x .made + st .register .write .count ≤ mostStores
+  pub insertGoes : (st : State) (x : Plain) (T : Linked) (k v : ℕ) → Safe st → W st x T → writeInHand st ≡ false
+      → (tooDeep (placeOf st k) ≡ false) × (isHeld (placeOf st k) ≡ false → fewerFree st 3 ≡ false → insertAt st k v (placeOf st k) .possible ≡ true)
+  pub deleteGoes : (st : State) (x : Plain) (T : Linked) (k : ℕ) → Safe st → W st x T → writeInHand st ≡ false
+      → (tooDeep (placeOf st k) ≡ false) × (isHeld (placeOf st k) ≡ true → fewerFree st 4 ≡ false → deleteAt st (placeOf st k) .possible ≡ true)
+  pub stepGoes : (st : State) (x : Plain) (T : Linked) → Safe st → W st x T → st .register .awaited ≡ 0 → writeInHand st ≡ true
+      → stepFinds st (storeOf (st .register) 0 .link) (storeOf (st .register) 0 .step) ≡ true
+
+not-true : (b : Bool) → b ≡ true → not b ≡ false
+not-true b e = rw e
+
+pub not-twelve : (W : State → Plain → Linked → Type 0) → Completes W → (st : State) (x : Plain) (T : Linked) → Safe st → W st x T → (c : Call) → firstOf (testsOf st c) ≢ 12
+not-twelve W w st x T h g (inserting k v) =
+    avoided 12 (insertTests st k v) (omega arith) (
+      inl (omega arith),
+      λ _. (
+        inl (omega arith),
+        λ _. (
+          inl (omega arith),
+          λ n. (
+              let z = w .insertGoes st x T k v h g n in
+              (inr (z .0), λ _. (inl (omega arith), λ d. (inl (omega arith), λ _. (inl (omega arith), λ f. (inr (not-true _ (z .1 d f)), λ _. tt)))))
+              ),
+        ),
+      ),
+    )
+not-twelve W w st x T h g (deleting k) =
+    avoided 12 (deleteTests st k) (omega arith) (
+      inl (omega arith),
+      λ _. (
+        inl (omega arith),
+        λ _. (
+          inl (omega arith),
+          λ n. (
+              let z = w .deleteGoes st x T k h g n in
+              (inr (z .0), λ _. (inl (omega arith), λ d. (inl (omega arith), λ f. (inr (not-true _ (z .1 (not-false _ d) f)), λ _. tt))))
+              ),
+        ),
+      ),
+    )
+not-twelve W w st x T h g writing =
+    avoided 12 (turnTests st) (omega arith) (inl (omega arith), λ _. (inl (omega arith), λ _. (inl (omega arith), λ n. (inr (go (eqb (st .register .awaited) 0) refl (not-false _ n)), λ _. tt))))
+  where
+    go : (b : Bool) → eqb (st .register .awaited) 0 ≡ b → writeInHand st ≡ true → (not (not b) && not (own st)) ≡ false
+    go true e n = not-true (own st) (w .stepGoes st x T h g (eqb-true (st .register .awaited) 0 e) n)
+    go false e n = refl
+not-twelve W w st x T h g (beginning s k) = avoided 12 (beginTests st s) (omega arith) (inl (omega arith), λ _. (inl (omega arith), λ _. (inl (omega arith), λ _. (inl (omega arith), λ _. tt))))
+not-twelve W w st x T h g (turning s) = avoided 12 (readerTests st s) (omega arith) (inl (omega arith), λ _. (inl (omega arith), λ _. (inl (omega arith), λ _. (inl (omega arith), λ _. tt))))
+not-twelve W w st x T h g (givingUp s) = avoided 12 (readerTests st s) (omega arith) (inl (omega arith), λ _. (inl (omega arith), λ _. (inl (omega arith), λ _. (inl (omega arith), λ _. tt))))

@@ -1,0 +1,206 @@
+-- A slot on its way: R1 and R2 of its node and key, kept by each call that does not end its reading.
+use Prim.Native.Nat.{ℕ, _<_, _≤_}
+use mathlib.Core.Path.{_≡_, refl, sym, ap, _∙_, subst}
+use mathlib.Core.Bool.{Bool, true, false, cond, false≢true}
+use mathlib.Core.List.{List, [], _∷_, _++_}
+use mathlib.Core.Option.{Option, none, some}
+use mathlib.Core.Logic.{_≢_, _⊎_, inl, inr, ⊎-elim, ⊎-map, _↔_}
+use native.Mathlib.Omega.{arith}
+use native.Mathlib.Decide.{ℕ-discrete}
+use lib.ListN.{length}
+use lib.Dec.{eqb}
+use borrow.Author.Tests.{ne-eqb}
+use Rattle.types.specs.declared.Side.{Side}
+use Rattle.types.specs.declared.Side.the-variants.{L, R}
+use Rattle.types.specs.declared.Link.{Link}
+use Rattle.types.specs.declared.Link.the-variants.{Root, Left, Right}
+use Rattle.types.specs.declared.Reader.{Reader}
+use Rattle.types.specs.declared.Register.{Register}
+use Rattle.spec.specs.Pool.{word, child, keyWord, recordWord, slots, standingWord, standingFree, standingLinked}
+use Rattle.spec.specs.Register.{State, state, readerOf, hasSlot, dropSlot, readingSlots}
+use Rattle.spec.specs.Free.{endReading}
+use Rattle.spec.specs.Search.{towards}
+use Rattle.laws.specs.Words.{word-none}
+use Rattle.tree.specs.Distinct.{_∈_, in-append}
+use Rattle.tree.specs.Thin.{Thin, thin-weaken}
+use Rattle.tree.specs.Linked.{Node, Linked, nil, cell, find, path, nodes}
+use Rattle.heap.specs.Rep.{Rep, Alike, rep-alike}
+use Rattle.readers.specs.Marks.{no-bit, reading-bit}
+use Rattle.readers.specs.Reach.{Stands, Kept, Closed, kept-stands, kept-child, kept-store, not-again}
+use Rattle.readers.specs.Fates.{Reading}
+use Rattle.readers.specs.Graft.{All, all-map, Redirects, hits}
+use Rattle.readers.specs.Lookups.{Unlinked, Finds, OnWay, Store, store-finds, store-way, Anew, anew-finds, anew-way, root-way}
+use Rattle.readers.specs.Descends.{turn-finds, turn-way}
+use Rattle.readers.specs.Stored.{OwnerLinked, rootAfter}
+use Rattle.readers.specs.Turns.{Turn}
+
+-- R2 of slot s at node n
+pub record Route (p : List ℕ) (root s n k : ℕ) : Type 0 where
+  pub seen : List ℕ
+  pub kept : (m : ℕ) → m ∈ seen → Kept p s m
+  pub way : OnWay p root seen n k
+
+-- The slot's record is x. Before its first turn nothing is asked: it will load the root.
+pub record Stand (p : List ℕ) (root awaited : ℕ) (x : Reader) (A : Option ℕ → Type 0) (s k : ℕ) : Type 0 where
+  pub reads : x .reading ≡ true
+  pub key : x .key ≡ k
+  pub finds : x .node ≢ 0 → Finds p A (x .node) k
+  pub way : x .node ≢ 0 → (hasSlot awaited s ≡ true) ⊎ Route p root s (x .node) k
+
+pub finds-more : (p : List ℕ) (A A′ : Option ℕ → Type 0) (n k : ℕ) → ((o : Option ℕ) → A o → A′ o) → Finds p A n k → Finds p A′ n k
+finds-more p A A′ n k more f = record { tree = f .tree; unfolds = f .unfolds; answer = more _ (f .answer) }
+
+pub stand-more : (p : List ℕ) (root awaited : ℕ) (x : Reader) (A A′ : Option ℕ → Type 0) (s k : ℕ) → ((o : Option ℕ) → A o → A′ o) → Stand p root awaited x A s k → Stand p root awaited x A′ s k
+stand-more p root awaited x A A′ s k more h = record { reads = h .reads; key = h .key; finds = λ d. finds-more p A A′ (x .node) k more (h .finds d); way = h .way }
+
+-- a slot begins
+pub stand-begin : (p : List ℕ) (root awaited : ℕ) (A : Option ℕ → Type 0) (s k : ℕ) → Stand p root awaited (record { reading = true; key = k; node = 0 }) A s k
+stand-begin p root awaited A s k = record { reads = refl; key = refl; finds = λ d. absurd (d refl); way = λ d. absurd (d refl) }
+
+-- it loads the root
+pub stand-root : (p : List ℕ) (root awaited : ℕ) (A : Option ℕ → Type 0) (s k j : ℕ) (T : Linked) → j ≡ k → Rep p root T → A (find T k)
+    → Stand p root awaited (record { reading = true; key = j; node = root }) A s k
+stand-root p root awaited A s k j T e r a = record {
+  reads = refl;
+  key = e;
+  finds = λ d. record { tree = T; unfolds = r; answer = a };
+  way = λ d. inr (record { seen = []; kept = λ m i. absurd i; way = root-way p root k T r });
+}
+
+-- it loads the child
+pub stand-child : (p : List ℕ) (root awaited : ℕ) (x : Reader) (A : Option ℕ → Type 0) (s k : ℕ) → x .node ≢ 0 → x .key ≢ word p (x .node) keyWord → Kept p s (x .node)
+    → Stand p root awaited x A s k → Stand p root awaited (record { reading = true; key = x .key; node = child p (towards p (x .key) (x .node)) (x .node) }) A s k
+stand-child p root awaited x A s k d e kp h =
+    let i = h .key in
+    let e′ : k ≢ word p (x .node) keyWord = λ z. e (i ∙ z) in
+    record {
+      reads = refl;
+      key = i;
+      finds = λ _. rw i (turn-finds p A (x .node) k d e′ (h .finds d));
+      way = λ _. ⊎-map (λ z. z)
+          (λ r. rw i (record {
+            seen = r .seen ++ x .node ∷ [];
+            kept = λ m j. ⊎-elim (r .kept m) (λ l. ⊎-elim (λ q. subst (λ y. Kept p s y) (sym q) kp) (λ z. absurd z) l) (in-append m (r .seen) (x .node ∷ []) .0 j);
+            way = turn-way p root (r .seen) (x .node) k d e′ (r .way);
+          }))
+          (h .way d);
+    }
+
+-- Another slot ends: links, keys and records stay, the same nodes are linked, and what is kept for this slot stays kept.
+pub stand-alike : (p q : List ℕ) (root awaited awaited′ : ℕ) (x : Reader) (A : Option ℕ → Type 0) (s k : ℕ) → Alike 4 p q
+    → ((n : ℕ) → Stands q n standingLinked → Stands p n standingLinked) → ((n : ℕ) → Kept p s n → Kept q s n) → hasSlot awaited′ s ≡ hasSlot awaited s
+    → Stand p root awaited x A s k → Stand q root awaited′ x A s k
+stand-alike p q root awaited awaited′ x A s k a linked kept e h = record {
+  reads = h .reads;
+  key = h .key;
+  finds = λ d. (let f = h .finds d in record { tree = f .tree; unfolds = rep-alike a (f .tree) (x .node) (f .unfolds); answer = f .answer });
+  way = λ d. ⊎-map (λ z. e ∙ z)
+      (λ r. (let w = r .way in record {
+        seen = r .seen;
+        kept = λ m i. kept m (r .kept m i);
+        way = record {
+          tree = w .tree;
+          whole = w .whole;
+          unfolds = rep-alike a (w .tree) (x .node) (w .unfolds);
+          rooted = rep-alike a (w .whole) root (w .rooted);
+          follows = thin-weaken (λ n u z. u (linked n z)) (w .follows);
+        };
+      }))
+      (h .way d);
+}
+
+-- A store. All of a tree below a kept node is kept.
+pub all-kept : (p : List ℕ) (s : ℕ) → s < slots → Closed p → (t : Linked) (a : ℕ) → Rep p a t → (a ≢ 0 → Kept p s a) → All (Kept p s) t
+all-kept p s u c nil a h k = tt
+all-kept p s u c (cell N l r) a h k =
+    let d : a ≢ 0 = (let i = h .0 .is in let j = h .0 .within .low in omega arith) in
+    let top : Kept p s (N .num) = subst (λ n. Kept p s n) (h .0 .is) (k d) in
+    (top, all-kept p s u c l _ (h .1) (λ z. kept-child p s (N .num) L u c top z), all-kept p s u c r _ (h .2) (λ z. kept-child p s (N .num) R u c top z))
+
+abbrev pub NotFree : List ℕ → ℕ → Type 0
+NotFree p n = word p n standingWord ≢ standingFree
+
+all-nodes : (U : ℕ → Type 0) (t : Linked) → ((n : ℕ) → n ∈ nodes t → U n) → All U t
+all-nodes U nil h = tt
+all-nodes U (cell N l r) h =
+    (h (N .num) (inl refl), all-nodes U l (λ n i. h n (inr (in-append n (nodes l) (nodes r) .1 (inl i)))), all-nodes U r (λ n i. h n (inr (in-append n (nodes l) (nodes r) .1 (inr i)))))
+
+module _ (st after : State) (came gone : List ℕ) (v : ℕ) where
+  not-came : (l : Link) → Turn st after came gone l v → (n : ℕ) → NotFree (st .pool) n → ¬ (n ∈ came)
+  not-came l t n u i = u (t .new n i)
+
+  redirects-left : (d : ℕ) → Turn st after came gone (Left d) v → Redirects (st .pool) (after .pool) (NotFree (st .pool)) d L v
+  redirects-left d t = record {
+    size = t .size;
+    keys = λ n u. t .keys n (not-came (Left d) t n u);
+    records = λ n u. t .records n (not-came (Left d) t n u);
+    links = λ n z u. t .links n z (not-came (Left d) t n u);
+  }
+
+  redirects-right : (d : ℕ) → Turn st after came gone (Right d) v → Redirects (st .pool) (after .pool) (NotFree (st .pool)) d R v
+  redirects-right d t = record {
+    size = t .size;
+    keys = λ n u. t .keys n (not-came (Right d) t n u);
+    records = λ n u. t .records n (not-came (Right d) t n u);
+    links = λ n z u. t .links n z (not-came (Right d) t n u);
+  }
+
+  redirects-root : Turn st after came gone Root v → Redirects (st .pool) (after .pool) (NotFree (st .pool)) 0 L 0
+  redirects-root t = record {
+    size = t .size;
+    keys = λ n u. t .keys n (not-came Root t n u);
+    records = λ n u. t .records n (not-came Root t n u);
+    links = λ n z u. t .links n z (not-came Root t n u) ∙ none n z u;
+  }
+    where
+      none : (n : ℕ) (z : Side) → NotFree (st .pool) n → child (st .pool) z n ≡ cond (hits 0 L n z) 0 (child (st .pool) z n)
+      none n L u = rw (ne-eqb 0 n (λ e. u (subst (λ m. word (st .pool) m standingWord ≡ standingFree) e (word-none (st .pool) standingWord))))
+      none n R u = refl
+
+module _ (st after : State) (came gone : List ℕ) (v : ℕ) (T T′ below : Linked) (before : Rep (st .pool) (st .register .root) T)
+    (linked : (n : ℕ) → n ∈ nodes T → Stands (st .pool) n standingLinked) (unfolds : Rep (after .pool) v below) (then : Rep (after .pool) (after .register .root) T′)
+    (n k : ℕ) (A A′ : Option ℕ → Type 0) (more : (o : Option ℕ) → A o → A′ o) (now : A′ (find T′ k)) (s : ℕ) (u : s < slots) (closed : Closed (st .pool)) (here : Kept (st .pool) s n) where
+  abbrev p : List ℕ
+  p = st .pool
+
+  abbrev q : List ℕ
+  q = after .pool
+
+  abbrev U : ℕ → Type 0
+  U = NotFree (st .pool)
+
+  all-below : (t : Linked) → Rep p n t → All U t
+  all-below t r = all-map (Kept p s) U (λ m. kept-stands p s m) t (all-kept p s u closed t n r (λ _. here))
+
+  all-tree : All U T
+  all-tree = all-nodes U T (λ m i. let e = linked m i in λ z. omega arith)
+
+  again : (l : Link) → Turn st after came gone l v → (m : ℕ) → U m → Unlinked p m → Unlinked q m
+  again l t m a b = not-again p q (Reading (st .register)) (t .fate) m a b
+
+  store-left : (d : ℕ) → Turn st after came gone (Left d) v → Stands p d standingLinked → Store p q U d L v (st .register .root) T T′
+  store-left d t o = record { words = redirects-left st after came gone v d t; linked = o; below = below; unfolds = unfolds; before = before; after = rw (t .root) at then; all = all-tree }
+
+  store-right : (d : ℕ) → Turn st after came gone (Right d) v → Stands p d standingLinked → Store p q U d R v (st .register .root) T T′
+  store-right d t o = record { words = redirects-right st after came gone v d t; linked = o; below = below; unfolds = unfolds; before = before; after = rw (t .root) at then; all = all-tree }
+
+  store-root : Turn st after came gone Root v → Anew p q U (st .register .root) (after .register .root) T T′
+  store-root t = record { words = redirects-root st after came gone v t; before = before; after = then }
+
+  -- R1
+  pub finds-store : (l : Link) → Turn st after came gone l v → OwnerLinked p l → Finds p A n k → Route p (st .register .root) s n k → Finds q A′ n k
+  finds-store Root t o f r = anew-finds (store-root t) A A′ more n k f (all-below (f .tree) (f .unfolds))
+  finds-store (Left d) t o f r = store-finds (store-left d t o) A A′ more n k (r .seen) now f (all-below (f .tree) (f .unfolds)) (r .way)
+  finds-store (Right d) t o f r = store-finds (store-right d t o) A A′ more n k (r .seen) now f (all-below (f .tree) (f .unfolds)) (r .way)
+
+  -- R2
+  pub route-store : (l : Link) → Turn st after came gone l v → OwnerLinked p l → Reading (st .register) s → Thin (Unlinked q) (path T k) (path T′ k) → Route p (st .register .root) s n k → Route q (after .register .root) s n k
+  route-store l t o reads thins r = record { seen = r .seen; kept = λ m i. kept-store p q (Reading (st .register)) (t .fate) s m u reads (r .kept m i); way = go l t o }
+    where
+      usable : (m : ℕ) → m ∈ r .seen → U m
+      usable m i = kept-stands p s m (r .kept m i)
+
+      go : (l : Link) → Turn st after came gone l v → OwnerLinked p l → OnWay q (after .register .root) (r .seen) n k
+      go Root t o = anew-way (store-root t) n k (r .seen) (again Root t) usable thins (r .way) (all-below (r .way .tree) (r .way .unfolds))
+      go (Left d) t o = rw (t .root) (store-way (store-left d t o) n k (r .seen) (again (Left d) t) usable thins (r .way) (all-below (r .way .tree) (r .way .unfolds)))
+      go (Right d) t o = rw (t .root) (store-way (store-right d t o) n k (r .seen) (again (Right d) t) usable thins (r .way) (all-below (r .way .tree) (r .way .unfolds)))

@@ -1,0 +1,160 @@
+-- Demand 3 of every list of calls, from what the writer's side gives (Writer).
+use Prim.Native.Nat.{ℕ, zero, suc, _+_, _-_, _<_, _≤_}
+use mathlib.Core.Path.{_≡_, refl, sym, ap, _∙_, subst}
+use mathlib.Core.Bool.{Bool, true, false}
+use mathlib.Core.List.{List, [], _∷_}
+use mathlib.Core.Option.{Option, none, some}
+use mathlib.Core.Logic.{_≢_, _⊎_, inl, inr, ⊎-map}
+use native.Mathlib.Omega.{arith}
+use native.Mathlib.Numerals.{add-one}
+use native.Mathlib.Decide.{ℕ-discrete}
+use lib.ListN.{length}
+use Rattle.spec.specs.Pool.{word, slots, standingWord, standingFree}
+use Rattle.spec.specs.Register.{State, readerOf, fresh}
+use Rattle.spec.specs.Calls.{Answer, ok, absent, found, Outcome, reading, Call, writing, beginning, turning, givingUp, call}
+use Rattle.spec.specs.PlainList.{Plain, noTicket, recordFor, heard, feed}
+use Rattle.laws.specs.Words.{word-none}
+use Rattle.tree.specs.Linked.{Linked, nil, find}
+use Rattle.promise.specs.Run.{Moment, outset, thenCall, thenPerhaps, callAt, after, indexAfter, plainAfter, ticketsAfter, Gives, Ends, Lookup}
+use Rattle.promise.specs.Demands.{AtOneMoment, LookupsRight, Going, answerOf, TreeHolds, Reaches, Takes, NodesKept, Demand3}
+use Rattle.readers.specs.Reach.{Kept, kept-stands}
+use Rattle.readers.specs.Stock.{Stock}
+use Rattle.readers.specs.Descends.{going-root}
+use Rattle.readers.specs.Does.{does}
+use Rattle.readers.specs.Safe.{Safe, safe-reach}
+use Rattle.runs.specs.Writer.{Writer}
+use Rattle.runs.specs.Sound.{Sound, sound-next}
+use Rattle.runs.specs.Slot.{Stand, stand-more}
+use Rattle.runs.specs.Follow.{EndsBy, StandAt, stand-next, kept-next}
+use Rattle.runs.specs.Answers.{begun-right, found-right, absent-right}
+use Rattle.runs.specs.Begin.{safe-fresh}
+
+-- the call that there is
+abbrev given : Call → Option Call → Call
+given c none = c
+given c (some d) = d
+
+module _ (W : State → Plain → Linked → Type 0) (writer : Writer W) (N : ℕ) (lo : 8 ≤ N) (hi : N ≤ 1023) (cs : List Call) where
+  abbrev at : ℕ → State
+  at j = indexAfter N cs j
+
+  abbrev list : ℕ → Plain
+  list j = plainAfter N cs j
+
+  -- The invariant holds at each moment.
+  sound-perhaps : (m : Moment) (c : Option Call) → Sound W writer (m .index) (m .plain) → Sound W writer (thenPerhaps m c .index) (thenPerhaps m c .plain)
+  sound-perhaps m none h = h
+  sound-perhaps m (some c) h = sound-next W writer (m .index) (m .plain) c (call (m .index) c) (does (m .index) c) h
+
+  pub sound-at : (j : ℕ) → Sound W writer (at j) (list j)
+  unfolding after
+  sound-at zero = record { safe = safe-fresh N lo; tree = nil; holds = writer .starts N lo hi }
+  sound-at (suc j) = sound-perhaps (after N cs j) (callAt cs j) (sound-at j)
+
+  -- the answers possible for the key k at the moments of a lookup begun by call i, up to moment j
+  abbrev Possible : ℕ → ℕ → ℕ → Option ℕ → Type 0
+  Possible k i j o = (t : ℕ) × (i < t) × (t ≤ j) × (recordFor k (ticketsAfter N cs t) ≡ o)
+
+  later : (k i j : ℕ) (o : Option ℕ) → Possible k i j o → Possible k i (suc j) o
+  later k i j o p = (p .0, p .1, (let a = p .2 in omega arith), p .3)
+
+  now : (k i j : ℕ) → i < j → Possible k i j (recordFor k (ticketsAfter N cs j))
+  now k i j u = (j, u, omega arith, refl)
+
+  -- a call that ends the slot's reading, as the run says it
+  ends-at : (s j : ℕ) (c : Call) → callAt cs j ≡ some c → EndsBy c (call (at j) c .answer) s → Ends N cs s j
+  ends-at s j c e (inl x) = inl (e ∙ ap some (x .0), ap (λ d. call (at j) d .answer) (sym (x .0)) ∙ x .1)
+  ends-at s j c e (inr (inl x)) = inr (inl (x .0, (e ∙ ap some (x .1), ap (λ d. call (at j) d .answer) (sym (x .1)) ∙ x .2)))
+  ends-at s j c e (inr (inr x)) = inr (inr (e ∙ ap some (x .0), ap (λ d. call (at j) d .answer) (sym (x .0)) ∙ x .1))
+
+  -- one moment less of a lookup
+  shorter : (s k i j m : ℕ) → i < m → m ≤ j → Lookup N cs s k i j → Lookup N cs s k i m
+  shorter s k i j m a b l = record { begins = l .begins; later = a; lasts = λ t u v. l .lasts t u (omega arith) }
+
+  -- A slot stands right at each moment of its lookup.
+  stand-perhaps : (s k i j : ℕ) (c : Option Call) → callAt cs j ≡ c → i < j → s < slots → ¬ (Ends N cs s j) → StandAt (at j) (Possible k i j) s k
+      → Possible k i (suc j) (recordFor k (thenPerhaps (after N cs j) c .plain .tickets)) → StandAt (thenPerhaps (after N cs j) c .index) (Possible k i (suc j)) s k
+  stand-perhaps s k i j none e u low lasts g p = stand-more _ _ _ _ (Possible k i j) (Possible k i (suc j)) s k (later k i j) g
+  stand-perhaps s k i j (some c) e u low lasts g p =
+      stand-next W writer (at j) (list j) c (call (at j) c) (does (at j) c) (sound-at j) (Possible k i j) (Possible k i (suc j)) s k low (later k i j) (now k i j u) p (λ x. lasts (ends-at s j c e x)) g
+
+  begin-perhaps : (s k i : ℕ) (c : Option Call) → callAt cs i ≡ c → Gives N cs i (beginning s k) ok → (s < slots) × StandAt (thenPerhaps (after N cs i) c .index) (Possible k i (suc i)) s k
+  begin-perhaps s k i none e g = absurd (let z : _≡_ {A = ℕ} 0 1 = (let x = sym e ∙ g .0 in cc) in omega arith)
+  begin-perhaps s k i (some c) e g =
+      let same : c ≡ beginning s k = ap (given c) (sym e ∙ g .0) in
+      begun-right (at i) c (call (at i) c) (Possible k i (suc i)) s k (does (at i) c) (sound-at i .safe) same (ap (λ d. call (at i) d .answer) same ∙ g .1)
+
+  pub stands : (s k i j : ℕ) → Lookup N cs s k i j → (s < slots) × StandAt (at j) (Possible k i j) s k
+  unfolding after
+  stands s k i zero l = absurd (let z = l .later in omega arith)
+  stands s k i (suc j) l = elim (ℕ-discrete i j) [
+    | yes e ↦ subst (λ m. (s < slots) × StandAt (thenPerhaps (after N cs m) (callAt cs m) .index) (Possible k i (suc m)) s k) e (begin-perhaps s k i (callAt cs i) refl (l .begins))
+    | no d ↦
+        (let u : i < j = (let z = l .later in omega arith) in
+        let g = stands s k i j (shorter s k i (suc j) j u (omega arith) l) in
+        (g .0, stand-perhaps s k i j (callAt cs j) refl u (g .0) (l .lasts j u (omega arith)) (g .1) (now k i (suc j) (omega arith))))
+  ]
+
+  -- Part 1.
+  lookups : LookupsRight N cs
+  lookups = record {
+    whenFound = λ s k i j v l g. (
+        let z = stands s k i j l in
+        widen k i j (some v) (found-right W writer (at j) (list j) (turning s) (call (at j) (turning s)) (Possible k i j) s k v (does (at j) (turning s)) (sound-at j) refl (g .1) (z .1))
+        );
+    whenAbsent = λ s k i j l g. (
+        let z = stands s k i j l in
+        widen k i j none (absent-right W writer (at j) (list j) (turning s) (call (at j) (turning s)) (Possible k i j) s k (does (at j) (turning s)) (sound-at j) refl (g .1) (now k i j (l .later)) (z .1))
+        );
+  }
+    where
+      widen : (k i j : ℕ) (o : Option ℕ) → Possible k i j o → AtOneMoment N cs k i j o
+      widen k i j o p = (p .0, p .1, (let a = p .2 in omega arith), p .3)
+
+  -- Part 2.
+  holds : TreeHolds N cs
+  holds = record {
+    everyKey = λ j k. (
+        let h = sound-at j in
+        subst (λ o. Going (at j) k 0 (answerOf o)) (writer .finds (at j) (list j) (h .tree) (h .holds) k)
+        (going-root (at j) k (h .safe .owned .eight) (h .tree) (writer .unfolds (at j) (list j) (h .tree) (h .holds)))
+        );
+    keysHeld = λ j. (let h = sound-at j in writer .held (at j) (list j) (h .tree) (h .holds));
+  }
+
+  -- Part 3. What is kept for a slot at a moment of its lookup is kept until the lookup ends.
+  kept-perhaps : (s k i j m : ℕ) (c : Option Call) → callAt cs j ≡ c → Lookup N cs s k i j → ¬ (Ends N cs s j) → Kept (at j .pool) s m → Kept (thenPerhaps (after N cs j) c .index .pool) s m
+  kept-perhaps s k i j m none e l lasts h = h
+  kept-perhaps s k i j m (some c) e l lasts h =
+      let g = stands s k i j l in
+      kept-next W writer (at j) (list j) c (call (at j) c) (does (at j) c) (sound-at j) s m (g .0) (g .1 .reads) (λ x. lasts (ends-at s j c e x)) h
+
+  kept-until : (s k i j t m d : ℕ) → Lookup N cs s k i j → i < t → Kept (at t .pool) s m → t + d ≤ j → Kept (at (t + d) .pool) s m
+  unfolding after
+  kept-until s k i j t m zero l a h u = let e : t + 0 ≡ t = omega arith in rw e h
+  kept-until s k i j t m (suc d) l a h u =
+      let e : t + suc d ≡ suc (t + d) = omega arith in
+      let before = kept-until s k i j t m d l a h (omega arith) in
+      rw e (kept-perhaps s k i (t + d) m (callAt cs (t + d)) refl (shorter s k i j (t + d) (omega arith) (omega arith) l) (l .lasts (t + d) (omega arith) (omega arith)) before)
+
+  kept-at : (s k i j t m u : ℕ) → Lookup N cs s k i j → i < t → Reaches (at t) s m → t ≤ u → u ≤ j → Kept (at u .pool) s m
+  kept-at s k i j t m u l a r b c =
+      let e : t + (u - t) ≡ u = omega arith in
+      rw e at (kept-until s k i j t m (u - t) l a (safe-reach (at t) s m (sound-at t .safe) r) (omega arith))
+
+  -- the first free node is kept for no slot
+  first-free : (st : State) (s m : ℕ) → Safe st → st .register .first ≡ m → ¬ (Kept (st .pool) s m)
+  first-free st s m h e k = go (h .queue) (h .owned .stock)
+    where
+      go : (l : List ℕ) → Stock st l → ⊥
+      go [] z = kept-stands (st .pool) s m k (rw (sym e ∙ z .queued .chain) (word-none (st .pool) standingWord))
+      go (n ∷ l) z = kept-stands (st .pool) s m k (rw (sym e ∙ z .queued .chain .0) (z .standing n .0 (inl refl) .1))
+
+  kept : NodesKept N cs
+  kept = record {
+    notFree = λ s k i j t m u l a r b c. kept-stands (at u .pool) s m (kept-at s k i j t m u l a r b c);
+    notTaken = λ s k i j t m u c l a r b d e x. first-free (at u) s m (sound-at u .safe) (x .first) (kept-at s k i j t m u l a r b (omega arith));
+  }
+
+  pub demand3 : Demand3 N cs
+  demand3 = record { lookups = lookups; holds = holds; kept = kept }

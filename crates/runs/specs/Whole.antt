@@ -1,0 +1,88 @@
+-- The whole promise of a list of calls, from what the writer's side gives (`Writer`, `Completes`).
+use Prim.Native.Nat.{ℕ, zero, suc, _+_, _<_, _≤_}
+use mathlib.Core.Path.{_≡_, refl, sym, ap, _∙_, subst}
+use mathlib.Core.Bool.{Bool, true, false, not}
+use mathlib.Core.List.{List}
+use mathlib.Core.Option.{Option, none, some}
+use mathlib.Core.Logic.{_≢_, ⊎-elim}
+use native.Mathlib.Omega.{arith}
+use native.Mathlib.Numerals.{add-one}
+use borrow.Author.Tests.{ne-eqb}
+use Rattle.types.specs.declared.Link.{Link}
+use Rattle.spec.specs.Register.{State, mostStores, storeOf}
+use Rattle.spec.specs.Turn.{stepMade}
+use Rattle.spec.specs.Calls.{Answer, more, wait, refused, Outcome, writeInHand, Call, writing, call}
+use Rattle.spec.specs.PlainList.{Plain}
+use Rattle.tree.specs.Linked.{Linked}
+use Rattle.promise.specs.Run.{Moment, thenPerhaps, callAt, after, indexAfter, plainAfter, Gives}
+use Rattle.promise.specs.Demands.{Demand2, Demand3, NeverMet, Promise}
+use Rattle.readers.specs.Does.{Does, does, refuses, plansInsert, plansDelete, waits, stores, begins, loads, misses, finds, leaves}
+use Rattle.ranges.specs.Fits.{colour-fits}
+use Rattle.ranges.specs.Calls.{Ranged, ranged-in, ranged-next}
+use Rattle.runs.specs.Writer.{Writer}
+use Rattle.runs.specs.Begin.{ranged-fresh}
+use Rattle.runs.specs.Sound.{Sound}
+use Rattle.runs.specs.Theorem.{sound-at, demand3}
+use Rattle.runs.specs.Rest.{Completes, safe-free, wait-right, toldOf, stored-told, refused-by, not-two, not-twelve}
+
+-- a turn that answers more leaves stores to come
+more-left : (st : State) (c : Call) (o : Outcome) (l : Link) (n : ℕ) → Does st c o → o .answer ≡ more l n → o .after .register .write .count ≢ 0
+more-left st c o l n (refuses d x) e = absurd (let z = ap toldOf e in omega arith)
+more-left st c o l n (plansInsert j v f) e = absurd (let z = ap toldOf e in omega arith)
+more-left st c o l n (plansDelete j f) e = absurd (let z = ap toldOf e in omega arith)
+more-left st c o l n (waits d) e = absurd (let z = ap toldOf e in omega arith)
+more-left st c o l n (stores a w f) e =
+    ⊎-elim (λ x. absurd (let z = ap toldOf e in omega arith)) (λ x. x .1) (stored-told (stepMade st (storeOf (st .register) 0 .link) (storeOf (st .register) 0 .step)))
+more-left st c o l n (begins t j u f) e = absurd (let z = ap toldOf e in omega arith)
+more-left st c o l n (loads t m p i f) e = absurd (let z = ap toldOf e in omega arith)
+more-left st c o l n (misses t m p i f) e = absurd (let z = ap toldOf e in omega arith)
+more-left st c o l n (finds t p d f) e = absurd (let z = ap toldOf e in omega arith)
+more-left st c o l n (leaves t p) e = absurd (let z = ap toldOf e in omega arith)
+
+module _ (W : State → Plain → Linked → Type 0) (writer : Writer W) (completes : Completes W) (N : ℕ) (lo : 8 ≤ N) (hi : N ≤ 1023) (cs : List Call) where
+  abbrev at : ℕ → State
+  at j = indexAfter N cs j
+
+  sound : (j : ℕ) → Sound W writer (at j) (plainAfter N cs j)
+  sound j = sound-at W writer N lo hi cs j
+
+  next-is : (j : ℕ) (c : Call) → callAt cs j ≡ some c → at (suc j) ≡ call (at j) c .after
+  unfolding after
+  next-is j c e = ap (λ o. thenPerhaps (after N cs j) o .index) e
+
+  soon : (j : ℕ) (l : Link) (n : ℕ) → Gives N cs j writing (more l n) → plainAfter N cs (j + 1) .made < mostStores
+  soon j l n g =
+      let h = sound (suc j) in
+      let left : at (suc j) .register .write .count ≢ 0 =
+      subst (λ st. st .register .write .count ≢ 0) (sym (next-is j writing (g .0))) (more-left (at j) writing (call (at j) writing) l n (does (at j) writing) (g .1)) in
+      let hand : writeInHand (at (suc j)) ≡ true = rw (ne-eqb (at (suc j) .register .write .count) 0 left) in
+      let few = completes .few (at (suc j)) (plainAfter N cs (suc j)) (h .tree) (h .holds) hand in
+      rw (add-one j) (omega arith)
+
+  -- the ranges hold at each moment
+  ranged-perhaps : (x : Moment) (c : Option Call) → Ranged N (x .index) → Ranged N (thenPerhaps x c .index)
+  ranged-perhaps x none h = h
+  ranged-perhaps x (some c) h = ranged-next N (x .index) c (call (x .index) c) (does (x .index) c) h
+
+  ranged : (j : ℕ) → Ranged N (at j)
+  unfolding after
+  ranged zero = ranged-fresh N lo
+  ranged (suc j) = ranged-perhaps (after N cs j) (callAt cs j) (ranged j)
+
+  pub demand2 : Demand2 N cs
+  demand2 = record {
+    atRest = λ j e. (let h = sound j in completes .rest (at j) (plainAfter N cs j) (h .tree) (h .holds) (λ n. colour-fits N (at j .pool) n (ranged j .within .fits)) e);
+    free = λ j. safe-free (at j) (sound j .safe);
+    soon = soon;
+    waits = λ j g. wait-right (at j) writing (call (at j) writing) (does (at j) writing) (sound j .safe) (g .1);
+  }
+
+  pub never : NeverMet N cs
+  never = record {
+    range = λ j c g. not-two (at j) c (ranged-in N (at j) (ranged j)) (refused-by (at j) c (call (at j) c) 2 (omega arith) (does (at j) c) (g .1));
+    steps = λ j c g. (let h = sound j in
+        not-twelve W completes (at j) (plainAfter N cs j) (h .tree) (h .safe) (h .holds) c (refused-by (at j) c (call (at j) c) 12 (omega arith) (does (at j) c) (g .1)));
+  }
+
+  pub promise : Promise N cs
+  promise = record { demand2 = demand2; demand3 = demand3 W writer N lo hi cs; never = never }

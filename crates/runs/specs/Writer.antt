@@ -1,0 +1,73 @@
+-- What the writer's side of the invariant has to give, W being that side: a fact of pool and register, of the plain list, and of the tree
+-- that the root unfolds to. The readers' side is `Safe` (crate readers); the two together are kept by every call, and the demands follow.
+use Prim.Native.Nat.{ℕ, _<_, _≤_}
+use mathlib.Core.Path.{_≡_}
+use mathlib.Core.Logic.{_≢_, _⊎_, _↔_}
+use mathlib.Core.Bool.{true}
+use mathlib.Core.List.{List}
+use lib.ListN.{length}
+use Rattle.types.specs.declared.Link.{Link}
+use Rattle.types.specs.declared.Store.{Store}
+use Rattle.types.specs.declared.Register.{Register}
+use Rattle.sequential.specs.Delete.{insertion, deletion}
+use Rattle.spec.specs.Pool.{standingLinked}
+use Rattle.spec.specs.Register.{State, state, fresh, storeOf, withWrite, writeOf, readingSlots}
+use Rattle.spec.specs.Turn.{stepFinds, stepMade}
+use Rattle.spec.specs.Calls.{firstOf, writeInHand, placeOf, insertAt, deleteAt, stored}
+use Rattle.spec.specs.PlainList.{Plain, noTicket, recordFor, begun, storeMade}
+use Rattle.tree.specs.Distinct.{_∈_}
+use Rattle.tree.specs.Thin.{Thin}
+use Rattle.tree.specs.Linked.{Linked, nil, find, path, nodes}
+use Rattle.heap.specs.Rep.{Rep, Alike}
+use Rattle.readers.specs.Reach.{Stands}
+use Rattle.readers.specs.Lookups.{Unlinked}
+use Rattle.readers.specs.Stored.{OwnerLinked}
+use Rattle.readers.specs.Turns.{Turn}
+use Rattle.readers.specs.Does.{insertTests, deleteTests}
+use Rattle.readers.specs.Safe.{Safe}
+
+-- What a reader's call leaves alone: keys, records, links, colours, which nodes are linked, and of the register root, keys held and the write
+-- in hand. Nodes may be freed.
+pub record Still (st after : State) : Type 0 where
+  pub words : Alike 5 (st .pool) (after .pool)
+  pub linked : (n : ℕ) → Stands (after .pool) n standingLinked ↔ Stands (st .pool) n standingLinked
+  pub root : after .register .root ≡ st .register .root
+  pub held : after .register .held ≡ st .register .held
+  pub write : after .register .write ≡ st .register .write
+  pub free : st .register .free ≤ after .register .free
+
+-- A store: the whole tree T becomes `tree`. Either no slot is awaited after it and each path keeps its nodes in their order, but for those
+-- linked no longer; or all reading slots are awaited (publish).
+pub record Stores (st after : State) (T : Linked) (W : Linked → Type 0) : Type 0 where
+  pub tree : Linked
+  pub came : List ℕ
+  pub gone : List ℕ
+  pub link : Link
+  pub value : ℕ
+  pub turn : Turn st after came gone link value
+  pub owner : OwnerLinked (st .pool) link
+  pub below : Linked
+  pub unfolds : Rep (after .pool) value below
+  pub ways : ((k : ℕ) → Thin (Unlinked (after .pool)) (path T k) (path tree k)) ⊎ (after .register .awaited ≡ readingSlots (st .register))
+  pub kept : W tree
+
+-- the state after the first store of the write in hand
+abbrev pub afterStore : State → State
+afterStore st = stored (stepMade st (storeOf (st .register) 0 .link) (storeOf (st .register) 0 .step)) .after
+
+abbrev pub planned : State → List Store → State
+planned st l = state (st .pool) (withWrite (st .register) (writeOf l))
+
+pub record Writer (W : State → Plain → Linked → Type 0) : Type 0 where
+  pub starts : (N : ℕ) → 8 ≤ N → N ≤ 1023 → W (fresh N) noTicket nil
+  pub unfolds : (st : State) (x : Plain) (T : Linked) → W st x T → Rep (st .pool) (st .register .root) T
+  pub linked : (st : State) (x : Plain) (T : Linked) → W st x T → (n : ℕ) → Stands (st .pool) n standingLinked ↔ (n ∈ nodes T)
+  pub finds : (st : State) (x : Plain) (T : Linked) → W st x T → (k : ℕ) → find T k ≡ recordFor k (x .tickets)
+  pub held : (st : State) (x : Plain) (T : Linked) → W st x T → st .register .held ≡ length (x .tickets)
+  pub still : (st after : State) (x : Plain) (T : Linked) → W st x T → Still st after → W after x T
+  pub insert : (st : State) (x : Plain) (T : Linked) (k v : ℕ) → Safe st → W st x T → firstOf (insertTests st k v) ≡ 0
+      → W (planned st (insertAt st k v (placeOf st k) .stores)) (begun x (insertion k v)) T
+  pub delete : (st : State) (x : Plain) (T : Linked) (k : ℕ) → Safe st → W st x T → firstOf (deleteTests st k) ≡ 0
+      → W (planned st (deleteAt st (placeOf st k) .stores)) (begun x (deletion k)) T
+  pub store : (st : State) (x : Plain) (T : Linked) → Safe st → W st x T → st .register .awaited ≡ 0 → writeInHand st ≡ true
+      → stepFinds st (storeOf (st .register) 0 .link) (storeOf (st .register) 0 .step) ≡ true → Stores st (afterStore st) T (λ t. W (afterStore st) (storeMade x (x .inHand)) t)
