@@ -54,7 +54,8 @@ use Rattle.readers.specs.Does.{Clear, clear, deleteTests, not-false}
 use Rattle.readers.specs.Safe.{Safe}
 use Rattle.runs.specs.Writer.{planned}
 use Rattle.joined.specs.Tickets.{Unique, none-some, without-same, without-other, unique-without, without-some}
-use Rattle.joined.specs.Joined.{seqOf, indexOf, Pending, Timing, now, soon, takesAll, Joined}
+use Rattle.joined.specs.Laters.{takesAll}
+use Rattle.joined.specs.Joined.{seqOf, indexOf, Pending, Timing, now, soon, Joined}
 use Rattle.joined.specs.Rests.{resting, changed-end, few-turn, with-held, with-free}
 
 -- a loss's climb takes three nodes at most

@@ -4,15 +4,12 @@ use Prim.Native.Nat.{ℕ, zero, suc, _+_, _/_, _<_, _≤_}
 use mathlib.Core.Path.{_≡_, refl, sym, ap, _∙_, subst}
 use mathlib.Core.Logic.{_≢_, _⊎_, inl, inr, ⊎-elim, _↔_}
 use mathlib.Core.Bool.{Bool, true, false, cond, false≢true}
-use mathlib.Core.List.{List, [], _∷_, _++_, map}
+use mathlib.Core.List.{List, [], _∷_, _++_}
 use mathlib.Core.Option.{Option, none, some}
 use native.Mathlib.Omega.{arith}
 use lib.Dec.{eqb}
 use lib.ListN.{length}
 use borrow.Author.Tests.{eq-eqb, ne-eqb}
-use Rattle.types.specs.declared.Link.{Link}
-use Rattle.types.specs.declared.Step.{Step}
-use Rattle.types.specs.declared.Step.the-variants.{Vacant, Insert, DiagLower, DiagRaise, ZigLowerA, ZigLowerC, ZigRaise, Unlink, Adopt, Replace, Publish, Detach}
 use Rattle.types.specs.declared.Store.{Store}
 use Rattle.types.specs.declared.Register.{Register}
 use Rattle.sequential.specs.Tree as Seq
@@ -20,7 +17,7 @@ use Rattle.sequential.specs.Tree.{Tree, leaf}
 use Rattle.sequential.specs.Delete.{Change, changedBy}
 use Rattle.spec.specs.Pool.{nodeWords, standingLinked, nodes as poolNodes}
 use Rattle.spec.specs.Register.{State, mostStores, storeOf, withWrite}
-use Rattle.spec.specs.Turn.{Made, stepFinds, stepMade, movedStore}
+use Rattle.spec.specs.Turn.{Made, stepFinds, stepMade}
 use Rattle.spec.specs.Calls.{stored, writeInHand}
 use Rattle.spec.specs.PlainList.{Ticket, Plain, recordFor, listed, lastly, accepted, storeMade, listStore as listIndex}
 use Rattle.tree.specs.Distinct.{_∈_}
@@ -37,6 +34,7 @@ use Rattle.readers.specs.Reach.{Stands}
 use Rattle.readers.specs.Safe.{Safe}
 use Rattle.runs.specs.Writer.{Stores, afterStore}
 use Rattle.joined.specs.Tickets.{Unique}
+use Rattle.joined.specs.Laters.{takesAll, later-plain, held-plain, later-length, later-takes, taken-length}
 use Rattle.joined.specs.Steps.{Stocked}
 use Rattle.joined.specs.Meet.{turned, met-turn, met-linked, met-stores, after-is}
 
@@ -65,11 +63,6 @@ pub data Timing (st : State) (x : Plain) : List Store → Type 0 where
   now : (s : Store) (l : List Store) → listStore (s .step) ≡ true → (p : Pending st x s) → x .made + 1 ≡ indexOf x (p .change) → Timing st x (s ∷ l)
   soon : (s t : Store) (l : List Store) → listStore (s .step) ≡ false → listStore (t .step) ≡ true → (p : Pending st x t) → x .made + 2 ≡ indexOf x (p .change) → Timing st x (s ∷ t ∷ l)
 
--- how many nodes the stores to come take
-abbrev pub takesAll : List Store → ℕ
-takesAll [] = 0
-takesAll (s ∷ l) = length (takenBy (s .step) 0) + takesAll l
-
 pub record Joined (st : State) (x : Plain) (T : Linked) : Type 0 where
   pub stores : List Store
   pub hand : InHand st (seqOf x) T stores
@@ -80,85 +73,6 @@ pub record Joined (st : State) (x : Plain) (T : Linked) : Type 0 where
   pub takes : takesAll stores ≤ st .register .free
   pub timing : Timing st x stores
   pub few : x .made + length stores ≤ mostStores
-
--- a store that is no list store renames nothing and counts nothing
-later-plain : (st : State) (l : Link) (x : Step) (w : List Store) → listStore x ≡ false → later st l x w ≡ w
-later-plain st l Vacant w e = refl
-later-plain st l (Insert k v) w e = refl
-later-plain st l (DiagLower s c) w e = refl
-later-plain st l (DiagRaise s c) w e = refl
-later-plain st l (ZigLowerA s c) w e = refl
-later-plain st l (ZigLowerC s c) w e = refl
-later-plain st l (ZigRaise s c) w e = refl
-later-plain st l Unlink w e = refl
-later-plain st l Adopt w e = refl
-later-plain st l Replace w e = refl
-later-plain st l (Publish c) w e = absurd (false≢true (sym e))
-later-plain st l (Detach k) w e = refl
-
-held-plain : (x : Step) (top h : ℕ) → listStore x ≡ false → heldAfter x top h ≡ h
-held-plain Vacant top h e = refl
-held-plain (Insert k v) top h e = absurd (false≢true (sym e))
-held-plain (DiagLower s c) top h e = refl
-held-plain (DiagRaise s c) top h e = refl
-held-plain (ZigLowerA s c) top h e = refl
-held-plain (ZigLowerC s c) top h e = refl
-held-plain (ZigRaise s c) top h e = refl
-held-plain Unlink top h e = absurd (false≢true (sym e))
-held-plain Adopt top h e = refl
-held-plain Replace top h e = absurd (false≢true (sym e))
-held-plain (Publish c) top h e = absurd (false≢true (sym e))
-held-plain (Detach k) top h e = refl
-
-map-takes : (b n : ℕ) (l : List Store) → takesAll (map (movedStore b n) l) ≡ takesAll l
-map-takes b n [] = refl
-map-takes b n (s ∷ l) = ap (λ m. length (takenBy (s .step) 0) + m) (map-takes b n l)
-
-map-length : (b n : ℕ) (l : List Store) → length (map (movedStore b n) l) ≡ length l
-map-length b n [] = refl
-map-length b n (s ∷ l) = ap suc (map-length b n l)
-
-later-length : (st : State) (l : Link) (x : Step) (w : List Store) → length (later st l x w) ≡ length w
-later-length st l Vacant w = refl
-later-length st l (Insert k v) w = refl
-later-length st l (DiagLower s c) w = refl
-later-length st l (DiagRaise s c) w = refl
-later-length st l (ZigLowerA s c) w = refl
-later-length st l (ZigLowerC s c) w = refl
-later-length st l (ZigRaise s c) w = refl
-later-length st l Unlink w = refl
-later-length st l Adopt w = refl
-later-length st l Replace w = refl
-later-length st l (Publish c) w = map-length _ _ w
-later-length st l (Detach k) w = refl
-
-later-takes : (st : State) (l : Link) (x : Step) (w : List Store) → takesAll (later st l x w) ≡ takesAll w
-later-takes st l Vacant w = refl
-later-takes st l (Insert k v) w = refl
-later-takes st l (DiagLower s c) w = refl
-later-takes st l (DiagRaise s c) w = refl
-later-takes st l (ZigLowerA s c) w = refl
-later-takes st l (ZigLowerC s c) w = refl
-later-takes st l (ZigRaise s c) w = refl
-later-takes st l Unlink w = refl
-later-takes st l Adopt w = refl
-later-takes st l Replace w = refl
-later-takes st l (Publish c) w = map-takes _ _ w
-later-takes st l (Detach k) w = refl
-
-taken-length : (x : Step) (n m : ℕ) → length (takenBy x n) ≡ length (takenBy x m)
-taken-length Vacant n m = refl
-taken-length (Insert k v) n m = refl
-taken-length (DiagLower s c) n m = refl
-taken-length (DiagRaise s c) n m = refl
-taken-length (ZigLowerA s c) n m = refl
-taken-length (ZigLowerC s c) n m = refl
-taken-length (ZigRaise s c) n m = refl
-taken-length Unlink n m = refl
-taken-length Adopt n m = refl
-taken-length Replace n m = refl
-taken-length (Publish c) n m = refl
-taken-length (Detach k) n m = refl
 
 -- the queue has a node where one is taken
 stock : (st : State) (T : Linked) (came : List ℕ) → Safe st → ((n : ℕ) → Stands (st .pool) n standingLinked ↔ (n ∈ nodes T)) → length came ≤ st .register .free → Ready st T came × Stocked st came

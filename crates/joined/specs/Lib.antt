@@ -3,6 +3,7 @@ pub mod Ways
 pub mod Steps
 pub mod Meet
 pub mod Tickets
+pub mod Laters
 pub mod Joined
 pub mod Rests
 pub mod Deletes

@@ -53,7 +53,8 @@ use Rattle.readers.specs.Safe.{Safe}
 use Rattle.runs.specs.Writer.{Still, planned}
 use Rattle.runs.specs.Begin.{word-low}
 use Rattle.joined.specs.Tickets.{Unique, none-some, without-same, without-other, unique-without, without-none}
-use Rattle.joined.specs.Joined.{seqOf, indexOf, Pending, Past, Timing, over, now, soon, takesAll, Joined}
+use Rattle.joined.specs.Laters.{takesAll}
+use Rattle.joined.specs.Joined.{seqOf, indexOf, Pending, Past, Timing, over, now, soon, Joined}
 
 -- The fresh index.
 fresh-write : (N : ℕ) → fresh N .register .write ≡ writeOf []
