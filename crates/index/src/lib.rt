@@ -1,17 +1,27 @@
 // The calls of the ticket index. Each one's promise: answer, register and every pool word are what the definition of document 01's call
 // (crate spec, Calls) makes of what was lent; a refused call leaves both as they were.
 use types::Acceptance;
+use types::Link;
+use types::Place;
 use types::Reader;
 use types::ReaderAnswer;
 use types::Register;
 ghost use mathlib.Core.Path.{_≡_};
-ghost use mathlib.Core.Bool.{true};
+ghost use mathlib.Core.Bool.{true, false};
+ghost use Rattle.types.specs.declared.Place.the-variants.{Empty};
 ghost use Prim.Native.Nat.{ℕ, _<_, _≤_};
 ghost use lib.ListN.{length};
 ghost use Rattle.spec.specs.Pool.{freshPool};
 ghost use Rattle.spec.specs.Register.{state, freshRegister};
 ghost use Rattle.laws.specs.Tests.{lentNumber};
-ghost use Rattle.spec.specs.Calls.{Answer, accepts, readerSays, firstOf, readerTests, beginTests, loaded, readerStep, setUp, begin, readerTurn, giveUp};
+ghost use Rattle.spec.specs.Calls.{Answer, refused, accepts, readerSays, firstOf, readerTests, beginTests, loaded, readerStep, placeOf, writeInHand, insert, setUp, begin, readerTurn, giveUp};
+
+// nodes kept back from the keys, free nodes that an insert asks for, and the most nodes of a path
+const RESERVE: u64 = 4;
+
+const FREE_FOR_INSERT: u32 = 3;
+
+const PATH_BOUND: u32 = 64;
 
 pub struct Reply {
     pub answer: Acceptance,
@@ -194,5 +204,59 @@ pub fn set_up(pool: &mut [u32], reg: Register) -> Reply
     Reply {
         answer: Acceptance::Accepted,
         register,
+    }
+}
+
+fn refused(number: u32, register: Register) -> Reply
+    ensures { λ r. ⌜ (accepts (r .answer) ≡ refused number) × (r .register ≡ register) ⌝ }
+{
+    Reply {
+        answer: Acceptance::Refused(number),
+        register,
+    }
+}
+
+// an insert at the empty link l, after the tests of the search
+fn insert_at(pool: &[u32], reg: Register, k: u32, v: u32, l: Link) -> Reply
+    requires { ⌜ (lentNumber (state (now pool) reg) ≡ 0) × (writeInHand (state (now pool) reg) ≡ false) × (placeOf (state (now pool) reg) k ≡ Empty l) ⌝ }
+    ensures { λ r. ⌜ accepts (r .answer) ≡ insert (state (now (pool .entry)) reg) k v .answer ⌝ }
+    ensures { λ r. ⌜ state (now (pool .entry)) (r .register) ≡ insert (state (now (pool .entry)) reg) k v .after ⌝ }
+{
+    let top = pool::nodes(pool);
+    if top as u64 <= reg.held as u64 + RESERVE {
+        return refused(10, reg);
+    }
+    if reg.free < FREE_FOR_INSERT {
+        return refused(11, reg);
+    }
+    let plan = plans::insert_plan(pool, reg, k, v, l);
+    if plan.possible {} else {
+        return refused(12, reg);
+    }
+    let write = plan.write;
+    let register = register::with_write(reg, write);
+    Reply {
+        answer: Acceptance::Accepted,
+        register,
+    }
+}
+
+pub fn insert(pool: &[u32], reg: Register, k: u32, v: u32) -> Reply
+    ensures { λ r. ⌜ accepts (r .answer) ≡ insert (state (now (pool .entry)) reg) k v .answer ⌝ }
+    ensures { λ r. ⌜ state (now (pool .entry)) (r .register) ≡ insert (state (now (pool .entry)) reg) k v .after ⌝ }
+{
+    let why = lent_refusal(pool, reg);
+    if why != 0 {
+        return refused(why, reg);
+    }
+    let hand = reg.write;
+    if hand.count != 0 {
+        return refused(6, reg);
+    }
+    let place = search::seek(pool, k, Link::Root, reg.root, PATH_BOUND);
+    match place {
+        Place::Held(_, _) => refused(8, reg),
+        Place::Empty(l) => insert_at(pool, reg, k, v, l),
+        Place::TooDeep => refused(12, reg),
     }
 }

@@ -5,3 +5,4 @@ pub mod Freed
 pub mod Tests
 pub mod Descend
 pub mod Fresh
+pub mod Inserts

@@ -1,5 +1,6 @@
 -- Demands 2 and 3 as statements about whole lists of calls, in the words of 01. To check them no proof need be read: what they name is
--- defined in crate `spec` (the calls, the plain list), in crate `sequential` (the sequential tree) and in Run.
+-- defined in crate `spec` (the calls, the plain list), in crate `sequential` (the sequential tree), in Run, in laws (Queue, Distinct and
+-- Chain in Queue; Node in Words) and in tree (`_∈_` in Distinct).
 use Prim.Native.Nat.{ℕ, _+_, _<_, _≤_}
 use mathlib.Core.Path.{_≡_}
 use mathlib.Core.Logic.{_≢_, _↔_}
@@ -19,7 +20,7 @@ use Rattle.sequential.specs.Delete.{changedBy}
 use Rattle.tree.specs.Distinct.{_∈_}
 use Rattle.spec.specs.Pool.{word, child, nodes, slots, keyWord, recordWord, colourWord, standingWord, standingFree, blackColour, redColour}
 use Rattle.spec.specs.Register.{State, state, mostStores, withReader, readerOf, storeOf, hasSlot}
-use Rattle.spec.specs.Calls.{Answer, go, absent, found, more, wait, refused, Outcome, Call, inserting, deleting, writing, beginning, turning, givingUp, call, reading, writeInHand, readerStep}
+use Rattle.spec.specs.Calls.{Answer, go, absent, found, more, done, wait, refused, Outcome, Call, inserting, deleting, writing, beginning, turning, givingUp, call, reading, writeInHand, readerStep}
 use Rattle.spec.specs.PlainList.{Heard, went, heard, recordFor, accepted}
 use Rattle.laws.specs.Queue.{Queue, Distinct}
 use Rattle.promise.specs.Run.{callAt, indexAfter, plainAfter, ticketsAfter, Gives, Lookup}
@@ -32,6 +33,9 @@ AtOneMoment N cs k i j o = (t : ℕ) × (i < t) × (t ≤ j + 1) × (recordFor k
 pub record LookupsRight (N : ℕ) (cs : List Call) : Type 0 where
   pub whenFound : (s k i j v : ℕ) → Lookup N cs s k i j → Gives N cs j (turning s) (found v) → AtOneMoment N cs k i j (some v)
   pub whenAbsent : (s k i j : ℕ) → Lookup N cs s k i j → Gives N cs j (turning s) absent → AtOneMoment N cs k i j none
+  -- in its lookup a slot reads, with the wanted key; and a reading slot is in a lookup
+  pub reads : (s k i j : ℕ) → Lookup N cs s k i j → (s < slots) × (reading (indexAfter N cs j) s ≡ true) × (readerOf (indexAfter N cs j .register) s .key ≡ k)
+  pub inLookup : (s j : ℕ) → s < slots → reading (indexAfter N cs j) s ≡ true → (k : ℕ) × (i : ℕ) × Lookup N cs s k i j
 
 -- 'Holds': going from the root as a reader's turns do, with no other call between. It is the reader's own step: what it answers with the
 -- key k at node n (0 before any), made of the same pool and root again and again. Which slot's record it goes by does not matter: slot 0.
@@ -137,11 +141,20 @@ pub record Demand2 (N : ℕ) (cs : List Call) : Type 0 where
   -- a turn answers wait only while an awaited slot is reading
   pub waits : (j : ℕ) → Gives N cs j writing wait
       → (s : ℕ) × (s < slots) × (hasSlot (indexAfter N cs j .register .awaited) s ≡ true) × (reading (indexAfter N cs j) s ≡ true)
+  -- with no awaited slot reading, a turn of a write in hand makes a store
+  pub goesOn : (j : ℕ) → writeInHand (indexAfter N cs j) ≡ true
+      → ((s : ℕ) → s < slots → hasSlot (indexAfter N cs j .register .awaited) s ≡ true → reading (indexAfter N cs j) s ≡ false)
+      → heard (call (indexAfter N cs j) writing .answer) ≡ went
+  -- a write that answers done is no longer in hand
+  pub finished : (j : ℕ) (l : Link) (n : ℕ) → Gives N cs j writing (done l n) → writeInHand (indexAfter N cs (j + 1)) ≡ false
+  -- the pool keeps its N nodes
+  pub size : (j : ℕ) → nodes (indexAfter N cs j .pool) ≡ N
 
--- 'When a call is turned down': no run from a fresh index meets 2 or 12.
+-- 'When a call is turned down': no run from a fresh index meets 2 or 12; and the pool keeps its length, so none meets 1.
 pub record NeverMet (N : ℕ) (cs : List Call) : Type 0 where
   pub range : (j : ℕ) (c : Call) → ¬ (Gives N cs j c (refused 2))
   pub steps : (j : ℕ) (c : Call) → ¬ (Gives N cs j c (refused 12))
+  pub lent : (j : ℕ) (c : Call) → ¬ (Gives N cs j c (refused 1))
 
 -- The theorem wanted: for every N from 8 to 1,023 and every list of calls.
 pub record Promise (N : ℕ) (cs : List Call) : Type 0 where

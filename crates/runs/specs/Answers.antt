@@ -1,31 +1,34 @@
--- What a reader's turn answers is right: one of the answers possible so far.
+-- What a reader's turn answers is right: one of the answers possible so far. A slot reads only from its begin on, until its reading ends.
 use Prim.Native.Nat.{ℕ, _<_}
 use mathlib.Core.Path.{_≡_, refl, sym, ap, _∙_, subst}
-use mathlib.Core.Bool.{Bool, true, false}
+use mathlib.Core.Bool.{Bool, true, false, false≢true}
 use mathlib.Core.List.{List}
 use mathlib.Core.Option.{Option, none, some}
 use mathlib.Core.Logic.{_≢_, _⊎_, inl, inr}
 use native.Mathlib.Omega.{arith}
-use lib.ListN.{length}
+use native.Mathlib.Decide.{ℕ-discrete}
+use lib.ListN.{length, getD}
 use Rattle.types.specs.declared.Reader.{Reader}
+use Rattle.types.specs.declared.Write.{Write}
 use Rattle.types.specs.declared.Register.{Register}
 use Rattle.spec.specs.Pool.{word, child, keyWord, recordWord, slots}
-use Rattle.spec.specs.Register.{State, state, readerOf, storeOf, withReader}
+use Rattle.spec.specs.Register.{State, state, noReader, readerOf, storeOf, withReader, withWrite}
+use Rattle.spec.specs.Free.{endReading}
 use Rattle.spec.specs.Turn.{stepMade, Made}
 use Rattle.spec.specs.Search.{towards}
-use Rattle.spec.specs.Calls.{Answer, ok, go, absent, wait, found, more, done, refused, Outcome, stored, reading, Call, inserting, deleting, writing, beginning, turning, givingUp}
+use Rattle.spec.specs.Calls.{Answer, ok, go, absent, wait, found, more, done, refused, Outcome, firstOf, stored, reading, Call, inserting, deleting, writing, beginning, turning, givingUp}
 use Rattle.spec.specs.PlainList.{Plain, recordFor}
 use Rattle.tree.specs.Linked.{Linked, nil, cell, find}
 use Rattle.heap.specs.Rep.{Rep}
-use Rattle.readers.specs.Marks.{reader-same}
+use Rattle.readers.specs.Marks.{reader-same, reader-other}
 use Rattle.readers.specs.Lookups.{Finds}
 use Rattle.readers.specs.Descends.{turn-found, turn-finds, turn-absent}
-use Rattle.readers.specs.Does.{Does, refuses, plansInsert, plansDelete, waits, stores, begins, loads, misses, finds, leaves, Loads, atRoot, atNode, Passed}
-use Rattle.readers.specs.Safe.{Safe}
-use Rattle.runs.specs.Writer.{Writer}
+use Rattle.readers.specs.Does.{Does, refuses, plansInsert, plansDelete, waits, stores, begins, loads, misses, finds, leaves, Loads, atRoot, atNode, Passed, testsOf}
+use Rattle.readers.specs.Safe.{Safe, end-reader, end-own}
+use Rattle.runs.specs.Writer.{Stores, Writer, afterStore}
 use Rattle.runs.specs.Sound.{Sound}
 use Rattle.runs.specs.Slot.{Stand, stand-begin}
-use Rattle.runs.specs.Follow.{StandAt}
+use Rattle.runs.specs.Follow.{EndsBy, StandAt}
 
 -- which slot a call names, and which call it is
 abbrev slotOf : Call → ℕ
@@ -101,6 +104,29 @@ begun-right st c o A s k (misses t n p l f) safe e a = absurd (let z = ap kindOf
 begun-right st c o A s k (finds t p f g) safe e a = absurd (let z = ap kindOf e in omega arith)
 begun-right st c o A s k (leaves t p) safe e a = absurd (let z = ap kindOf e in omega arith)
 
+-- a call that does not end the reading of slot s, by its answer, by which call it is, by its slot
+not-told : (c : Call) (a : Answer) (s : ℕ) → toldOf a ≢ 0 → toldOf a ≢ 2 → toldOf a ≢ 4 → ¬ (EndsBy c a s)
+not-told c a s p q r (inl x) = q (ap toldOf (x .1))
+not-told c a s p q r (inr (inl x)) = r (ap toldOf (x .2))
+not-told c a s p q r (inr (inr x)) = p (ap toldOf (x .1))
+
+not-kind : (c : Call) (a : Answer) (s : ℕ) → kindOf c ≢ 4 → kindOf c ≢ 5 → ¬ (EndsBy c a s)
+not-kind c a s p q (inl x) = p (ap kindOf (x .0))
+not-kind c a s p q (inr (inl x)) = p (ap kindOf (x .1))
+not-kind c a s p q (inr (inr x)) = q (ap kindOf (x .0))
+
+not-slot : (c : Call) (a : Answer) (s : ℕ) → slotOf c ≢ s → ¬ (EndsBy c a s)
+not-slot c a s d (inl x) = d (ap slotOf (x .0))
+not-slot c a s d (inr (inl x)) = d (ap slotOf (x .1))
+not-slot c a s d (inr (inr x)) = d (ap slotOf (x .0))
+
+write-reading : (st : State) (w : Write) (s : ℕ) → reading (state (st .pool) (withWrite (st .register) w)) s ≡ reading st s
+unfolding withWrite
+write-reading st w s = refl
+
+ended-not : (st : State) (t s : ℕ) → t < slots → Safe st → t ≡ s → reading (endReading st t) s ≡ true → ⊥
+ended-not st t s u h i e = false≢true (sym (ap (λ y. y .reading) (end-own st t u h)) ∙ subst (λ m. reading (endReading st t) m ≡ true) (sym i) e)
+
 module _ (W : State → Plain → Linked → Type 0) (writer : Writer W) where
   -- found
   pub found-right : (st : State) (x : Plain) (c : Call) (o : Outcome) (A : Option ℕ → Type 0) (s k v : ℕ) → Does st c o → Sound W writer st x → c ≡ turning s → o .answer ≡ found v → StandAt st A s k → A (some v)
@@ -143,3 +169,35 @@ module _ (W : State → Plain → Linked → Type 0) (writer : Writer W) where
           (turn-finds (st .pool) A m k d (λ y. i (g .key ∙ y)) (g .finds d))
   absent-right st x c o A s k (finds t p d f) h e a was g = absurd (let z = ap toldOf a in omega arith)
   absent-right st x c o A s k (leaves t p) h e a was g = absurd (let z = ap toldOf a in omega arith)
+
+  -- a slot that reads after a call read before it and the call did not end that, or the call begins its lookup
+  pub read-before : (st : State) (x : Plain) (c : Call) (o : Outcome) → Does st c o → Sound W writer st x → (s : ℕ) → s < slots → reading (o .after) s ≡ true
+      → ((reading st s ≡ true) × (¬ (EndsBy c (o .answer) s))) ⊎ ((k : ℕ) × (c ≡ beginning s k) × (o .answer ≡ ok))
+  read-before st x c o (refuses d n) h s u e = inl (e, not-told d (refused (firstOf (testsOf st d))) s (omega arith) (omega arith) (omega arith))
+  read-before st x c o (plansInsert j v f) h s u e = inl (sym (write-reading st _ s) ∙ e, not-kind (inserting j v) ok s (omega arith) (omega arith))
+  read-before st x c o (plansDelete j f) h s u e = inl (sym (write-reading st _ s) ∙ e, not-kind (deleting j) ok s (omega arith) (omega arith))
+  read-before st x c o (waits d) h s u e = inl (e, not-kind writing wait s (omega arith) (omega arith))
+  read-before st x c o (stores a w f) h s u e =
+      let z = writer .store st x (h .tree) (h .safe) (h .holds) a w f in
+      let same : readerOf (afterStore st .register) s ≡ readerOf (st .register) s = ap (λ xs. getD xs s noReader) (z .turn .readers) in
+      inl (sym (ap (λ y. y .reading) same) ∙ e, not-kind writing _ s (omega arith) (omega arith))
+  read-before st x c o (begins t j v f) h s u e = elim (ℕ-discrete t s) [
+    | yes i ↦ inr (j, ap (λ m. beginning m j) i, refl)
+    | no i ↦ inl (sym (ap (λ y. y .reading) (reader-other (st .register) t s _ i)) ∙ e, not-kind (beginning t j) ok s (omega arith) (omega arith))
+  ]
+  read-before st x c o (loads t n p l d) h s u e = elim (ℕ-discrete t s) [
+    | yes i ↦ inl (subst (λ m. reading st m ≡ true) i (p .reads), not-told (turning t) go s (omega arith) (omega arith) (omega arith))
+    | no i ↦ inl (sym (ap (λ y. y .reading) (reader-other (st .register) t s _ i)) ∙ e, not-told (turning t) go s (omega arith) (omega arith) (omega arith))
+  ]
+  read-before st x c o (misses t n p l f) h s u e = elim (ℕ-discrete t s) [
+    | yes i ↦ absurd (ended-not st t s (p .low) (h .safe) i e)
+    | no i ↦ inl (sym (ap (λ y. y .reading) (end-reader st t s (h .safe) i)) ∙ e, not-slot (turning t) _ s i)
+  ]
+  read-before st x c o (finds t p d f) h s u e = elim (ℕ-discrete t s) [
+    | yes i ↦ absurd (ended-not st t s (p .low) (h .safe) i e)
+    | no i ↦ inl (sym (ap (λ y. y .reading) (end-reader st t s (h .safe) i)) ∙ e, not-slot (turning t) _ s i)
+  ]
+  read-before st x c o (leaves t p) h s u e = elim (ℕ-discrete t s) [
+    | yes i ↦ absurd (ended-not st t s (p .low) (h .safe) i e)
+    | no i ↦ inl (sym (ap (λ y. y .reading) (end-reader st t s (h .safe) i)) ∙ e, not-slot (givingUp t) _ s i)
+  ]

@@ -216,3 +216,8 @@ module _ (N : ℕ) (lo : 8 ≤ N) where
     };
     write = write-none N;
   }
+
+  -- and no slot reads
+  pub quiet-fresh : (s : ℕ) → readerOf (fresh N .register) s .reading ≡ false
+  unfolding fresh freshRegister
+  quiet-fresh s = ap (λ x. x .reading) (quiet s)

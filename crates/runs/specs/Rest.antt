@@ -1,6 +1,6 @@
--- The other promises about runs: the free queue, waits, writes done within seven stores, the tree at rest, and that 2 and 12 are never met.
+-- The other promises about runs: the free queue, waits, writes done within seven stores, the tree at rest, and that 1, 2 and 12 are never met.
 -- What of them is the writer's side alone is asked as `Completes`.
-use Prim.Native.Nat.{ℕ, zero, suc, _+_, _^_, _<_, _≤_}
+use Prim.Native.Nat.{ℕ, zero, suc, _+_, _%_, _^_, _<_, _≤_}
 use mathlib.Core.Path.{_≡_, refl, sym, ap, _∙_, subst}
 use mathlib.Core.Bool.{Bool, true, false, cond, not, _&&_, false≢true}
 use mathlib.Core.List.{List, [], _∷_}
@@ -11,27 +11,27 @@ use native.Mathlib.Numerals.{add-one}
 use native.Mathlib.Decide.{ℕ-discrete}
 use lib.Dec.{eqb}
 use lib.ListN.{length}
-use borrow.Author.Tests.{eqb-true, eqb-false, eq-eqb, ne-eqb}
+use borrow.Author.Tests.{eqb-true, eqb-false, eq-eqb, ne-eqb, le-leb}
 use Rattle.types.specs.declared.Link.{Link}
 use Rattle.types.specs.declared.Register.{Register}
 use Rattle.sequential.specs.Tree.{leaf}
 use Rattle.sequential.specs.Delete.{changedBy}
-use Rattle.spec.specs.Pool.{word, colourWord, nodes, slots, lengthRight}
+use Rattle.spec.specs.Pool.{word, colourWord, nodes, nodeWords, leastNodes, mostNodes, slots, lengthRight}
 use Rattle.spec.specs.Register.{State, state, mostStores, storeOf, hasSlot, withWrite, lessFirst}
 use Rattle.spec.specs.Turn.{Made, stepFinds, stepMade}
 use Rattle.spec.specs.Calls.{Answer, ok, go, absent, wait, found, more, done, refused, Outcome, outcome, stored, Test, _gives_, firstOf, unless, wrongLength, outOfRange, slotTooHigh, reading, writeInHand, placeOf, tooDeep, isHeld, full, fewerFree, insertAt, deleteAt, insert, delete, writerTurn, begin, readerTests, readerStep, readerTurn, giveUp, Call, inserting, deleting, writing, beginning, turning, givingUp, call}
-use Rattle.spec.specs.PlainList.{Plain, accepted}
+use Rattle.spec.specs.PlainList.{Plain, Heard, went, heard, accepted}
 use Rattle.laws.specs.Words.{Node}
 use Rattle.laws.specs.Slots.{no-slot}
 use Rattle.tree.specs.Linked.{Linked}
 use Rattle.promise.specs.Run.{Moment, thenPerhaps, callAt, after, indexAfter, plainAfter, Gives}
 use Rattle.promise.specs.Demands.{Stands, FreeRight, Demand2, NeverMet}
-use Rattle.readers.specs.Words.{node-high, node-in}
+use Rattle.readers.specs.Words.{Whole, node-high, node-in}
 use Rattle.readers.specs.Owned.{Slots}
-use Rattle.readers.specs.Does.{Does, does, refuses, plansInsert, plansDelete, waits, stores, begins, loads, misses, finds, leaves, testsOf, insertTests, deleteTests, turnTests, beginTests, own, not-false}
+use Rattle.readers.specs.Does.{Does, does, refuses, plansInsert, plansDelete, waits, stores, begins, loads, misses, finds, leaves, testsOf, insertTests, deleteTests, turnTests, beginTests, own, waiting, Clear, not-false}
 use Rattle.readers.specs.Safe.{Safe}
 use Rattle.runs.specs.Writer.{Writer, afterStore}
-use Rattle.runs.specs.Sound.{Sound}
+use Rattle.runs.specs.Sound.{Sound, store-went}
 use Rattle.runs.specs.Theorem.{sound-at}
 
 -- the free queue
@@ -163,6 +163,20 @@ not-two st (beginning s k) r = avoided 2 (beginTests st s) (omega arith) (inl (o
 not-two st (turning s) r = avoided 2 (readerTests st s) (omega arith) (inl (omega arith), λ _. (inr r, λ _. (inl (omega arith), λ _. (inl (omega arith), λ _. tt))))
 not-two st (givingUp s) r = avoided 2 (readerTests st s) (omega arith) (inl (omega arith), λ _. (inr r, λ _. (inl (omega arith), λ _. (inl (omega arith), λ _. tt))))
 
+pub not-one : (st : State) (c : Call) → wrongLength st ≡ false → firstOf (testsOf st c) ≢ 1
+not-one st (inserting k v) r = avoided 1 (insertTests st k v) (omega arith) (inr r, λ _. (inl (omega arith), λ _. (inl (omega arith), λ _. (inl (omega arith), λ _. (inl (omega arith), λ _. (inl (omega arith), λ _. (inl (omega arith), λ _. (inl (omega arith), λ _. tt))))))))
+not-one st (deleting k) r = avoided 1 (deleteTests st k) (omega arith) (inr r, λ _. (inl (omega arith), λ _. (inl (omega arith), λ _. (inl (omega arith), λ _. (inl (omega arith), λ _. (inl (omega arith), λ _. (inl (omega arith), λ _. tt)))))))
+not-one st writing r = avoided 1 (turnTests st) (omega arith) (inr r, λ _. (inl (omega arith), λ _. (inl (omega arith), λ _. (inl (omega arith), λ _. tt))))
+not-one st (beginning s k) r = avoided 1 (beginTests st s) (omega arith) (inr r, λ _. (inl (omega arith), λ _. (inl (omega arith), λ _. (inl (omega arith), λ _. tt))))
+not-one st (turning s) r = avoided 1 (readerTests st s) (omega arith) (inr r, λ _. (inl (omega arith), λ _. (inl (omega arith), λ _. (inl (omega arith), λ _. tt))))
+not-one st (givingUp s) r = avoided 1 (readerTests st s) (omega arith) (inr r, λ _. (inl (omega arith), λ _. (inl (omega arith), λ _. (inl (omega arith), λ _. tt))))
+
+-- a pool of N nodes has the right length
+pub length-right : (st : State) (N : ℕ) → 8 ≤ N → N ≤ 1023 → Whole (st .pool) → nodes (st .pool) ≡ N → wrongLength st ≡ false
+unfolding lengthRight
+length-right st N lo hi w e =
+    rw (eq-eqb (length (st .pool) % nodeWords) 0 (omega arith), le-leb leastNodes (nodes (st .pool)) (omega arith), le-leb (nodes (st .pool)) mostNodes (omega arith))
+
 -- What the writer's side gives of these.
 pub record Completes (W : State → Plain → Linked → Type 0) : Type 0 where
   pub rest : (st : State) (x : Plain) (T : Linked) → W st x T → ((n : ℕ) → word (st .pool) n colourWord ≤ 1) → writeInHand st ≡ false → Stands (st .pool) (st .register .root) (changedBy leaf (accepted x))
@@ -215,3 +229,60 @@ not-twelve W w st x T h g writing =
 not-twelve W w st x T h g (beginning s k) = avoided 12 (beginTests st s) (omega arith) (inl (omega arith), λ _. (inl (omega arith), λ _. (inl (omega arith), λ _. (inl (omega arith), λ _. tt))))
 not-twelve W w st x T h g (turning s) = avoided 12 (readerTests st s) (omega arith) (inl (omega arith), λ _. (inl (omega arith), λ _. (inl (omega arith), λ _. (inl (omega arith), λ _. tt))))
 not-twelve W w st x T h g (givingUp s) = avoided 12 (readerTests st s) (omega arith) (inl (omega arith), λ _. (inl (omega arith), λ _. (inl (omega arith), λ _. (inl (omega arith), λ _. tt))))
+
+all-clear : (ts : List Test) → Clear ts → firstOf ts ≡ 0
+all-clear [] h = refl
+all-clear ((true gives n) ∷ ts) h = absurd (false≢true (sym (h .0)))
+all-clear ((false gives n) ∷ ts) h = all-clear ts (h .1)
+
+and-false : (a b : Bool) → b ≡ false → (a && b) ≡ false
+and-false true b e = e
+and-false false b e = refl
+
+-- awaited slots read, so if none of them reads none is awaited
+pub none-awaited : (st : State) → Safe st → ((s : ℕ) → s < slots → hasSlot (st .register .awaited) s ≡ true → reading st s ≡ false) → st .register .awaited ≡ 0
+none-awaited st h f =
+    let a = h .owned .awaited in
+    no-slot slots (st .register .awaited) (a .below) (λ s u. go s u (hasSlot (st .register .awaited) s) refl)
+  where
+    go : (s : ℕ) → s < slots → (b : Bool) → hasSlot (st .register .awaited) s ≡ b → hasSlot (st .register .awaited) s ≡ false
+    go s u true e = absurd (false≢true (sym (f s u e) ∙ h .owned .awaited .reads s u e))
+    go s u false e = e
+
+-- a turn that passes its tests, no slot being awaited, makes a store
+pub turn-clear : (st : State) → wrongLength st ≡ false → outOfRange st ≡ false → writeInHand st ≡ true → own st ≡ true → firstOf (turnTests st) ≡ 0
+turn-clear st a b w f = all-clear (turnTests st) (a, (b, (not-true (writeInHand st) w, (and-false (not (waiting st)) (not (own st)) (not-true (own st) f), tt))))
+
+pub turn-goes : (st : State) (c : Call) (o : Outcome) → Does st c o → firstOf (testsOf st c) ≡ 0 → st .register .awaited ≡ 0 → heard (o .answer) ≡ went
+turn-goes st c o (refuses d x) e z = absurd (x e)
+turn-goes st c o (plansInsert j v f) e z = refl
+turn-goes st c o (plansDelete j f) e z = refl
+turn-goes st c o (waits d) e z = absurd (d z)
+turn-goes st c o (stores a w f) e z = store-went (stepMade st (storeOf (st .register) 0 .link) (storeOf (st .register) 0 .step))
+turn-goes st c o (begins t j u f) e z = refl
+turn-goes st c o (loads t n p l f) e z = refl
+turn-goes st c o (misses t n p l f) e z = refl
+turn-goes st c o (finds t p d f) e z = refl
+turn-goes st c o (leaves t p) e z = refl
+
+-- a store that answers done leaves none to come
+stored-done : (m : Made) → toldOf (stored m .answer) ≡ 6 → stored m .after .register .write .count ≡ 0
+unfolding stored withWrite
+stored-done m = go (eqb (lessFirst (m .after .register .write) .count) 0) refl
+  where
+    go : (b : Bool) → eqb (lessFirst (m .after .register .write) .count) 0 ≡ b
+        → toldOf (cond b (done (m .link) (m .node)) (more (m .link) (m .node))) ≡ 6 → lessFirst (m .after .register .write) .count ≡ 0
+    go true e t = eqb-true _ 0 e
+    go false e t = absurd (omega arith)
+
+pub done-left : (st : State) (c : Call) (o : Outcome) (l : Link) (n : ℕ) → Does st c o → o .answer ≡ done l n → o .after .register .write .count ≡ 0
+done-left st c o l n (refuses d x) e = absurd (let z = ap toldOf e in omega arith)
+done-left st c o l n (plansInsert j v f) e = absurd (let z = ap toldOf e in omega arith)
+done-left st c o l n (plansDelete j f) e = absurd (let z = ap toldOf e in omega arith)
+done-left st c o l n (waits d) e = absurd (let z = ap toldOf e in omega arith)
+done-left st c o l n (stores a w f) e = stored-done (stepMade st (storeOf (st .register) 0 .link) (storeOf (st .register) 0 .step)) (ap toldOf e)
+done-left st c o l n (begins t j u f) e = absurd (let z = ap toldOf e in omega arith)
+done-left st c o l n (loads t m p i f) e = absurd (let z = ap toldOf e in omega arith)
+done-left st c o l n (misses t m p i f) e = absurd (let z = ap toldOf e in omega arith)
+done-left st c o l n (finds t p d f) e = absurd (let z = ap toldOf e in omega arith)
+done-left st c o l n (leaves t p) e = absurd (let z = ap toldOf e in omega arith)

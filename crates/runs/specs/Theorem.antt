@@ -1,7 +1,7 @@
 -- Demand 3 of every list of calls, from what the writer's side gives (Writer).
 use Prim.Native.Nat.{ℕ, zero, suc, _+_, _-_, _<_, _≤_}
 use mathlib.Core.Path.{_≡_, refl, sym, ap, _∙_, subst}
-use mathlib.Core.Bool.{Bool, true, false}
+use mathlib.Core.Bool.{Bool, true, false, false≢true}
 use mathlib.Core.List.{List, [], _∷_}
 use mathlib.Core.Option.{Option, none, some}
 use mathlib.Core.Logic.{_≢_, _⊎_, inl, inr, ⊎-map}
@@ -26,13 +26,17 @@ use Rattle.runs.specs.Writer.{Writer}
 use Rattle.runs.specs.Sound.{Sound, sound-next}
 use Rattle.runs.specs.Slot.{Stand, stand-more}
 use Rattle.runs.specs.Follow.{EndsBy, StandAt, stand-next, kept-next}
-use Rattle.runs.specs.Answers.{begun-right, found-right, absent-right}
-use Rattle.runs.specs.Begin.{safe-fresh}
+use Rattle.runs.specs.Answers.{begun-right, found-right, absent-right, read-before}
+use Rattle.runs.specs.Begin.{safe-fresh, quiet-fresh}
 
 -- the call that there is
 abbrev given : Call → Option Call → Call
 given c none = c
 given c (some d) = d
+
+abbrev thereIs : Option Call → ℕ
+thereIs none = 0
+thereIs (some c) = 1
 
 module _ (W : State → Plain → Linked → Type 0) (writer : Writer W) (N : ℕ) (lo : 8 ≤ N) (hi : N ≤ 1023) (cs : List Call) where
   abbrev at : ℕ → State
@@ -95,6 +99,48 @@ module _ (W : State → Plain → Linked → Type 0) (writer : Writer W) (N : �
         (g .0, stand-perhaps s k i j (callAt cs j) refl u (g .0) (l .lasts j u (omega arith)) (g .1) (now k i (suc j) (omega arith))))
   ]
 
+  -- the other way: a reading slot is in a lookup
+  ends-by : (s j : ℕ) (c : Call) → callAt cs j ≡ some c → Ends N cs s j → EndsBy c (call (at j) c .answer) s
+  ends-by s j c e (inl x) = let i : c ≡ turning s = ap (given c) (sym e ∙ x .0) in inl (i, ap (λ d. call (at j) d .answer) i ∙ x .1)
+  ends-by s j c e (inr (inl x)) = let i : c ≡ turning s = ap (given c) (sym e ∙ x .1 .0) in inr (inl (x .0, i, ap (λ d. call (at j) d .answer) i ∙ x .1 .1))
+  ends-by s j c e (inr (inr x)) = let i : c ≡ givingUp s = ap (given c) (sym e ∙ x .0) in inr (inr (i, ap (λ d. call (at j) d .answer) i ∙ x .1))
+
+  none-ends : (s j : ℕ) → callAt cs j ≡ none → ¬ (Ends N cs s j)
+  none-ends s j e (inl x) = let z = ap thereIs (sym e ∙ x .0) in omega arith
+  none-ends s j e (inr (inl x)) = let z = ap thereIs (sym e ∙ x .1 .0) in omega arith
+  none-ends s j e (inr (inr x)) = let z = ap thereIs (sym e ∙ x .0) in omega arith
+
+  longer : (s k i j : ℕ) → Lookup N cs s k i j → ¬ (Ends N cs s j) → Lookup N cs s k i (suc j)
+  longer s k i j l h = record {
+    begins = l .begins;
+    later = (let z = l .later in omega arith);
+    lasts = λ t a b x. elim (ℕ-discrete t j) [ yes y ↦ h (subst (λ m. Ends N cs s m) y x) | no d ↦ l .lasts t a (omega arith) x ];
+  }
+
+  abbrev In : ℕ → ℕ → Type 0
+  In s j = (k : ℕ) × (i : ℕ) × Lookup N cs s k i j
+
+  in-perhaps : (s j : ℕ) (c : Option Call) → callAt cs j ≡ c → s < slots → reading (thenPerhaps (after N cs j) c .index) s ≡ true → (reading (at j) s ≡ true → In s j) → In s (suc j)
+  in-perhaps s j none q u e f = let z = f e in (z .0, z .1, longer s (z .0) (z .1) j (z .2) (none-ends s j q))
+  in-perhaps s j (some c) q u e f = go (read-before W writer (at j) (list j) c (call (at j) c) (does (at j) c) (sound-at j) s u e)
+    where
+      go : ((reading (at j) s ≡ true) × (¬ (EndsBy c (call (at j) c .answer) s))) ⊎ ((k : ℕ) × (c ≡ beginning s k) × (call (at j) c .answer ≡ ok)) → In s (suc j)
+      go (inl x) = let z = f (x .0) in (z .0, z .1, longer s (z .0) (z .1) j (z .2) (λ y. x .1 (ends-by s j c q y)))
+      go (inr x) = (
+        x .0,
+        j,
+        record {
+          begins = (q ∙ ap some (x .1), ap (λ d. call (at j) d .answer) (sym (x .1)) ∙ x .2);
+          later = omega arith;
+          lasts = λ t a b. absurd (omega arith);
+        },
+      )
+
+  in-lookup : (s j : ℕ) → s < slots → reading (at j) s ≡ true → In s j
+  unfolding after
+  in-lookup s zero u e = absurd (false≢true (sym (quiet-fresh N lo s) ∙ e))
+  in-lookup s (suc j) u e = in-perhaps s j (callAt cs j) refl u e (in-lookup s j u)
+
   -- Part 1.
   lookups : LookupsRight N cs
   lookups = record {
@@ -106,6 +152,8 @@ module _ (W : State → Plain → Linked → Type 0) (writer : Writer W) (N : �
         let z = stands s k i j l in
         widen k i j none (absent-right W writer (at j) (list j) (turning s) (call (at j) (turning s)) (Possible k i j) s k (does (at j) (turning s)) (sound-at j) refl (g .1) (now k i j (l .later)) (z .1))
         );
+    reads = λ s k i j l. (let z = stands s k i j l in (z .0, z .1 .reads, z .1 .key));
+    inLookup = in-lookup;
   }
     where
       widen : (k i j : ℕ) (o : Option ℕ) → Possible k i j o → AtOneMoment N cs k i j o

@@ -7,12 +7,13 @@ use mathlib.Core.Option.{Option, none, some}
 use mathlib.Core.Logic.{_≢_, ⊎-elim}
 use native.Mathlib.Omega.{arith}
 use native.Mathlib.Numerals.{add-one}
-use borrow.Author.Tests.{ne-eqb}
+use borrow.Author.Tests.{eq-eqb, ne-eqb}
 use Rattle.types.specs.declared.Link.{Link}
-use Rattle.spec.specs.Register.{State, mostStores, storeOf}
+use Rattle.spec.specs.Pool.{slots}
+use Rattle.spec.specs.Register.{State, mostStores, storeOf, hasSlot}
 use Rattle.spec.specs.Turn.{stepMade}
-use Rattle.spec.specs.Calls.{Answer, more, wait, refused, Outcome, writeInHand, Call, writing, call}
-use Rattle.spec.specs.PlainList.{Plain}
+use Rattle.spec.specs.Calls.{Answer, more, done, wait, refused, Outcome, wrongLength, reading, writeInHand, Call, writing, call}
+use Rattle.spec.specs.PlainList.{Plain, Heard, went, heard}
 use Rattle.tree.specs.Linked.{Linked}
 use Rattle.promise.specs.Run.{Moment, thenPerhaps, callAt, after, indexAfter, plainAfter, Gives}
 use Rattle.promise.specs.Demands.{Demand2, Demand3, NeverMet, Promise}
@@ -23,7 +24,7 @@ use Rattle.runs.specs.Writer.{Writer}
 use Rattle.runs.specs.Begin.{ranged-fresh}
 use Rattle.runs.specs.Sound.{Sound}
 use Rattle.runs.specs.Theorem.{sound-at, demand3}
-use Rattle.runs.specs.Rest.{Completes, safe-free, wait-right, toldOf, stored-told, refused-by, not-two, not-twelve}
+use Rattle.runs.specs.Rest.{Completes, safe-free, wait-right, toldOf, stored-told, refused-by, not-one, not-two, not-twelve, length-right, none-awaited, turn-clear, turn-goes, done-left}
 
 -- a turn that answers more leaves stores to come
 more-left : (st : State) (c : Call) (o : Outcome) (l : Link) (n : ℕ) → Does st c o → o .answer ≡ more l n → o .after .register .write .count ≢ 0
@@ -69,12 +70,33 @@ module _ (W : State → Plain → Linked → Type 0) (writer : Writer W) (comple
   ranged zero = ranged-fresh N lo
   ranged (suc j) = ranged-perhaps (after N cs j) (callAt cs j) (ranged j)
 
+  -- the pool keeps its length
+  lent : (j : ℕ) → wrongLength (at j) ≡ false
+  lent j = length-right (at j) N lo hi (sound j .safe .whole) (ranged j .within .size)
+
+  goesOn : (j : ℕ) → writeInHand (at j) ≡ true → ((s : ℕ) → s < slots → hasSlot (at j .register .awaited) s ≡ true → reading (at j) s ≡ false)
+      → heard (call (at j) writing .answer) ≡ went
+  goesOn j w f =
+      let h = sound j in
+      let z = none-awaited (at j) (h .safe) f in
+      turn-goes (at j) writing (call (at j) writing) (does (at j) writing)
+      (turn-clear (at j) (lent j) (ranged-in N (at j) (ranged j)) w (completes .stepGoes (at j) (plainAfter N cs j) (h .tree) (h .safe) (h .holds) z w)) z
+
+  finished : (j : ℕ) (l : Link) (n : ℕ) → Gives N cs j writing (done l n) → writeInHand (at (j + 1)) ≡ false
+  finished j l n g =
+      let none-left : at (suc j) .register .write .count ≡ 0 =
+      subst (λ st. st .register .write .count ≡ 0) (sym (next-is j writing (g .0))) (done-left (at j) writing (call (at j) writing) l n (does (at j) writing) (g .1)) in
+      rw (add-one j, eq-eqb (at (suc j) .register .write .count) 0 none-left)
+
   pub demand2 : Demand2 N cs
   demand2 = record {
     atRest = λ j e. (let h = sound j in completes .rest (at j) (plainAfter N cs j) (h .tree) (h .holds) (λ n. colour-fits N (at j .pool) n (ranged j .within .fits)) e);
     free = λ j. safe-free (at j) (sound j .safe);
     soon = soon;
     waits = λ j g. wait-right (at j) writing (call (at j) writing) (does (at j) writing) (sound j .safe) (g .1);
+    goesOn = goesOn;
+    finished = finished;
+    size = λ j. ranged j .within .size;
   }
 
   pub never : NeverMet N cs
@@ -82,6 +104,7 @@ module _ (W : State → Plain → Linked → Type 0) (writer : Writer W) (comple
     range = λ j c g. not-two (at j) c (ranged-in N (at j) (ranged j)) (refused-by (at j) c (call (at j) c) 2 (omega arith) (does (at j) c) (g .1));
     steps = λ j c g. (let h = sound j in
         not-twelve W completes (at j) (plainAfter N cs j) (h .tree) (h .safe) (h .holds) c (refused-by (at j) c (call (at j) c) 12 (omega arith) (does (at j) c) (g .1)));
+    lent = λ j c g. not-one (at j) c (lent j) (refused-by (at j) c (call (at j) c) 1 (omega arith) (does (at j) c) (g .1));
   }
 
   pub promise : Promise N cs
