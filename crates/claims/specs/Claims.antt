@@ -4,14 +4,14 @@
 use Prim.Native.Nat.{ℕ, _+_, _<_, _≤_}
 use mathlib.Core.Path.{_≡_}
 use mathlib.Core.List.{List}
-use mathlib.Core.Option.{Option, none, some}
+use mathlib.Core.Option.{none, some}
 use lib.ListN.{length}
-use Rattle.spec.specs.Pool.{word, standingWord, standingFree, standingRetired}
+use Rattle.spec.specs.Pool.{word, standingWord, standingFree}
 use Rattle.spec.specs.Register.{State}
 use Rattle.spec.specs.Calls.{Answer, absent, found, Call, turning, call}
 use Rattle.spec.specs.PlainList.{Ticket, recordFor}
 use Rattle.promise.specs.Run.{callAt, indexAfter, ticketsAfter, Lookup}
-use Rattle.promise.specs.Demands.{Promise, Going, answerOf, Reaches}
+use Rattle.promise.specs.Demands.{Going, answerOf, Reaches}
 use Rattle.joined.specs.Theorem.{promise}
 
 -- what a call answers

@@ -1,9 +1,8 @@
 -- Delete's climb along a path held in an array, one level at a time.
 use mathlib.Core.Path.{_≡_, refl, sym, ap, _∙_}
 use mathlib.Core.List.{List, [], _∷_}
-use mathlib.Core.Bool.{Bool, true, false, cond}
-use lib.Dec.{eqb}
-use lib.ListN.{length, getD}
+use mathlib.Core.Bool.{true, false}
+use lib.ListN.{getD}
 use borrow.Author.Tests.{eq-eqb, ne-eqb}
 use native.Mathlib.Omega.{arith}
 use Prim.Native.Nat.{ℕ, zero, suc, _+_, _-_, _<_, _≤_}
@@ -13,7 +12,7 @@ use Rattle.types.specs.declared.Ending.the-variants.{Calm, Blacken, Rotate, Mis
 use Rattle.types.specs.Side.{other, owner, sideOf}
 use Rattle.spec.specs.Pool.{child, isRed, paint, redColour}
 use Rattle.spec.specs.Plan.{climb, sink, redSibling, redChild, borrow as borrowed, paintSink}
-use Rattle.paths.specs.Upward.{linkOf, upward}
+use Rattle.paths.specs.Upward.{upward}
 use Rattle.climbs.specs.Rises.{linkIn, upward-first, upward-two, upward-zero}
 
 module _ (p : List ℕ) (m x : ℕ) (a : List ℕ) (c : ℕ) where

@@ -1,59 +1,54 @@
 -- At rest, an accepted delete: its form, which of its stores is the list store, and that four free nodes are enough.
-use Prim.Native.Nat.{ℕ, zero, suc, _+_, _-_, _/_, _<_, _≤_}
+use Prim.Native.Nat.{ℕ, _+_, _-_, _≤_}
 use mathlib.Core.Path.{_≡_, refl, sym, ap, _∙_, subst}
 use mathlib.Core.Logic.{_≢_}
 use mathlib.Core.Bool.{Bool, true, false, cond, not, _&&_, false≢true}
-use mathlib.Core.List.{List, [], _∷_, _++_}
+use mathlib.Core.List.{List, [], _∷_}
 use mathlib.Core.Option.{Option, none, some}
 use native.Mathlib.Omega.{arith}
 use native.Mathlib.Decide.{ℕ-discrete}
 use lib.Dec.{eqb}
-use lib.ListN.{length}
 use borrow.Author.Tests.{eq-eqb, ne-eqb, ltb-false}
 use Rattle.base.specs.Walk.{cond-both}
 use Rattle.types.specs.declared.Side.{Side}
 use Rattle.types.specs.declared.Side.the-variants.{L, R}
 use Rattle.types.specs.declared.Link.{Link}
 use Rattle.types.specs.declared.Form.the-variants.{Diag, Zig}
-use Rattle.types.specs.declared.Rule.the-variants.{Pass, Borrow}
-use Rattle.types.specs.declared.Rotation.{Rotation}
+use Rattle.types.specs.declared.Rule.the-variants.{Borrow}
 use Rattle.types.specs.declared.Ending.{Ending}
-use Rattle.types.specs.declared.Ending.the-variants.{Calm, Blacken, Rotate, RotateTwice, Missing}
+use Rattle.types.specs.declared.Ending.the-variants.{Calm, Blacken, Missing}
 use Rattle.types.specs.declared.Climb.{Climb}
 use Rattle.types.specs.declared.Place.{Place}
-use Rattle.types.specs.declared.Place.the-variants.{Held, Empty, TooDeep}
 use Rattle.types.specs.declared.Step.the-variants.{Unlink, Adopt, Replace, Publish, Detach}
 use Rattle.types.specs.declared.Store.{Store}
-use Rattle.types.specs.declared.Register.{Register}
 use Rattle.types.specs.Side.{other, linkAt, owner, sideOf}
 use Rattle.sequential.specs.Tree as Seq
 use Rattle.sequential.specs.Tree.{Colour, Tree, leaf, node, descend}
 use Rattle.sequential.specs.Delete as SeqDelete
-use Rattle.sequential.specs.Delete.{Change, deletion, changedBy}
-use Rattle.spec.specs.Pool.{word, child, isRed, keyWord, nodes as poolNodes}
-use Rattle.spec.specs.Register.{State, linkNode, withWrite, writeOf}
+use Rattle.sequential.specs.Delete.{deletion}
+use Rattle.spec.specs.Pool.{word, child, isRed, keyWord}
+use Rattle.spec.specs.Register.{State, linkNode, writeOf}
 use Rattle.spec.specs.Search.{pathTo}
-use Rattle.spec.specs.Plan.{climb, redChild, redSibling, sink, lossClimb, store, rotationStores, endingStores, Plan, twoChildren, onlyChild, successorPath, unlinkPlan, successorPlan, deletePlan}
-use Rattle.spec.specs.Calls.{firstOf, writeInHand, placeOf, isHeld, tooDeep, deleteAt}
+use Rattle.spec.specs.Plan.{climb, redChild, redSibling, sink, lossClimb, store, endingStores, Plan, twoChildren, onlyChild, successorPath, unlinkPlan, successorPlan, deletePlan}
+use Rattle.spec.specs.Calls.{firstOf, placeOf, isHeld, deleteAt}
 use Rattle.spec.specs.PlainList.{Ticket, Plain, recordFor, without, listed, accepted, begun, adopts}
 use Rattle.tree.specs.Sorted.{Ordered}
 use Rattle.tree.specs.Descent as Descent
 use Rattle.tree.specs.Descent.{descend-place}
 use Rattle.tree.specs.Changes.{history-proper, find-delete, find-delete-other}
 use Rattle.tree.specs.Linked.{Node, Linked, nil, cell, find}
-use Rattle.tree.specs.Zipper.{Frame, plug, Into}
 use Rattle.tree.specs.Erase.{erase, eraseWay, erase-plug, erase-find, erase-into}
 use Rattle.heap.specs.Rep.{Rep}
 use Rattle.heap.specs.Sites.{linkTo, site-of}
 use Rattle.heap.specs.Colours.{colours}
 use Rattle.heap.specs.Shift.{listStore, heldAfter}
-use Rattle.heap.specs.Plans.{Rest, Placed, empty-at, held-at, placed, Planned}
-use Rattle.heap.specs.Writes.{InHand, Finished}
+use Rattle.heap.specs.Plans.{Rest, Placed, empty-at, held-at, placed}
+use Rattle.heap.specs.Writes.{InHand}
 use Rattle.heap.specs.Accept.{accepted-in-hand, searched, heldOf, delete-possible}
-use Rattle.readers.specs.Does.{Clear, clear, deleteTests, not-false}
+use Rattle.readers.specs.Does.{clear, deleteTests, not-false}
 use Rattle.readers.specs.Safe.{Safe}
 use Rattle.runs.specs.Writer.{planned}
-use Rattle.joined.specs.Tickets.{Unique, none-some, without-same, without-other, unique-without, without-some}
+use Rattle.joined.specs.Tickets.{without-same, without-other, unique-without, without-some}
 use Rattle.joined.specs.Laters.{takesAll}
 use Rattle.joined.specs.Joined.{seqOf, indexOf, Pending, Timing, now, soon, Joined}
 use Rattle.joined.specs.Rests.{resting, changed-end, few-turn, with-held, with-free}

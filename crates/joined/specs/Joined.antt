@@ -1,17 +1,15 @@
 -- The writer's side of the invariant (runs: Writer): the write in hand at its phase, the linked nodes the tree's, the plain list what lookups
 -- find, and when its list store is due. Kept by a turn.
-use Prim.Native.Nat.{ℕ, zero, suc, _+_, _/_, _<_, _≤_}
+use Prim.Native.Nat.{ℕ, _+_, _/_, _<_, _≤_}
 use mathlib.Core.Path.{_≡_, refl, sym, ap, _∙_, subst}
-use mathlib.Core.Logic.{_≢_, _⊎_, inl, inr, ⊎-elim, _↔_}
-use mathlib.Core.Bool.{Bool, true, false, cond, false≢true}
-use mathlib.Core.List.{List, [], _∷_, _++_}
-use mathlib.Core.Option.{Option, none, some}
+use mathlib.Core.Logic.{_≢_, inl, _↔_}
+use mathlib.Core.Bool.{true, false, false≢true}
+use mathlib.Core.List.{List, [], _∷_}
+use mathlib.Core.Option.{some}
 use native.Mathlib.Omega.{arith}
-use lib.Dec.{eqb}
 use lib.ListN.{length}
 use borrow.Author.Tests.{eq-eqb, ne-eqb}
 use Rattle.types.specs.declared.Store.{Store}
-use Rattle.types.specs.declared.Register.{Register}
 use Rattle.sequential.specs.Tree as Seq
 use Rattle.sequential.specs.Tree.{Tree, leaf}
 use Rattle.sequential.specs.Delete.{Change, changedBy}
@@ -24,7 +22,7 @@ use Rattle.tree.specs.Distinct.{_∈_}
 use Rattle.tree.specs.Linked.{Linked, find, nodes}
 use Rattle.tree.specs.Occurs.{occ, occ-in}
 use Rattle.heap.specs.Moves.{Fresh}
-use Rattle.heap.specs.Shift.{listStore, takenBy, heldAfter, later, Ready, Next}
+use Rattle.heap.specs.Shift.{listStore, takenBy, heldAfter, later, Ready}
 use Rattle.heap.specs.Nodes.{Settled}
 use Rattle.heap.specs.Settle.{phase-settles, later-settled, turn-told, turn-same}
 use Rattle.heap.specs.Writes.{InHand, write-count}
@@ -36,7 +34,7 @@ use Rattle.runs.specs.Writer.{Stores, afterStore}
 use Rattle.joined.specs.Tickets.{Unique}
 use Rattle.joined.specs.Laters.{takesAll, later-plain, held-plain, later-length, later-takes, taken-length}
 use Rattle.joined.specs.Steps.{Stocked}
-use Rattle.joined.specs.Meet.{turned, met-turn, met-linked, met-stores, after-is}
+use Rattle.joined.specs.Meet.{turned, met-turn, met-linked, met-stores}
 
 abbrev pub seqOf : Plain → Tree
 seqOf x = changedBy leaf (accepted x)

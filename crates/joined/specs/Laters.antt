@@ -1,7 +1,7 @@
 -- The stores still to come after a step: how many, how many nodes they take; and what a store that is no list store leaves as it was.
 use Prim.Native.Nat.{ℕ, suc, _+_}
 use mathlib.Core.Path.{_≡_, refl, sym, ap}
-use mathlib.Core.Bool.{true, false, false≢true}
+use mathlib.Core.Bool.{false, false≢true}
 use mathlib.Core.List.{List, [], _∷_, map}
 use lib.ListN.{length}
 use Rattle.types.specs.declared.Link.{Link}

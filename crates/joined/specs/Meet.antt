@@ -1,12 +1,10 @@
 -- A turn on a phase (heap: Writes.turn) gives all that the readers' side asks of a store (runs: Stores), and the nodes linked afterwards are
 -- again those of the tree.
-use Prim.Native.Nat.{ℕ, zero, suc, _+_, _<_, _≤_}
-use mathlib.Core.Path.{_≡_, refl, sym, ap, _∙_, subst}
-use mathlib.Core.Logic.{_≢_, _⊎_, inl, inr, ⊎-elim, _↔_}
-use mathlib.Core.Bool.{Bool, true, false, cond}
-use mathlib.Core.List.{List, [], _∷_, _++_}
+use Prim.Native.Nat.{ℕ, _<_}
+use mathlib.Core.Path.{_≡_, refl, sym, _∙_, subst}
+use mathlib.Core.Logic.{_⊎_, inl, inr, ⊎-elim, _↔_}
+use mathlib.Core.List.{List, [], _∷_}
 use native.Mathlib.Omega.{arith}
-use lib.Dec.{eqb}
 use lib.ListN.{length}
 use borrow.Author.Tests.{eq-eqb}
 use Rattle.types.specs.declared.Side.{Side}
@@ -18,19 +16,17 @@ use Rattle.types.specs.declared.Step.the-variants.{Vacant, Insert, DiagLower, D
 use Rattle.types.specs.declared.Store.{Store}
 use Rattle.types.specs.declared.Register.{Register}
 use Rattle.types.specs.Side.{owner}
-use Rattle.spec.specs.Pool.{child, word, standingWord, standingFree, standingLinked}
-use Rattle.spec.specs.Register.{State, state, storeOf, withWrite, readingSlots, lessFirst}
+use Rattle.spec.specs.Pool.{child, standingLinked}
+use Rattle.spec.specs.Register.{State, state, withWrite, readingSlots, lessFirst}
 use Rattle.spec.specs.Turn.{Made, insertStore, stepMade}
 use Rattle.spec.specs.Calls.{stored}
 use Rattle.sequential.specs.Tree.{Tree}
 use Rattle.tree.specs.Distinct.{_∈_, in-append}
-use Rattle.tree.specs.Linked.{Node, Linked, nil, cell, path, nodes}
+use Rattle.tree.specs.Linked.{Linked, nil, cell, path, nodes}
 use Rattle.tree.specs.Thin.{Thin}
 use Rattle.tree.specs.Zipper.{Thins}
-use Rattle.tree.specs.Occurs.{occ, in-occ, occ-in}
+use Rattle.tree.specs.Occurs.{occ-in}
 use Rattle.heap.specs.Rep.{Rep}
-use Rattle.heap.specs.Sites.{Site, of-site}
-use Rattle.heap.specs.Moves.{Fresh}
 use Rattle.heap.specs.Shift.{Shift, listStore, takenBy, awaitedAfter, Ready, Next, later}
 use Rattle.heap.specs.Run.{phase-rep}
 use Rattle.heap.specs.Writes.{InHand, turn}
@@ -38,11 +34,11 @@ use Rattle.heap.specs.Writes as Writes
 use Rattle.readers.specs.Owned.{Slots, Owned, slots-reading}
 use Rattle.readers.specs.Reach.{Stands}
 use Rattle.readers.specs.Lookups.{Unlinked}
-use Rattle.readers.specs.Stored.{OwnerLinked, hitsLink, rootAfter}
+use Rattle.readers.specs.Stored.{OwnerLinked}
 use Rattle.readers.specs.Turns.{Turn, turn-write}
 use Rattle.readers.specs.Steps as Steps
 use Rattle.readers.specs.Safe.{Safe}
-use Rattle.runs.specs.Writer.{Stores, afterStore}
+use Rattle.runs.specs.Writer.{Stores}
 use Rattle.joined.specs.Nodes.{Moves, shift-moves}
 use Rattle.joined.specs.Ways.{shift-owner, shift-gone, shift-ways, plain-none}
 use Rattle.joined.specs.Steps.{Stocked, parts-turn}

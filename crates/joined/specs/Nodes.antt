@@ -1,5 +1,5 @@
 -- Which nodes stand in the tree after each change (heap: Shift): those that did or came, and did not go.
-use Prim.Native.Nat.{ℕ, _+_, _*_, _<_, _≤_}
+use Prim.Native.Nat.{ℕ, _<_}
 use mathlib.Core.Path.{_≡_}
 use mathlib.Core.Logic.{_⊎_, inl, inr, ⊎-elim, _↔_}
 use mathlib.Core.Bool.{Bool}
@@ -11,7 +11,7 @@ use Rattle.tree.specs.Distinct.{_∈_}
 use Rattle.tree.specs.Linked.{Linked, nodes}
 use Rattle.tree.specs.Occurs.{occ, in-occ, occ-in}
 use Rattle.heap.specs.Shift.{Shift}
-use Rattle.heap.specs.Nodes.{Passes, shift-nodes, shift-left}
+use Rattle.heap.specs.Nodes.{shift-nodes, shift-left}
 
 abbrev pub Moves : List ℕ → List ℕ → Linked → Linked → Type 0
 Moves came gone t u = (n : ℕ) → (n ∈ nodes u) ↔ (((n ∈ nodes t) ⊎ (n ∈ came)) × (¬ (n ∈ gone)))

@@ -1,15 +1,15 @@
 -- The writer's side at the start and through readers' calls; at rest, an accepted insert.
-use Prim.Native.Nat.{ℕ, zero, suc, _+_, _-_, _/_, _<_, _≤_}
+use Prim.Native.Nat.{ℕ, _+_, _-_, _/_, _≤_}
 use mathlib.Core.Path.{_≡_, refl, sym, ap, _∙_, subst}
-use mathlib.Core.Logic.{_≢_, _⊎_, inl, inr, ⊎-elim, _↔_}
-use mathlib.Core.Bool.{Bool, true, false, cond, not, false≢true}
+use mathlib.Core.Logic.{_≢_}
+use mathlib.Core.Bool.{false, cond, not, false≢true}
 use mathlib.Core.List.{List, [], _∷_, _++_}
 use mathlib.Core.Option.{Option, none, some}
 use native.Mathlib.Omega.{arith}
-use native.Mathlib.Decide.{ℕ-discrete, decLt}
-use lib.Dec.{eqb, ltb, leb}
-use lib.ListN.{length, length-append}
-use borrow.Author.Tests.{eq-eqb, ne-eqb, eqb-true, eqb-false, ltb-false, leb-false, lt-ltb}
+use native.Mathlib.Decide.{ℕ-discrete}
+use lib.Dec.{eqb}
+use lib.ListN.{length}
+use borrow.Author.Tests.{eq-eqb, ne-eqb, ltb-false, leb-false, lt-ltb}
 use Rattle.base.specs.Walk.{cond-both}
 use Rattle.types.specs.declared.Side.{Side}
 use Rattle.types.specs.declared.Link.{Link}
@@ -18,43 +18,41 @@ use Rattle.types.specs.declared.Form.the-variants.{Diag, Zig}
 use Rattle.types.specs.declared.Rule.{Rule}
 use Rattle.types.specs.declared.Rule.the-variants.{Grow}
 use Rattle.types.specs.declared.Ending.{Ending}
-use Rattle.types.specs.declared.Ending.the-variants.{Calm, Blacken, Rotate, RotateTwice, Missing}
+use Rattle.types.specs.declared.Ending.the-variants.{Calm, Missing}
 use Rattle.types.specs.declared.Climb.{Climb}
 use Rattle.types.specs.declared.Place.{Place}
 use Rattle.types.specs.declared.Place.the-variants.{Held, Empty, TooDeep}
-use Rattle.types.specs.declared.Step.the-variants.{Insert, Unlink, Adopt, Replace, Publish, Detach}
+use Rattle.types.specs.declared.Step.the-variants.{Insert}
 use Rattle.types.specs.declared.Store.{Store}
 use Rattle.types.specs.declared.Register.{Register}
 use Rattle.types.specs.Side.{other, owner, sideOf, sameSide}
 use Rattle.sequential.specs.Tree as Seq
 use Rattle.sequential.specs.Tree.{Tree, leaf}
 use Rattle.sequential.specs.Insert as SeqInsert
-use Rattle.sequential.specs.Delete.{Change, insertion, deletion, changed, changedBy}
+use Rattle.sequential.specs.Delete.{Change, insertion, changed, changedBy}
 use Rattle.spec.specs.Pool.{nodeWords, child, isRed, standingWord, standingLinked, nodes as poolNodes}
-use Rattle.spec.specs.Register.{State, state, fresh, freshRegister, withWrite, writeOf}
+use Rattle.spec.specs.Register.{State, fresh, freshRegister, withWrite, writeOf}
 use Rattle.spec.specs.Search.{pathTo}
-use Rattle.spec.specs.Plan.{climb, rise, insertClimb, store, turnStores, rotationStores, endingStores, insertPlan}
-use Rattle.spec.specs.Calls.{firstOf, writeInHand, placeOf, isHeld, tooDeep, full, fewerFree, insertAt}
-use Rattle.spec.specs.PlainList.{Ticket, Plain, noTicket, recordFor, without, listed, lastly, accepted, begun}
+use Rattle.spec.specs.Plan.{climb, rise, insertClimb, store, turnStores, endingStores, insertPlan}
+use Rattle.spec.specs.Calls.{firstOf, writeInHand, placeOf, isHeld, tooDeep, insertAt}
+use Rattle.spec.specs.PlainList.{Ticket, Plain, noTicket, recordFor, listed, accepted, begun}
 use Rattle.tree.specs.Sorted.{Ordered}
 use Rattle.tree.specs.Changes.{history-proper, find-insert, find-insert-other}
-use Rattle.tree.specs.Distinct.{_∈_}
 use Rattle.tree.specs.Linked.{Linked, nil, find, nodes}
 use Rattle.tree.specs.Erase.{erase, erase-find}
 use Rattle.heap.specs.Sites.{site-of}
 use Rattle.heap.specs.Colours.{colours}
 use Rattle.heap.specs.Phase.{at-rest}
-use Rattle.heap.specs.Plans.{Placed, empty-at, held-at, placed, Planned}
 use Rattle.heap.specs.Writes.{InHand, Finished, in-hand-rest, in-hand-kept, write-count}
 use Rattle.heap.specs.Accept.{accepted-in-hand, searched, heldOf, insert-possible, fresh-rest}
 use Rattle.readers.specs.Reach.{Stands}
-use Rattle.readers.specs.Does.{Clear, clear, insertTests}
+use Rattle.readers.specs.Does.{clear, insertTests}
 use Rattle.readers.specs.Safe.{Safe}
 use Rattle.runs.specs.Writer.{Still, planned}
 use Rattle.runs.specs.Begin.{word-low}
-use Rattle.joined.specs.Tickets.{Unique, none-some, without-same, without-other, unique-without, without-none}
+use Rattle.joined.specs.Tickets.{without-same, without-other, unique-without, without-none}
 use Rattle.joined.specs.Laters.{takesAll}
-use Rattle.joined.specs.Joined.{seqOf, indexOf, Pending, Past, Timing, over, now, soon, Joined}
+use Rattle.joined.specs.Joined.{seqOf, Pending, Timing, over, now, soon, Joined}
 
 -- The fresh index.
 fresh-write : (N : ℕ) → fresh N .register .write ≡ writeOf []

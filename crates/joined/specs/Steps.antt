@@ -1,15 +1,15 @@
 -- A step of a phase, from its parts (heap: Parts, Shift), as readers meet it (readers: Turns).
-use Prim.Native.Nat.{ℕ, zero, suc, _+_, _<_, _≤_}
-use mathlib.Core.Path.{_≡_, refl, sym, ap, _∙_, subst}
-use mathlib.Core.Logic.{_≢_, _⊎_, inl, inr, ⊎-elim, _↔_}
-use mathlib.Core.Bool.{Bool, true, false}
-use mathlib.Core.List.{List, [], _∷_, _++_}
+use Prim.Native.Nat.{ℕ, _<_, _≤_}
+use mathlib.Core.Path.{_≡_, refl, sym, ap, _∙_}
+use mathlib.Core.Logic.{_≢_, inl, inr}
+use mathlib.Core.Bool.{Bool}
+use mathlib.Core.List.{List, [], _∷_}
 use native.Mathlib.Omega.{arith}
 use lib.ListN.{length}
 use Rattle.types.specs.declared.Link.{Link}
 use Rattle.types.specs.declared.Register.{Register}
 use Rattle.types.specs.Side.{owner}
-use Rattle.spec.specs.Pool.{standingWord, standingLinked}
+use Rattle.spec.specs.Pool.{standingLinked}
 use Rattle.spec.specs.Register.{State, state, setLink}
 use Rattle.spec.specs.Turn.{Made}
 use Rattle.tree.specs.Distinct.{_∈_}
@@ -17,17 +17,15 @@ use Rattle.tree.specs.Linked.{Linked, nodes}
 use Rattle.tree.specs.Occurs.{occ}
 use Rattle.heap.specs.Rep.{Rep}
 use Rattle.heap.specs.Fill.{retire-quiet, retireTwo-quiet}
-use Rattle.heap.specs.Tints.{Tint}
 use Rattle.heap.specs.Parts.{Based, unchanged, filled, SameQueue, retireAll, Parts}
 use Rattle.heap.specs.Shift.{Shift}
-use Rattle.readers.specs.Words.{Whole}
 use Rattle.readers.specs.Owned.{Slots, Owned}
 use Rattle.readers.specs.Reach.{Stands}
 use Rattle.readers.specs.Stored.{OwnerLinked, Stored, own-fields, link-stored, taking-stored}
 use Rattle.readers.specs.Tints.{recoloured-pool, stored-recoloured}
 use Rattle.readers.specs.Turns.{Turn, turn-none, turn-one, turn-two}
 use Rattle.readers.specs.Safe.{Safe}
-use Rattle.joined.specs.Ways.{shift-owner, shift-gone, Two, shift-two, shift-few}
+use Rattle.joined.specs.Ways.{shift-owner, shift-gone, shift-two, shift-few}
 
 -- for a step that takes a node the queue has one
 abbrev pub Stocked : State → List ℕ → Type 0

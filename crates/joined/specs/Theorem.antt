@@ -1,32 +1,25 @@
 -- The theorem: demands 2 and 3, and that 2 and 12 are never met, of every list of calls on a pool of any N from 8 to 1,023 just set up.
 use Prim.Native.Nat.{ℕ, _≤_}
-use mathlib.Core.Path.{_≡_, refl, sym, ap, _∙_, subst}
-use mathlib.Core.Logic.{_≢_}
-use mathlib.Core.Bool.{Bool, true, false, not, false≢true}
-use mathlib.Core.List.{List, []}
-use mathlib.Core.Option.{Option, none, some}
+use mathlib.Core.Path.{_≡_, sym, _∙_, subst}
+use mathlib.Core.List.{List}
 use native.Mathlib.Omega.{arith}
 use native.Mathlib.Decide.{ℕ-discrete}
-use lib.Dec.{eqb}
 use borrow.Author.Tests.{eq-eqb, ne-eqb}
-use Rattle.sequential.specs.Tree.{Colour, red, black}
-use Rattle.spec.specs.Pool.{word, nodes as poolNodes, colourWord, redColour}
-use Rattle.spec.specs.Register.{State}
-use Rattle.spec.specs.Calls.{writeInHand, placeOf, isHeld, Call}
-use Rattle.spec.specs.PlainList.{Plain}
-use Rattle.tree.specs.Linked.{Node, Linked, nil, cell, find}
+use Rattle.spec.specs.Pool.{word, colourWord, redColour}
+use Rattle.spec.specs.Calls.{Call}
+use Rattle.tree.specs.Linked.{Linked, nil, cell, find}
 use Rattle.tree.specs.Erase.{erase}
 use Rattle.heap.specs.Rep.{Rep}
 use Rattle.heap.specs.Colours.{hue, colours}
 use Rattle.heap.specs.Run.{phase-rep}
 use Rattle.heap.specs.Writes.{write-count}
-use Rattle.heap.specs.Accept.{searched, heldOf, insert-possible, delete-possible}
+use Rattle.heap.specs.Accept.{searched, insert-possible, delete-possible}
 use Rattle.promise.specs.Demands.{colourNumber, Stands, Promise}
 use Rattle.readers.specs.Words.{node-high}
 use Rattle.runs.specs.Writer.{Writer}
 use Rattle.runs.specs.Rest.{Completes}
 use Rattle.runs.specs.Whole as Whole
-use Rattle.joined.specs.Joined.{seqOf, Joined, joined-store, joined-finds}
+use Rattle.joined.specs.Joined.{Joined, joined-store, joined-finds}
 use Rattle.joined.specs.Rests.{joined-fresh, joined-still, resting, none-of, joined-insert}
 use Rattle.joined.specs.Deletes.{some-of, joined-delete}
 

@@ -1,8 +1,8 @@
 -- What else each change (heap: Shift) gives the readers: the link's owner is in the tree, the nodes that go are, and are not the owner; each
 -- path keeps its nodes in their order, but for a publish, which alone both takes a node and lets one go.
-use Prim.Native.Nat.{ℕ, zero, suc, _+_, _<_, _≤_}
+use Prim.Native.Nat.{ℕ, _+_, _<_, _≤_}
 use mathlib.Core.Path.{_≡_, refl, sym, ap, _∙_, subst}
-use mathlib.Core.Logic.{_≢_, _⊎_, inl, inr, ⊎-elim}
+use mathlib.Core.Logic.{_≢_, _⊎_, inl, inr}
 use mathlib.Core.Bool.{Bool, false}
 use mathlib.Core.List.{List, [], _∷_, _++_}
 use native.Mathlib.Omega.{arith}
@@ -11,18 +11,17 @@ use lib.ListN.{length}
 use Rattle.types.specs.declared.Side.{Side}
 use Rattle.types.specs.declared.Side.the-variants.{L, R}
 use Rattle.types.specs.declared.Link.{Link}
-use Rattle.types.specs.declared.Link.the-variants.{Root, Left, Right}
 use Rattle.types.specs.Side.{other, linkAt, owner}
 use Rattle.spec.specs.Pool.{standingLinked}
 use Rattle.tree.specs.Distinct.{_∈_}
 use Rattle.tree.specs.Linked.{Node, copy, Linked, nil, cell, at, path, nodes}
 use Rattle.tree.specs.Zipper.{Frame, hole, plug, plug-append, Thins}
-use Rattle.tree.specs.Occurs.{one, one-same, one-other, one-case, occ, occ-append, occ-at, occ-plug, occWay, in-occ, occ-in}
-use Rattle.tree.specs.Rotations.{diag₀, diag₁, diag₂, zig₀, zig₁, zig₂, zig₃}
-use Rattle.tree.specs.Stores.{form₀, form₁, form₂}
-use Rattle.tree.specs.Successor.{third₀, third₁, third₂}
-use Rattle.heap.specs.Rep.{Rep, rep-at, not-below-at}
-use Rattle.heap.specs.Sites.{linkTo, Site, site-of}
+use Rattle.tree.specs.Occurs.{one, one-same, one-case, occ, occ-append, occ-at, occ-plug}
+use Rattle.tree.specs.Rotations.{diag₁, zig₂}
+use Rattle.tree.specs.Stores.{form₁}
+use Rattle.tree.specs.Successor.{third₀}
+use Rattle.heap.specs.Rep.{Rep, not-below-at}
+use Rattle.heap.specs.Sites.{linkTo, site-of}
 use Rattle.heap.specs.Shift.{Shift, by-insert, by-diag-lower, by-diag-raise, by-zig-A, by-zig-C, by-zig-raise, by-unlink, by-adopt, by-replace, by-publish, by-detach}
 use Rattle.heap.specs.Effects.{shift-thin}
 use Rattle.readers.specs.Reach.{Stands}

@@ -1,14 +1,14 @@
 -- What releasing, freeing and retiring leave as it was.
-use mathlib.Core.Path.{_≡_, refl, sym, _∙_}
+use mathlib.Core.Path.{_≡_, refl}
 use mathlib.Core.List.{List}
-use mathlib.Core.Bool.{Bool, true, false, cond}
+use mathlib.Core.Bool.{false}
 use lib.Dec.{eqb}
 use lib.ListN.{length}
 use Prim.Native.Nat.{ℕ}
-use Rattle.base.specs.Walk.{cond-both, fold-keeps}
-use Rattle.spec.specs.Pool.{word, setWord, standingWord, standingRetired, holdersWord, nextWord, standingFree, nodes}
-use Rattle.spec.specs.Register.{State, state, withQueue, withReader, withAwaited, dropSlot, readingSlots}
-use Rattle.spec.specs.Free.{queueEmpty, freeNode, retire, release, endReading}
+use Rattle.base.specs.Walk.{cond-both}
+use Rattle.spec.specs.Pool.{word, setWord, standingWord, standingRetired, holdersWord, nextWord, standingFree}
+use Rattle.spec.specs.Register.{State, dropSlot}
+use Rattle.spec.specs.Free.{queueEmpty, freeNode, release}
 use Rattle.laws.specs.Words.{length-setWord}
 
 -- a node that does not stand retired is not released

@@ -1,7 +1,7 @@
 -- An insert by the way that its tests go.
-use mathlib.Core.Path.{_≡_, refl, sym, _∙_}
+use mathlib.Core.Path.{_≡_, _∙_}
 use mathlib.Core.List.{List, [], _∷_}
-use mathlib.Core.Bool.{Bool, true, false, not}
+use mathlib.Core.Bool.{true, false, not}
 use native.Mathlib.Omega.{arith}
 use lib.Dec.{leb}
 use borrow.Author.Tests.{le-leb, lt-leb}
@@ -10,8 +10,8 @@ use Rattle.types.specs.declared.Link.{Link}
 use Rattle.types.specs.declared.Place.{Place}
 use Rattle.types.specs.declared.Place.the-variants.{Held, Empty, TooDeep}
 use Rattle.spec.specs.Register.{State, state, withWrite, writeOf}
-use Rattle.spec.specs.Plan.{Plan, insertPlan}
-use Rattle.spec.specs.Calls.{Test, _gives_, Outcome, outcome, refused, ok, unless, firstOf, wrongLength, outOfRange, writeInHand, placeOf, tooDeep, isHeld, full, fewerFree, insertAt, accepted, insert}
+use Rattle.spec.specs.Plan.{insertPlan}
+use Rattle.spec.specs.Calls.{Test, _gives_, outcome, refused, ok, firstOf, wrongLength, outOfRange, writeInHand, placeOf, tooDeep, isHeld, full, fewerFree, insertAt, accepted, insert}
 use Rattle.laws.specs.Tests.{lentNumber, lent-refused, lent-passes, unless-refused, unless-done}
 
 -- the test for a full index, as a sum

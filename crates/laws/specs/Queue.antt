@@ -1,20 +1,17 @@
 -- The free queue as a list of nodes: take gives its first and leaves the rest, free puts a node at its end.
-use mathlib.Core.Path.{_≡_, refl, ap, sym, _∙_, subst}
+use mathlib.Core.Path.{_≡_, refl, sym, _∙_}
 use mathlib.Core.List.{List, [], _∷_, _++_}
-use mathlib.Core.Bool.{Bool, true, false, cond}
+use mathlib.Core.Bool.{cond}
 use mathlib.Core.Logic.{_≢_, inl, inr}
 use lib.Dec.{eqb}
-use lib.ListN.{length}
 use borrow.Author.Tests.{eq-eqb, ne-eqb}
-use native.Mathlib.Decide.{ℕ-discrete}
 use native.Mathlib.Omega.{arith}
-use Prim.Native.Nat.{ℕ, _*_, _<_, _≤_}
+use Prim.Native.Nat.{ℕ, _<_}
 use Rattle.types.specs.declared.Side.{Side}
 use Rattle.types.specs.declared.Side.the-variants.{L, R}
-use Rattle.types.specs.declared.Register.{Register}
 use Rattle.types.specs.Side.{other}
 use Rattle.spec.specs.Pool.{nodeWords, word, setWord, keyWord, recordWord, linkWord, colourWord, standingWord, holdersWord, nextWord}
-use Rattle.spec.specs.Register.{State, state, withQueue}
+use Rattle.spec.specs.Register.{State, withQueue}
 use Rattle.spec.specs.Free.{takeFree, fillNode, takeNode, freeNode}
 use Rattle.laws.specs.Words.{Node, length-setWord, word-same, word-other}
 

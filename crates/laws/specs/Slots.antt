@@ -1,9 +1,9 @@
 -- Bits of slots: put, dropped, another slot; once over the slot, and for any number of slots.
 use mathlib.Core.Path.{_≡_, refl, ap, sym, _∙_}
-use mathlib.Core.Bool.{Bool, true, false, cond}
+use mathlib.Core.Bool.{true, false}
 use mathlib.Core.Logic.{_≢_}
-use lib.Dec.{eqb, lit<}
-use lib.Pow.{pow-pos, pow-mono, shl-exact}
+use lib.Dec.{lit<}
+use lib.Pow.{shl-exact}
 use borrow.Author.Tests.{eq-eqb, ne-eqb, eqb-true, eqb-false}
 use native.Mathlib.Decide.{ℕ-discrete}
 use native.Mathlib.Nat.{pow-succ', div-div-eq-div-mul, div-one, div-eq-of-lt, one-mul}

@@ -1,12 +1,12 @@
 -- Facts from passed tests.
-use mathlib.Core.Path.{_≡_, refl, sym, _∙_}
+use mathlib.Core.Path.{_≡_, refl, _∙_}
 use mathlib.Core.List.{List, [], _∷_}
 use mathlib.Core.Bool.{Bool, true, false, cond, not, _&&_, false≢true}
 use lib.Dec.{eqb, leb}
 use lib.ListN.{length}
 use borrow.Author.Tests.{leb-true, leb-false, eqb-true, eq-eqb, ne-eqb}
 use native.Mathlib.Omega.{arith}
-use Prim.Native.Nat.{ℕ, _<_, _≤_, _*_, _/_, _%_}
+use Prim.Native.Nat.{ℕ, _<_, _*_, _%_}
 use Rattle.spec.specs.Pool.{nodes, lengthRight, poolInRange}
 use Rattle.spec.specs.Register.{State, registerInRange}
 use Rattle.spec.specs.Calls.{Test, _gives_, firstOf, Outcome, outcome, unless, refused, wrongLength, outOfRange, slotTooHigh}

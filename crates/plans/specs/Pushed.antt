@@ -1,13 +1,12 @@
 -- A write in hand filled store by store, and how many stores a climb's ending plans.
 use mathlib.Core.Path.{_≡_, refl, sym, ap, _∙_}
 use mathlib.Core.List.{List, [], _∷_, _++_, append-assoc}
-use mathlib.Core.Bool.{Bool, true, false, cond}
+use mathlib.Core.Bool.{cond}
 use lib.ListN.{length, set, take, replicate, length-append}
 use lib.Seq.{take-set-lt, set-append-seam, take-append-le}
 use native.Mathlib.Omega.{arith}
-use Prim.Native.Nat.{ℕ, zero, suc, _+_, _<_, _≤_}
+use Prim.Native.Nat.{ℕ, _+_, _<_, _≤_}
 use Rattle.types.specs.declared.Link.{Link}
-use Rattle.types.specs.declared.Link.the-variants.{Root}
 use Rattle.types.specs.declared.Form.{Form}
 use Rattle.types.specs.declared.Form.the-variants.{Diag, Zig}
 use Rattle.types.specs.declared.Store.{Store}
@@ -15,14 +14,13 @@ use Rattle.types.specs.declared.Write.{Write}
 use Rattle.types.specs.declared.Climb.{Climb}
 use Rattle.types.specs.declared.Rule.the-variants.{Grow}
 use Rattle.types.specs.declared.Ending.{Ending}
-use Rattle.types.specs.declared.Ending.the-variants.{Calm, Rotate, Missing}
 use Rattle.types.specs.declared.Rotation.{Rotation}
 use Rattle.types.specs.Side.{other, sameSide, owner, sideOf}
 use Rattle.base.specs.Walk.{cond-both}
 use Rattle.spec.specs.Pool.{child, isRed}
 use Rattle.spec.specs.Register.{State, vacant, mostStores, writeOf}
 use Rattle.spec.specs.Search.{pathTo}
-use Rattle.spec.specs.Plan.{climb, rotationStores, turnStores, endingStores, rotation, rise, insertClimb}
+use Rattle.spec.specs.Plan.{rotationStores, turnStores, endingStores, rotation, rise, insertClimb}
 
 abbrev pub pushed : Write → Store → Write
 pushed w x = record { stores = set (w .stores) (w .count) x; count = w .count + 1 }

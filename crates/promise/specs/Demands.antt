@@ -14,14 +14,13 @@ use Rattle.types.specs.declared.Side.the-variants.{L, R}
 use Rattle.types.specs.declared.Link.{Link}
 use Rattle.types.specs.declared.Step.{Step}
 use Rattle.types.specs.declared.Step.the-variants.{Vacant, Insert, DiagLower, DiagRaise, ZigLowerA, ZigLowerC, ZigRaise, Unlink, Adopt, Replace, Publish, Detach}
-use Rattle.types.specs.declared.Reader.{Reader}
 use Rattle.sequential.specs.Tree.{Colour, red, black, Tree, leaf, node}
 use Rattle.sequential.specs.Delete.{changedBy}
 use Rattle.tree.specs.Distinct.{_∈_}
 use Rattle.spec.specs.Pool.{word, child, nodes, slots, keyWord, recordWord, colourWord, standingWord, standingFree, blackColour, redColour}
 use Rattle.spec.specs.Register.{State, state, mostStores, withReader, readerOf, storeOf, hasSlot}
-use Rattle.spec.specs.Calls.{Answer, go, absent, found, more, done, wait, refused, Outcome, Call, inserting, deleting, writing, beginning, turning, givingUp, call, reading, writeInHand, readerStep}
-use Rattle.spec.specs.PlainList.{Heard, went, heard, recordFor, accepted}
+use Rattle.spec.specs.Calls.{Answer, go, absent, found, more, done, wait, refused, Outcome, Call, writing, turning, call, reading, writeInHand, readerStep}
+use Rattle.spec.specs.PlainList.{went, heard, recordFor, accepted}
 use Rattle.laws.specs.Queue.{Queue, Distinct}
 use Rattle.promise.specs.Run.{callAt, indexAfter, plainAfter, ticketsAfter, Gives, Lookup}
 

@@ -6,7 +6,7 @@ use mathlib.Core.Logic.{_⊎_}
 use mathlib.Core.List.{List, [], _∷_}
 use mathlib.Core.Option.{Option, none, some}
 use Rattle.spec.specs.Register.{State, fresh}
-use Rattle.spec.specs.Calls.{Answer, ok, absent, found, Outcome, Call, beginning, turning, givingUp, call}
+use Rattle.spec.specs.Calls.{Answer, ok, absent, found, Call, beginning, turning, givingUp, call}
 use Rattle.spec.specs.PlainList.{Ticket, Plain, noTicket, heard, feed}
 
 -- Pool and register as the calls leave them, and the plain list, which hears of each call only its arguments, whether it was refused,

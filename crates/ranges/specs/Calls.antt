@@ -1,36 +1,32 @@
 -- No call leaves the ranges: refusal 2 is never met once they hold.
-use Prim.Native.Nat.{ℕ, zero, suc, _+_, _-_, _*_, _<_, _≤_}
-use mathlib.Core.Path.{_≡_, refl, sym, ap, _∙_, subst}
-use mathlib.Core.Bool.{Bool, true, false, cond, not, _&&_}
-use mathlib.Core.List.{List, [], _∷_}
-use mathlib.Core.Logic.{_≢_}
+use Prim.Native.Nat.{ℕ, _+_, _-_, _≤_}
+use mathlib.Core.Path.{_≡_, refl}
+use mathlib.Core.Bool.{true, false}
+use mathlib.Core.List.{List}
 use native.Mathlib.Omega.{arith}
 use native.Mathlib.Decide.{decLt}
-use lib.Dec.{eqb, leb, ltb}
-use lib.ListN.{length, getD}
+use lib.ListN.{getD}
 use borrow.Author.Tests.{le-leb, lt-ltb, le-ltb}
-use Rattle.base.specs.Walk.{allIn, in-all, cond-both}
+use Rattle.base.specs.Walk.{in-all}
 use Rattle.types.specs.declared.Link.{Link}
 use Rattle.types.specs.declared.Link.the-variants.{Root, Left, Right}
 use Rattle.types.specs.declared.Place.{Place}
 use Rattle.types.specs.declared.Place.the-variants.{Held, Empty, TooDeep}
 use Rattle.types.specs.declared.Step.{Step}
 use Rattle.types.specs.declared.Step.the-variants.{Vacant, Insert, DiagLower, DiagRaise, ZigLowerA, ZigLowerC, ZigRaise, Unlink, Adopt, Replace, Publish, Detach}
-use Rattle.types.specs.declared.Store.{Store}
 use Rattle.types.specs.declared.Write.{Write}
 use Rattle.types.specs.declared.Reader.{Reader}
-use Rattle.types.specs.declared.Register.{Register}
-use Rattle.spec.specs.Pool.{nodeWords, word, child, nodes, slots, allSlots, leftWord, rightWord, colourWord, standingWord, holdersWord, nextWord, nodeInRange, poolInRange}
+use Rattle.spec.specs.Pool.{word, slots, allSlots, leftWord, rightWord, colourWord, standingWord, holdersWord, nextWord, nodeInRange, poolInRange}
 use Rattle.spec.specs.Register.{State, state, mostStores, vacant, readerOf, storeOf, withReader, withWrite, linkInRange, nodeNumber, stepInRange, storeInRange, readerInRange, registerInRange, writeOf, lessFirst}
 use Rattle.spec.specs.Free.{endReading}
 use Rattle.spec.specs.Search.{pathBound, towards}
 use Rattle.spec.specs.Plan.{Plan}
-use Rattle.spec.specs.Turn.{Made, stepFinds, stepMade}
+use Rattle.spec.specs.Turn.{stepFinds, stepMade}
 use Rattle.spec.specs.Calls.{Outcome, outOfRange, placeOf, insertAt, deleteAt, stored, Call}
 use Rattle.readers.specs.Does.{Does, refuses, plansInsert, plansDelete, waits, stores, begins, loads, misses, finds, leaves, Loads, atRoot, atNode}
 use Rattle.ranges.specs.Fits.{Fits, child-fits, Within, within-reader, within-end, within-write}
 use Rattle.ranges.specs.Stores.{step-within}
-use Rattle.ranges.specs.Writes.{Number, LinkOk, StepOk, StoreOk, WriteOk, write-of, write-less}
+use Rattle.ranges.specs.Writes.{Number, LinkOk, StepOk, WriteOk, write-of, write-less}
 use Rattle.ranges.specs.Plans.{PlaceOk, seek-ok, PlanOk, insert-ok, delete-ok}
 use Rattle.ranges.specs.Kept.{hand-end, step-hand}
 

@@ -1,28 +1,27 @@
 -- The ranges of 01's 'Pool and register', word by word, and that each change a call is made of stays within them.
-use Prim.Native.Nat.{ℕ, zero, suc, _+_, _-_, _*_, _/_, _^_, _<_, _≤_}
+use Prim.Native.Nat.{ℕ, zero, suc, _+_, _-_, _/_, _<_, _≤_}
 use mathlib.Core.Path.{_≡_, refl, sym, ap, _∙_, subst}
 use mathlib.Core.Bool.{Bool, true, false, cond}
 use mathlib.Core.List.{List, [], _∷_}
-use mathlib.Core.Logic.{_≢_, _⊎_, inl, inr}
+use mathlib.Core.Logic.{_⊎_, inl, inr}
 use native.Mathlib.Omega.{arith}
-use native.Mathlib.Decide.{ℕ-discrete, decLe, decLt}
+use native.Mathlib.Decide.{ℕ-discrete, decLt}
 use lib.Dec.{eqb, ltb}
 use lib.ListN.{length, getD, set, length-set}
 use lib.Seq.{getD-set-same, getD-set-other}
 use borrow.Author.Tests.{lt-ltb, le-ltb}
-use Rattle.base.specs.Walk.{cond-both, foldIn, fold-keeps}
+use Rattle.base.specs.Walk.{cond-both, fold-keeps}
 use Rattle.types.specs.declared.Side.{Side}
 use Rattle.types.specs.declared.Side.the-variants.{L, R}
 use Rattle.types.specs.declared.Link.{Link}
 use Rattle.types.specs.declared.Link.the-variants.{Root, Left, Right}
 use Rattle.types.specs.declared.Reader.{Reader}
 use Rattle.types.specs.declared.Write.{Write}
-use Rattle.types.specs.declared.Register.{Register}
-use Rattle.types.specs.Side.{other, owner, sideOf}
-use Rattle.spec.specs.Pool.{nodeWords, place, word, setWord, child, paint, nodes, slots, allSlots, keyWord, recordWord, leftWord, rightWord, linkWord, colourWord, standingWord, holdersWord, nextWord, standingFree, standingLinked, standingRetired, blackColour, redColour}
+use Rattle.types.specs.Side.{other}
+use Rattle.spec.specs.Pool.{nodeWords, place, word, setWord, child, paint, nodes, allSlots, keyWord, recordWord, leftWord, rightWord, linkWord, colourWord, standingWord, holdersWord, nextWord, standingFree, standingLinked, standingRetired}
 use Rattle.spec.specs.Register.{State, state, noReader, readerOf, withRoot, withQueue, withHeld, withReader, withAwaited, withWrite, countUp, countDown, nodeAt, linkNode, setLink, dropSlot, readingSlots}
 use Rattle.spec.specs.Free.{queueEmpty, takeFree, fillNode, takeNode, freeNode, retire, retireTwo, release, endReading}
-use Rattle.laws.specs.Words.{length-setWord, word-none, set-none, word-at, set-at, word-other}
+use Rattle.laws.specs.Words.{length-setWord, set-none, word-at, set-at, word-other}
 use Rattle.laws.specs.Slots.{drop-le}
 use Rattle.readers.specs.Marks.{reading-below}
 use Rattle.readers.specs.Words.{past-end}

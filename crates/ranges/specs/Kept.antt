@@ -1,13 +1,13 @@
 -- The write in hand through a store: only a publish touches it, before the first store still to come is dropped.
-use Prim.Native.Nat.{ℕ, _+_, _<_, _≤_}
-use mathlib.Core.Path.{_≡_, refl, sym, ap, _∙_, subst}
+use Prim.Native.Nat.{ℕ, _+_}
+use mathlib.Core.Path.{_≡_, refl, ap, _∙_}
 use mathlib.Core.Bool.{Bool, true, false, cond, not, _&&_, false≢true}
-use mathlib.Core.List.{List, [], _∷_}
+use mathlib.Core.List.{List}
 use mathlib.Core.Logic.{_≢_}
 use native.Mathlib.Omega.{arith}
 use lib.Dec.{eqb}
 use borrow.Author.Tests.{eqb-false}
-use Rattle.base.specs.Walk.{cond-both, foldIn, fold-keeps}
+use Rattle.base.specs.Walk.{cond-both, fold-keeps}
 use Rattle.types.specs.declared.Side.{Side}
 use Rattle.types.specs.declared.Side.the-variants.{L, R}
 use Rattle.types.specs.declared.Link.{Link}
@@ -20,17 +20,16 @@ use Rattle.types.specs.declared.Climb.{Climb}
 use Rattle.types.specs.declared.Step.{Step}
 use Rattle.types.specs.declared.Step.the-variants.{Vacant, Insert, DiagLower, DiagRaise, ZigLowerA, ZigLowerC, ZigRaise, Unlink, Adopt, Replace, Publish, Detach}
 use Rattle.types.specs.declared.Write.{Write}
-use Rattle.types.specs.declared.Register.{Register}
 use Rattle.types.specs.Side.{other}
 use Rattle.spec.specs.Pool.{word, setWord, child, nodes, redColour, keyWord, recordWord, standingWord, holdersWord, standingRetired}
 use Rattle.spec.specs.Register.{State, state, noReader, linkNode, setLink, withRoot, withQueue, withHeld, withReader, withAwaited, withWrite, readingSlots, dropSlot}
 use Rattle.spec.specs.Free.{queueEmpty, takeFree, takeNode, freeNode, retire, release, endReading}
 use Rattle.spec.specs.Search.{pathTo}
-use Rattle.spec.specs.Plan.{insertClimb, paintRise, paintLoss, redChild, onlyChild, nearest}
-use Rattle.spec.specs.Turn.{Made, painted, colourOf, oneMore, oneLess, endInsert, insertStore, copyColour, risenColour, copyNode, diagLower, underCopy, endDiag, diagRaise, zigLowerA, zigLowerC, endZig, zigRaise, unlinkStore, adoptStore, replaceStore, movedWrite, publishStore, detachStore, isNode, stepFinds, stepMade, unlinkPath, unlinkClimb, replacePath, replaceClimb}
+use Rattle.spec.specs.Plan.{insertClimb, paintRise, paintLoss, redChild, onlyChild}
+use Rattle.spec.specs.Turn.{painted, colourOf, oneMore, oneLess, endInsert, insertStore, copyNode, diagLower, endDiag, diagRaise, zigLowerA, zigLowerC, endZig, zigRaise, unlinkStore, adoptStore, replaceStore, movedWrite, publishStore, detachStore, isNode, stepFinds, stepMade, unlinkPath, unlinkClimb, replacePath, replaceClimb}
 use Rattle.heap.specs.Fill.{retire-quiet, retireTwo-quiet}
 use Rattle.ranges.specs.Fits.{Within}
-use Rattle.ranges.specs.Writes.{Number, WriteOk, write-moved}
+use Rattle.ranges.specs.Writes.{WriteOk, write-moved}
 
 abbrev hand : State → Write
 hand st = st .register .write

@@ -1,14 +1,13 @@
 -- What insert and delete plan is in range: every link planned is the root or a node's, and there are at most seven stores.
-use Prim.Native.Nat.{ℕ, zero, suc, _+_, _-_, _<_, _≤_}
-use mathlib.Core.Path.{_≡_, refl, sym, ap, _∙_, subst}
+use Prim.Native.Nat.{ℕ, zero, suc, _+_, _-_, _≤_}
+use mathlib.Core.Path.{_≡_, refl}
 use mathlib.Core.Bool.{Bool, true, false, cond, not, _&&_, false≢true}
-use mathlib.Core.List.{List, [], _∷_, _++_}
+use mathlib.Core.List.{List, [], _∷_}
 use mathlib.Core.Logic.{_≢_}
 use native.Mathlib.Omega.{arith}
-use native.Mathlib.Decide.{ℕ-discrete}
 use lib.Dec.{eqb}
 use lib.ListN.{length, length-append}
-use borrow.Author.Tests.{eqb-true, eqb-false, eq-eqb, ne-eqb}
+use borrow.Author.Tests.{eqb-false}
 use Rattle.base.specs.Walk.{cond-both}
 use Rattle.types.specs.declared.Side.{Side}
 use Rattle.types.specs.declared.Side.the-variants.{L, R}
@@ -19,21 +18,18 @@ use Rattle.types.specs.declared.Place.the-variants.{Held, Empty, TooDeep}
 use Rattle.types.specs.declared.Form.{Form}
 use Rattle.types.specs.declared.Form.the-variants.{Diag, Zig}
 use Rattle.types.specs.declared.Rule.{Rule}
-use Rattle.types.specs.declared.Rotation.{Rotation}
 use Rattle.types.specs.declared.Ending.{Ending}
 use Rattle.types.specs.declared.Ending.the-variants.{Calm, Blacken, Rotate, RotateTwice, Missing}
 use Rattle.types.specs.declared.Climb.{Climb}
 use Rattle.types.specs.declared.Step.the-variants.{Insert, Unlink, Adopt, Replace, Publish, Detach}
 use Rattle.types.specs.declared.Store.{Store}
-use Rattle.types.specs.declared.Register.{Register}
 use Rattle.types.specs.Side.{other, linkAt, owner, sideOf}
 use Rattle.spec.specs.Pool.{word, child, isRed, keyWord}
 use Rattle.spec.specs.Register.{State, nodeAt, linkNode}
 use Rattle.spec.specs.Search.{pathBound, towards, seek, sameLink, trail, pathTo, leftmost}
-use Rattle.spec.specs.Plan.{climb, rotation, rise, insertClimb, redChild, redSibling, sink, lossClimb, store, turnStores, rotationStores, endingStores, Plan, plan, insertPlan, twoChildren, onlyChild, nearest, belowRight, successorPath, unlinkPlan, successorPlan, deletePlan}
-use Rattle.laws.specs.Words.{word-none}
+use Rattle.spec.specs.Plan.{climb, rise, insertClimb, redChild, redSibling, sink, lossClimb, store, turnStores, rotationStores, endingStores, Plan, plan, insertPlan, twoChildren, onlyChild, successorPath, unlinkPlan, successorPlan, deletePlan}
 use Rattle.ranges.specs.Fits.{Fits, child-fits, Within, node-fits}
-use Rattle.ranges.specs.Writes.{Number, LinkOk, StoreOk, StoresOk, stores-append}
+use Rattle.ranges.specs.Writes.{Number, LinkOk, StoresOk, stores-append}
 
 abbrev pub LinksOk : ℕ → List Link → Type 0
 LinksOk top [] = Unit {0}

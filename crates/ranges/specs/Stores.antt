@@ -1,16 +1,12 @@
 -- No store of the writer leaves the ranges of the pool and of the register's own fields.
-use Prim.Native.Nat.{ℕ, zero, suc, _<_, _≤_}
-use mathlib.Core.Path.{_≡_, refl}
-use mathlib.Core.Bool.{Bool, true, false, cond}
+use Prim.Native.Nat.{ℕ, zero, suc, _≤_}
 use mathlib.Core.List.{List, [], _∷_}
 use native.Mathlib.Omega.{arith}
 use lib.Dec.{eqb}
-use lib.ListN.{length}
 use Rattle.base.specs.Walk.{cond-both}
 use Rattle.types.specs.declared.Side.{Side}
 use Rattle.types.specs.declared.Side.the-variants.{L, R}
 use Rattle.types.specs.declared.Link.{Link}
-use Rattle.types.specs.declared.Link.the-variants.{Root, Left, Right}
 use Rattle.types.specs.declared.Rule.{Rule}
 use Rattle.types.specs.declared.Rule.the-variants.{Grow, Pass, Borrow}
 use Rattle.types.specs.declared.Ending.{Ending}
@@ -18,16 +14,15 @@ use Rattle.types.specs.declared.Ending.the-variants.{Calm, Blacken, Rotate, Rot
 use Rattle.types.specs.declared.Climb.{Climb}
 use Rattle.types.specs.declared.Step.{Step}
 use Rattle.types.specs.declared.Step.the-variants.{Vacant, Insert, DiagLower, DiagRaise, ZigLowerA, ZigLowerC, ZigRaise, Unlink, Adopt, Replace, Publish, Detach}
-use Rattle.types.specs.declared.Register.{Register}
 use Rattle.types.specs.Side.{other, linkAt, owner, sideOf}
-use Rattle.spec.specs.Pool.{word, child, paint, keyWord, recordWord, colourWord, blackColour, redColour}
-use Rattle.spec.specs.Register.{State, state, linkNode, setLink, withWrite, withAwaited, readingSlots}
-use Rattle.spec.specs.Free.{takeNode, retire, retireTwo}
+use Rattle.spec.specs.Pool.{child, paint, blackColour, redColour}
+use Rattle.spec.specs.Register.{State, state, linkNode, setLink, withAwaited, readingSlots}
+use Rattle.spec.specs.Free.{takeNode}
 use Rattle.spec.specs.Search.{pathTo}
 use Rattle.spec.specs.Plan.{insertClimb, paintRise, paintSink, paintEnd, paintLoss, redChild, onlyChild, nearest}
-use Rattle.spec.specs.Turn.{Made, made, painted, colourOf, oneMore, oneLess, endInsert, insertStore, copyColour, risenColour, copyNode, diagLower, underCopy, endDiag, diagRaise, zigLowerA, zigLowerC, endZig, zigRaise, stepMade}
-use Rattle.spec.specs.Turn.{unlinkPath, unlinkClimb, unlinkStore, adoptStore, replacePath, replaceClimb, replaceStore, movedWrite, publishStore, detachPath, detachClimb, detachStore}
-use Rattle.readers.specs.Tints.{Tinted, tinted-paint, tinted-rise, tinted-sink}
+use Rattle.spec.specs.Turn.{painted, colourOf, oneMore, oneLess, endInsert, insertStore, copyColour, risenColour, copyNode, diagLower, underCopy, endDiag, diagRaise, zigLowerA, zigLowerC, endZig, zigRaise, stepMade}
+use Rattle.spec.specs.Turn.{unlinkPath, unlinkClimb, unlinkStore, adoptStore, replacePath, replaceClimb, replaceStore, publishStore, detachPath, detachClimb, detachStore}
+use Rattle.readers.specs.Tints.{tinted-paint, tinted-rise, tinted-sink}
 use Rattle.ranges.specs.Fits.{Fits, child-fits, colour-fits, Within, within-pool, within-take, within-retire, within-retireTwo, within-write, within-await, within-link, fits-paint, within-more, within-less, node-fits}
 
 fits-rise : (top m : ℕ) (path : List Link) (p : List ℕ) → Fits top p → Fits top (paintRise m path p)

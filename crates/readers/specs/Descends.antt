@@ -1,33 +1,29 @@
 -- A reader's own turn: what it loads, that R1 and R2 go on with the child, that its answer is right; and that turn after turn on one state
 -- it comes to what the tree holds.
-use Prim.Native.Nat.{ℕ, _<_, _≤_}
+use Prim.Native.Nat.{ℕ}
 use mathlib.Core.Path.{_≡_, refl, sym, ap, _∙_, subst}
-use mathlib.Core.Logic.{_≢_, _⊎_, inl, inr}
-use mathlib.Core.Bool.{Bool, true, false, cond}
+use mathlib.Core.Logic.{_≢_}
+use mathlib.Core.Bool.{true, false}
 use mathlib.Core.List.{List, [], _∷_, _++_, append-assoc}
 use mathlib.Core.Option.{Option, none, some}
 use native.Mathlib.Omega.{arith}
-use native.Mathlib.Decide.{ℕ-discrete}
-use lib.Dec.{eqb, ltb}
+use lib.Dec.{ltb}
 use lib.ListN.{length, length-set}
 use borrow.Author.Tests.{eq-eqb, ne-eqb, lt-ltb, le-ltb}
-use Rattle.types.specs.declared.Side.{Side}
-use Rattle.types.specs.declared.Side.the-variants.{L, R}
+use Rattle.types.specs.declared.Side.the-variants.{L}
 use Rattle.types.specs.declared.Reader.{Reader}
-use Rattle.types.specs.declared.Register.{Register}
-use Rattle.sequential.specs.Tree.{rel, pick}
 use Rattle.spec.specs.Pool.{word, child, keyWord, recordWord, slots}
 use Rattle.spec.specs.Register.{State, state, readerOf, withReader}
 use Rattle.spec.specs.Free.{endReading}
 use Rattle.spec.specs.Search.{towards}
-use Rattle.spec.specs.Calls.{Answer, go, absent, found, Outcome, outcome, loaded, readerStep}
+use Rattle.spec.specs.Calls.{go, absent, found, outcome, loaded, readerStep}
 use Rattle.tree.specs.Order.{tri-case}
 use Rattle.tree.specs.Thin.{Thin}
-use Rattle.tree.specs.Linked.{Node, Linked, nil, cell, find, path}
+use Rattle.tree.specs.Linked.{Linked, nil, cell, find, path}
 use Rattle.heap.specs.Rep.{Rep}
 use Rattle.promise.specs.Demands.{turnAt, Going, ends, goes, answerOf}
 use Rattle.readers.specs.Marks.{reader-same}
-use Rattle.readers.specs.Lookups.{Follows, Unlinked, Finds, OnWay}
+use Rattle.readers.specs.Lookups.{Unlinked, Finds, OnWay}
 
 -- What a reader's step is: before any node, at a node with the key, at another node.
 module _ (st : State) (s : ℕ) (x : Reader) (at : readerOf (st .register) s ≡ x) where

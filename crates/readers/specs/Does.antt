@@ -1,24 +1,19 @@
 -- What a call does, case by case: it is refused and changes nothing, or it does one of these, its tests passed.
-use Prim.Native.Nat.{ℕ, zero, suc, _<_, _≤_}
-use mathlib.Core.Path.{_≡_, refl, sym, ap, _∙_, subst}
-use mathlib.Core.Bool.{Bool, true, false, cond, not, _&&_, false≢true}
+use Prim.Native.Nat.{ℕ, _<_}
+use mathlib.Core.Path.{_≡_, refl, sym}
+use mathlib.Core.Bool.{Bool, true, false, cond, not, _&&_}
 use mathlib.Core.List.{List, [], _∷_}
-use mathlib.Core.Logic.{_≢_, _⊎_, inl, inr}
+use mathlib.Core.Logic.{_≢_}
 use native.Mathlib.Omega.{arith}
 use native.Mathlib.Decide.{ℕ-discrete}
-use lib.Dec.{eqb, leb}
-use borrow.Author.Tests.{eqb-true, eqb-false, eq-eqb, ne-eqb, leb-false}
-use Rattle.types.specs.declared.Link.{Link}
-use Rattle.types.specs.declared.Write.{Write}
-use Rattle.types.specs.declared.Reader.{Reader}
-use Rattle.types.specs.declared.Register.{Register}
+use lib.Dec.{eqb}
+use borrow.Author.Tests.{eqb-true, eqb-false, leb-false}
 use Rattle.spec.specs.Pool.{word, child, keyWord, recordWord, slots}
 use Rattle.spec.specs.Register.{State, state, readerOf, storeOf, withReader, withWrite, writeOf}
 use Rattle.spec.specs.Free.{endReading}
 use Rattle.spec.specs.Search.{towards}
-use Rattle.spec.specs.Plan.{Plan}
 use Rattle.spec.specs.Turn.{stepFinds, stepMade}
-use Rattle.spec.specs.Calls.{Answer, ok, go, absent, wait, found, refused, Outcome, outcome, Test, _gives_, firstOf, unless, wrongLength, outOfRange, slotTooHigh, reading, writeInHand, placeOf, insertAt, deleteAt, insert, delete, stored, writerTurn, begin, loaded, readerStep, readerTests, tooDeep, isHeld, full, fewerFree, readerTurn, giveUp, Call, inserting, deleting, writing, beginning, turning, givingUp, call}
+use Rattle.spec.specs.Calls.{ok, go, absent, wait, found, refused, Outcome, outcome, Test, _gives_, firstOf, unless, wrongLength, outOfRange, slotTooHigh, reading, writeInHand, placeOf, insertAt, deleteAt, insert, delete, stored, writerTurn, begin, loaded, readerStep, readerTests, tooDeep, isHeld, full, fewerFree, readerTurn, giveUp, Call, inserting, deleting, writing, beginning, turning, givingUp, call}
 use Rattle.readers.specs.Descends.{step-root, step-found, step-child, load-none, load-some}
 
 -- the node that slot s loads next: the root, or the child by comparing

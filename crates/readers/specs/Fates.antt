@@ -1,26 +1,25 @@
 -- The fate of each node in what a turn of the writer is made of: a node taken and filled, a link stored, colours, one or two nodes retired.
-use Prim.Native.Nat.{ℕ, zero, suc, _+_, _*_, _<_, _≤_}
-use mathlib.Core.Path.{_≡_, refl, sym, ap, _∙_, subst}
-use mathlib.Core.Bool.{Bool, true, false, cond, false≢true}
-use mathlib.Core.List.{List, [], _∷_, _++_, append-nil}
-use mathlib.Core.Logic.{_≢_, _⊎_, inl, inr}
+use Prim.Native.Nat.{ℕ, _<_, _≤_}
+use mathlib.Core.Path.{_≡_, sym, ap, _∙_, subst}
+use mathlib.Core.Bool.{true, cond, false≢true}
+use mathlib.Core.List.{List}
+use mathlib.Core.Logic.{_≢_, inl, inr}
 use native.Mathlib.Omega.{arith}
 use native.Mathlib.Decide.{ℕ-discrete, decLt}
 use lib.Dec.{eqb, ltb}
 use lib.ListN.{length, getD}
-use borrow.Author.Tests.{eq-eqb, ne-eqb, lt-ltb, le-ltb}
+use borrow.Author.Tests.{ne-eqb, lt-ltb, le-ltb}
 use Rattle.base.specs.Walk.{foldIn, cond-both}
 use Rattle.types.specs.declared.Side.{Side}
 use Rattle.types.specs.declared.Side.the-variants.{L, R}
-use Rattle.types.specs.declared.Reader.{Reader}
 use Rattle.types.specs.declared.Register.{Register}
-use Rattle.spec.specs.Pool.{nodeWords, word, setWord, child, linkWord, nodes, slots, standingWord, holdersWord, colourWord, standingFree, standingLinked, standingRetired}
-use Rattle.spec.specs.Register.{State, state, noReader, hasSlot, putSlot, addReading, readingSlots, countUp, withQueue}
-use Rattle.spec.specs.Free.{fillNode, takeNode, freeNode, retire, retireTwo}
-use Rattle.laws.specs.Words.{Node, length-setWord, word-other}
+use Rattle.spec.specs.Pool.{word, setWord, child, linkWord, nodes, slots, standingWord, holdersWord, colourWord, standingFree, standingLinked, standingRetired}
+use Rattle.spec.specs.Register.{State, noReader, hasSlot, putSlot, readingSlots, countUp, withQueue}
+use Rattle.spec.specs.Free.{fillNode, retire, retireTwo}
+use Rattle.laws.specs.Words.{Node, word-other}
 use Rattle.heap.specs.Fill.{retire-quiet}
 use Rattle.readers.specs.Marks.{reading-bit, none-reading}
-use Rattle.readers.specs.Words.{Whole, stands-node, node-length, free-length, free-words, free-other, free-standing, free-register, retire-none, retire-some, marked, marked-length, marked-words, marked-other, marked-standing, marked-holders, fill-other, fill-standing}
+use Rattle.readers.specs.Words.{Whole, stands-node, node-length, free-length, free-words, free-other, free-standing, free-register, retire-none, retire-some, marked-length, marked-words, marked-other, marked-standing, marked-holders, fill-other, fill-standing}
 use Rattle.readers.specs.Owned.{readingIn, Owned, own-retire}
 use Rattle.readers.specs.Reach.{Stands, Fate, comes, leaves, rests, goes}
 

@@ -1,16 +1,16 @@
 -- A link of one node redirected, in every tree that the node occurs in: the subtree there is replaced at each occurrence. A lookup either
 -- never passes that link, and then nothing changes for it; or it passes the node and goes on in the new subtree.
-use Prim.Native.Nat.{ℕ, _<_, _≤_}
+use Prim.Native.Nat.{ℕ}
 use mathlib.Core.Path.{_≡_, refl, sym, ap, _∙_, subst}
-use mathlib.Core.Logic.{_≢_, _⊎_, inl, inr}
+use mathlib.Core.Logic.{_≢_, inl, inr}
 use mathlib.Core.Bool.{Bool, true, false, cond}
 use mathlib.Core.List.{List, [], _∷_, _++_}
-use mathlib.Core.Option.{Option, none, some}
+use mathlib.Core.Option.{some}
 use native.Mathlib.Omega.{arith}
 use native.Mathlib.Decide.{ℕ-discrete}
 use lib.Dec.{eqb}
 use lib.ListN.{length}
-use borrow.Author.Tests.{eqb-true, eqb-false, eq-eqb, ne-eqb}
+use borrow.Author.Tests.{eq-eqb, ne-eqb}
 use Rattle.types.specs.declared.Side.{Side}
 use Rattle.types.specs.declared.Side.the-variants.{L, R}
 use Rattle.types.specs.Side.{other, sameSide}
@@ -19,7 +19,7 @@ use Rattle.spec.specs.Pool.{word, child, keyWord, recordWord}
 use Rattle.tree.specs.Order.{tri-case}
 use Rattle.tree.specs.Distinct.{_∈_}
 use Rattle.tree.specs.Linked.{Node, Linked, nil, cell, at, find, path, find-at, path-at}
-use Rattle.heap.specs.Rep.{Words, Rep}
+use Rattle.heap.specs.Rep.{Rep}
 
 -- the link that is stored, among a node's links
 abbrev pub hits : ℕ → Side → ℕ → Side → Bool

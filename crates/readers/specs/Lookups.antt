@@ -4,20 +4,17 @@
 -- own way to the key.
 -- A store redirects one link of a linked node, or the root. One lemma for all stores: a lookup that does not pass that link keeps its
 -- answer; one that passes it passes its node, which by R2 is on the root's way, so afterwards it finds what the root's way finds.
-use Prim.Native.Nat.{ℕ, _<_, _≤_}
+use Prim.Native.Nat.{ℕ}
 use mathlib.Core.Path.{_≡_, refl, sym, ap, _∙_, subst}
 use mathlib.Core.Logic.{_≢_, _⊎_, inl, inr, ⊎-elim}
-use mathlib.Core.Bool.{Bool, true, false, cond}
 use mathlib.Core.List.{List, [], _∷_, _++_, append-assoc}
-use mathlib.Core.Option.{Option, none, some}
-use native.Mathlib.Omega.{arith}
+use mathlib.Core.Option.{Option}
 use Rattle.types.specs.declared.Side.{Side}
 use Rattle.types.specs.declared.Side.the-variants.{L}
-use Rattle.sequential.specs.Tree.{near, rel}
 use Rattle.spec.specs.Pool.{word, keyWord, standingWord, standingLinked}
 use Rattle.tree.specs.Distinct.{_∈_, in-append, Distinct}
 use Rattle.tree.specs.Thin.{Thin, thin-refl, thin-trans, thin-stays}
-use Rattle.tree.specs.Linked.{Linked, nil, cell, find, path}
+use Rattle.tree.specs.Linked.{Linked, find, path}
 use Rattle.heap.specs.Rep.{Rep, rep-unique}
 use Rattle.readers.specs.Thinner.{thin-members, thin-end, thin-cut, path-once, once-there}
 use Rattle.readers.specs.Graft.{graft, All, all-path, Redirects, rep-still, rep-graft, Keyed, rep-keyed, Passes, apart, through, passes}

@@ -1,22 +1,21 @@
 -- Reading slots as bits of a number, and a walk over a range with what holds before each of its numbers.
 use Prim.Native.Nat.{ℕ, zero, suc, _+_, _-_, _/_, _%_, _^_, _<_, _≤_}
 use mathlib.Core.Path.{_≡_, refl, sym, _∙_}
-use mathlib.Core.Bool.{Bool, true, false, cond, false≢true}
-use mathlib.Core.List.{List}
+use mathlib.Core.Bool.{Bool, true, false, cond}
 use mathlib.Core.Logic.{_≢_}
 use native.Mathlib.Decide.{ℕ-discrete}
 use native.Mathlib.Omega.{arith}
 use native.Mathlib.Nat.{div-eq-of-lt}
 use lib.Pow.{pow-pos}
 use borrow.Author.Tests.{ne-eqb}
-use lib.ListN.{length, getD, set}
+use lib.ListN.{length, set}
 use lib.Seq.{getD-set-same, getD-set-other}
 use Rattle.base.specs.Walk.{foldFrom, foldIn}
 use Rattle.types.specs.declared.Reader.{Reader}
 use Rattle.types.specs.declared.Register.{Register}
 use Rattle.spec.specs.Pool.{slots}
-use Rattle.spec.specs.Register.{readerOf, noReader, hasSlot, putSlot, dropSlot, addReading, readingSlots, withReader}
-use Rattle.laws.specs.Slots.{put-same, put-other, put-below, no-slot}
+use Rattle.spec.specs.Register.{readerOf, noReader, hasSlot, putSlot, addReading, readingSlots, withReader}
+use Rattle.laws.specs.Slots.{put-same, put-other, put-below}
 
 -- what each step takes from one number to the next holds at the walk's end
 module _ {A : Type 0} (f : A → ℕ → A) (P : ℕ → A → Type 0) where

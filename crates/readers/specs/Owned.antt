@@ -1,29 +1,28 @@
 -- Who has which node: each stands free, linked or retired; the free ones are the queue's; a retired one has holders, which are reading;
 -- awaited slots are reading. Kept by begin, a reader's step, the end of a reading, retire, take, and a store of a link or a colour.
-use Prim.Native.Nat.{ℕ, zero, suc, _+_, _*_, _^_, _<_, _≤_}
+use Prim.Native.Nat.{ℕ, _+_, _^_, _<_, _≤_}
 use mathlib.Core.Path.{_≡_, refl, sym, ap, _∙_, subst}
 use mathlib.Core.Bool.{Bool, true, false, cond, _&&_, false≢true}
 use mathlib.Core.List.{List, [], _∷_, _++_, append-nil}
-use mathlib.Core.Logic.{_≢_, _⊎_, inl, inr}
+use mathlib.Core.Logic.{_≢_, inl, inr}
 use native.Mathlib.Omega.{arith}
 use native.Mathlib.Decide.{ℕ-discrete}
-use lib.Dec.{eqb, ltb}
+use lib.Dec.{eqb}
 use lib.ListN.{length, getD, set, length-set}
 use lib.Seq.{getD-set-same, getD-set-other}
 use borrow.Author.Tests.{eqb-true, eqb-false, eq-eqb, ne-eqb}
-use Rattle.base.specs.Walk.{foldIn}
 use Rattle.types.specs.declared.Side.{Side}
 use Rattle.types.specs.declared.Reader.{Reader}
 use Rattle.types.specs.declared.Register.{Register}
-use Rattle.spec.specs.Pool.{nodeWords, word, setWord, nodes, slots, standingWord, holdersWord, standingFree, standingLinked, standingRetired}
-use Rattle.spec.specs.Register.{State, state, noReader, readerOf, hasSlot, putSlot, dropSlot, readingSlots, withReader, withAwaited, withQueue}
-use Rattle.spec.specs.Free.{fillNode, takeFree, takeNode, freeNode, retire, retireTwo, endReading}
+use Rattle.spec.specs.Pool.{word, setWord, nodes, slots, standingWord, holdersWord, standingFree, standingLinked, standingRetired}
+use Rattle.spec.specs.Register.{State, state, noReader, hasSlot, dropSlot, readingSlots, withReader, withAwaited, withQueue}
+use Rattle.spec.specs.Free.{fillNode, takeFree, takeNode, freeNode, retire, endReading}
 use Rattle.laws.specs.Words.{Node, length-setWord, word-other}
 use Rattle.laws.specs.Slots.{drop-same, drop-other, drop-le}
-use Rattle.readers.specs.Marks.{no-bit, reading-bit, reading-below}
-use Rattle.readers.specs.Words.{node-set, node-length, node-high, free-length, free-other, free-standing, free-holders, retire-none, retire-some, marked, marked-length, marked-other, marked-standing, marked-holders, fill-length, fill-other, fill-standing, fill-holders}
+use Rattle.readers.specs.Marks.{reading-bit, reading-below}
+use Rattle.readers.specs.Words.{node-length, node-high, free-length, free-other, free-standing, free-holders, retire-none, retire-some, marked, marked-length, marked-other, marked-standing, marked-holders, fill-length, fill-other, fill-standing, fill-holders}
 use Rattle.readers.specs.Stock.{Stock, free-stock, take-stock, mark-stock, word-stock, field-stock}
-use Rattle.readers.specs.Release.{SameElse, else-free, retired, freedBy, freedBelow, Released, ended, end-released}
+use Rattle.readers.specs.Release.{else-free, retired, freedBelow, end-released}
 
 abbrev pub readingIn : List Reader → ℕ → Bool
 readingIn xs s = getD xs s noReader .reading

@@ -1,15 +1,13 @@
 -- What a slot can reach is kept for it: each child of a linked node is linked; each child of a retired node is linked, or retired with at
 -- least the same holders. So from a node that is linked, or retired with the slot's bit, links lead to such nodes alone.
 -- Kept by the end of a reading, and by any store that is described by the fate of each node.
-use Prim.Native.Nat.{ℕ, zero, suc, _+_, _*_, _<_, _≤_}
-use mathlib.Core.Path.{_≡_, refl, sym, ap, _∙_, subst}
-use mathlib.Core.Bool.{Bool, true, false, cond, _&&_, false≢true}
-use mathlib.Core.List.{List, [], _∷_, _++_}
+use Prim.Native.Nat.{ℕ, _+_, _<_}
+use mathlib.Core.Path.{_≡_, sym, _∙_, subst}
+use mathlib.Core.Bool.{Bool, true, false, cond, false≢true}
+use mathlib.Core.List.{List}
 use mathlib.Core.Logic.{_≢_, _⊎_, inl, inr, ⊎-elim}
 use native.Mathlib.Omega.{arith}
-use native.Mathlib.Decide.{ℕ-discrete}
-use lib.Dec.{eqb}
-use borrow.Author.Tests.{eqb-true, eqb-false, eq-eqb, ne-eqb}
+use borrow.Author.Tests.{eq-eqb, ne-eqb}
 use Rattle.types.specs.declared.Side.{Side}
 use Rattle.types.specs.declared.Side.the-variants.{L, R}
 use Rattle.spec.specs.Pool.{word, child, linkWord, nodes, slots, standingWord, holdersWord, standingFree, standingLinked, standingRetired}
@@ -21,7 +19,7 @@ use Rattle.promise.specs.Demands.{Leads, arrived, onward}
 use Rattle.readers.specs.Marks.{no-bit}
 use Rattle.readers.specs.Words.{node-high, node-length, Whole, whole-length, stands-node}
 use Rattle.readers.specs.Stock.{Stock}
-use Rattle.readers.specs.Release.{retired, freedBy, standingAfter, holdersAfter, Released, end-released}
+use Rattle.readers.specs.Release.{retired, freedBy, end-released}
 
 abbrev pub Stands : List ℕ → ℕ → ℕ → Type 0
 Stands p n a = word p n standingWord ≡ a

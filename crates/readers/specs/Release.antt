@@ -1,5 +1,5 @@
 -- The end of a reading: what every word of every node is afterwards, and the order in which nodes are freed.
-use Prim.Native.Nat.{ℕ, zero, suc, _+_, _*_, _<_, _≤_}
+use Prim.Native.Nat.{ℕ, zero, suc, _+_, _<_, _≤_}
 use mathlib.Core.Path.{_≡_, refl, sym, ap, _∙_}
 use mathlib.Core.Bool.{Bool, true, false, cond, _&&_}
 use mathlib.Core.List.{List, [], _∷_, _++_, append-assoc, append-nil}
@@ -9,12 +9,9 @@ use native.Mathlib.Numerals.{add-one}
 use native.Mathlib.Decide.{ℕ-discrete}
 use lib.Dec.{eqb}
 use lib.ListN.{length}
-use borrow.Author.Tests.{eqb-true, eqb-false}
-use Rattle.base.specs.Walk.{foldIn}
-use Rattle.types.specs.declared.Reader.{Reader}
-use Rattle.types.specs.declared.Write.{Write}
+use borrow.Author.Tests.{eqb-true}
 use Rattle.types.specs.declared.Register.{Register}
-use Rattle.spec.specs.Pool.{nodeWords, word, setWord, nodes, standingWord, holdersWord, nextWord, standingFree, standingRetired}
+use Rattle.spec.specs.Pool.{nodeWords, word, setWord, nodes, standingWord, holdersWord, standingFree, standingRetired}
 use Rattle.spec.specs.Register.{State, state, noReader, withQueue, withReader, withAwaited, dropSlot}
 use Rattle.spec.specs.Free.{freeNode, release, endReading}
 use Rattle.laws.specs.Words.{Node, length-setWord, word-none, word-same, word-other}

@@ -1,31 +1,27 @@
 -- The readers' side of the invariant, of one state: who has which node, children kept, the root linked, each reading slot's node kept for it.
 -- Kept by every call; a turn of the writer is taken as Turns describes it, with the children of linked nodes linked.
-use Prim.Native.Nat.{ℕ, _+_, _<_, _≤_}
+use Prim.Native.Nat.{ℕ, _<_}
 use mathlib.Core.Path.{_≡_, refl, sym, ap, _∙_, subst}
-use mathlib.Core.Bool.{Bool, true, false, cond, false≢true}
-use mathlib.Core.List.{List, [], _∷_, _++_}
-use mathlib.Core.Logic.{_≢_, _⊎_, inl, inr, ⊎-elim, _↔_}
+use mathlib.Core.Bool.{true, false≢true}
+use mathlib.Core.List.{List}
+use mathlib.Core.Logic.{_≢_, inl}
 use native.Mathlib.Omega.{arith}
 use native.Mathlib.Decide.{ℕ-discrete}
 use lib.ListN.{length, getD}
 use borrow.Author.Tests.{eq-eqb, ne-eqb}
-use Rattle.types.specs.declared.Side.{Side}
 use Rattle.types.specs.declared.Link.{Link}
 use Rattle.types.specs.declared.Write.{Write}
 use Rattle.types.specs.declared.Reader.{Reader}
-use Rattle.types.specs.declared.Register.{Register}
-use Rattle.spec.specs.Pool.{word, child, linkWord, nodes, slots, standingWord, standingFree, standingLinked, standingRetired}
-use Rattle.spec.specs.Register.{State, state, noReader, readerOf, withReader, withAwaited, withWrite, hasSlot, dropSlot}
+use Rattle.spec.specs.Pool.{nodes, slots, standingWord, standingLinked}
+use Rattle.spec.specs.Register.{State, state, noReader, readerOf, withReader, withAwaited, withWrite}
 use Rattle.spec.specs.Free.{endReading}
 use Rattle.spec.specs.Calls.{reading}
-use Rattle.laws.specs.Slots.{drop-same, drop-other}
-use Rattle.promise.specs.Demands.{Leads, origin, Reaches}
-use Rattle.heap.specs.Rep.{Alike}
+use Rattle.promise.specs.Demands.{Leads, Reaches}
 use Rattle.readers.specs.Marks.{reader-same, reader-other}
 use Rattle.readers.specs.Words.{Whole, whole-length, stands-node}
-use Rattle.readers.specs.Release.{ended, SameElse, Released, end-released}
-use Rattle.readers.specs.Owned.{readingIn, Slots, Owned, own-reader, own-end}
-use Rattle.readers.specs.Reach.{Stands, Kept, LinkedClosed, Closed, kept-child, kept-reach, leads-there, kept-end, closed-end, end-linked, linked-end, Fate, kept-store, closed-store}
+use Rattle.readers.specs.Release.{ended, end-released}
+use Rattle.readers.specs.Owned.{readingIn, Owned, own-reader, own-end}
+use Rattle.readers.specs.Reach.{Stands, Kept, LinkedClosed, Closed, kept-reach, leads-there, kept-end, closed-end, end-linked, kept-store, closed-store}
 use Rattle.readers.specs.Fates.{Reading}
 use Rattle.readers.specs.Stored.{own-fields}
 use Rattle.readers.specs.Turns.{Turn}

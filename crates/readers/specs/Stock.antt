@@ -1,25 +1,23 @@
 -- The stock of free nodes: the queue holds just the nodes standing free, once each, and the free count is their number.
 -- Kept by take, free, a node marked retired, and every word and field that is none of the queue's.
-use Prim.Native.Nat.{ℕ, _+_, _-_, _*_, _<_, _≤_}
+use Prim.Native.Nat.{ℕ, _+_, _-_, _<_, _≤_}
 use mathlib.Core.Path.{_≡_, refl, sym, ap, _∙_}
-use mathlib.Core.Bool.{Bool, true, false, cond}
 use mathlib.Core.List.{List, [], _∷_, _++_}
 use mathlib.Core.Logic.{_≢_, _⊎_, inl, inr, ⊎-elim, _↔_}
 use native.Mathlib.Omega.{arith}
 use native.Mathlib.Decide.{ℕ-discrete}
-use lib.Dec.{eqb, ltb}
 use lib.ListN.{length, length-append}
 use borrow.Author.Tests.{lt-ltb}
 use Rattle.types.specs.declared.Side.{Side}
 use Rattle.types.specs.declared.Register.{Register}
 use Rattle.tree.specs.Distinct as Lists
 use Rattle.tree.specs.Distinct.{_∈_, in-append, pigeonhole}
-use Rattle.spec.specs.Pool.{nodeWords, word, setWord, nodes, standingWord, holdersWord, nextWord, standingFree}
+use Rattle.spec.specs.Pool.{word, setWord, nodes, standingWord, holdersWord, standingFree}
 use Rattle.spec.specs.Register.{State, state, withQueue}
 use Rattle.spec.specs.Free.{takeFree, fillNode, takeNode, freeNode}
 use Rattle.laws.specs.Words.{Node, length-setWord, word-other}
 use Rattle.laws.specs.Queue.{NotIn, Distinct, Chain, Queue, chain-word, take-queue, free-queue}
-use Rattle.readers.specs.Words.{node-set, node-length, node-high, node-in, free-length, free-other, free-standing, free-register, marked, marked-length, marked-other, marked-standing, fill-length, fill-other, fill-standing}
+use Rattle.readers.specs.Words.{node-length, node-high, free-length, free-other, free-standing, free-register, marked, marked-length, marked-other, marked-standing, fill-length, fill-other, fill-standing}
 
 -- the two ways to say that a number is not in a list
 pub not-in : (n : ℕ) (l : List ℕ) → ¬ (n ∈ l) → NotIn n l

@@ -1,12 +1,11 @@
 -- A link store of the writer before anything is retired: a node may have been taken and filled, one link is stored, colours may change.
 -- What every word of the other nodes is then; no node is lost.
-use Prim.Native.Nat.{ℕ, zero, suc, _+_, _*_, _<_, _≤_}
+use Prim.Native.Nat.{ℕ, _+_, _<_, _≤_}
 use mathlib.Core.Path.{_≡_, refl, sym, ap, _∙_, subst}
 use mathlib.Core.Bool.{Bool, true, false, cond}
-use mathlib.Core.List.{List, [], _∷_, _++_}
-use mathlib.Core.Logic.{_≢_, _⊎_, inl, inr}
+use mathlib.Core.List.{List, [], _∷_}
+use mathlib.Core.Logic.{_≢_, inl, inr}
 use native.Mathlib.Omega.{arith}
-use native.Mathlib.Decide.{ℕ-discrete}
 use lib.Dec.{eqb}
 use lib.ListN.{length}
 use borrow.Author.Tests.{eqb-true, eqb-false}
@@ -16,15 +15,14 @@ use Rattle.types.specs.declared.Link.{Link}
 use Rattle.types.specs.declared.Link.the-variants.{Root, Left, Right}
 use Rattle.types.specs.declared.Register.{Register}
 use Rattle.types.specs.Side.{sameSide}
-use Rattle.spec.specs.Pool.{nodeWords, word, setWord, child, keyWord, recordWord, leftWord, rightWord, linkWord, colourWord, standingWord, holdersWord, nextWord, standingFree, standingLinked}
-use Rattle.spec.specs.Register.{State, state, withRoot, withQueue, withAwaited, withWrite, readingSlots, setLink}
-use Rattle.spec.specs.Free.{fillNode, takeFree, takeNode}
+use Rattle.spec.specs.Pool.{nodeWords, word, setWord, child, keyWord, recordWord, leftWord, rightWord, linkWord, colourWord, standingWord, holdersWord, standingFree, standingLinked}
+use Rattle.spec.specs.Register.{State, state, withRoot, withQueue, setLink}
+use Rattle.spec.specs.Free.{takeFree, takeNode}
 use Rattle.tree.specs.Distinct.{_∈_}
 use Rattle.laws.specs.Words.{Node, length-setWord, word-same, word-other}
-use Rattle.laws.specs.Queue.{Chain}
-use Rattle.readers.specs.Words.{node-length, Whole, whole-length, stands-node, fill-length, fill-other, fill-standing}
-use Rattle.readers.specs.Stock.{Stock, pool-stock, field-stock}
-use Rattle.readers.specs.Owned.{Slots, Owned, slots-reading, own-word, own-take}
+use Rattle.readers.specs.Words.{Whole, whole-length, stands-node, fill-length, fill-other, fill-standing}
+use Rattle.readers.specs.Stock.{field-stock}
+use Rattle.readers.specs.Owned.{Slots, Owned, own-word, own-take}
 use Rattle.readers.specs.Reach.{Stands}
 use Rattle.readers.specs.Graft.{hits}
 

@@ -1,18 +1,15 @@
 -- More on lists thinned (tree: Thin): up to a node that stays, and with the same end; and each lookup visits a node once.
-use Prim.Native.Nat.{ℕ, _+_, _<_}
+use Prim.Native.Nat.{ℕ, _+_}
 use mathlib.Core.Path.{_≡_, refl, sym, ap, _∙_, subst}
-use mathlib.Core.Logic.{_≢_, _⊎_, inl, inr, ⊎-elim}
+use mathlib.Core.Logic.{_⊎_, inl, inr, ⊎-elim}
 use mathlib.Core.List.{List, [], _∷_, _++_}
 use native.Mathlib.Omega.{arith}
-use Rattle.types.specs.declared.Side.{Side}
-use Rattle.types.specs.declared.Side.the-variants.{L, R}
-use Rattle.sequential.specs.Tree.{rel, pick}
-use Rattle.spec.specs.Pool.{child}
+use Rattle.types.specs.declared.Side.the-variants.{L}
 use Rattle.tree.specs.Order.{tri-case}
 use Rattle.tree.specs.Distinct.{_∈_, in-append, Distinct}
 use Rattle.tree.specs.Occurs.{occ, in-occ}
 use Rattle.tree.specs.Thin.{Thin, done, keep, more, leave, thin-refl, thin-stays}
-use Rattle.tree.specs.Linked.{Node, Linked, nil, cell, path, nodes, path-nodes}
+use Rattle.tree.specs.Linked.{Linked, nil, cell, path, nodes, path-nodes}
 use Rattle.heap.specs.Rep.{Rep, not-below}
 
 -- only the members' leaving matters

@@ -1,27 +1,24 @@
 -- Colour work and the count of keys held touch no word or field that readers go by.
-use Prim.Native.Nat.{ℕ, zero, suc, _+_, _*_, _<_, _≤_}
+use Prim.Native.Nat.{ℕ, zero, suc, _<_}
 use mathlib.Core.Path.{_≡_, refl, sym, ap, _∙_}
-use mathlib.Core.Bool.{Bool, true, false, cond}
 use mathlib.Core.List.{List, [], _∷_}
-use mathlib.Core.Logic.{_≢_, _⊎_, inl, inr}
+use mathlib.Core.Logic.{_≢_, inr}
 use native.Mathlib.Omega.{arith}
 use lib.ListN.{length}
 use Rattle.base.specs.Walk.{cond-both}
 use Rattle.types.specs.declared.Side.{Side}
-use Rattle.types.specs.declared.Side.the-variants.{L, R}
 use Rattle.types.specs.declared.Link.{Link}
 use Rattle.types.specs.declared.Rule.{Rule}
 use Rattle.types.specs.declared.Rule.the-variants.{Grow, Pass, Borrow}
 use Rattle.types.specs.declared.Ending.{Ending}
 use Rattle.types.specs.declared.Ending.the-variants.{Calm, Blacken, Rotate, RotateTwice, Missing}
 use Rattle.types.specs.declared.Climb.{Climb}
-use Rattle.types.specs.declared.Register.{Register}
 use Rattle.types.specs.Side.{other, owner, sideOf}
-use Rattle.spec.specs.Pool.{nodeWords, word, setWord, child, paint, keyWord, recordWord, linkWord, colourWord, standingWord, holdersWord, nextWord, blackColour, redColour}
+use Rattle.spec.specs.Pool.{nodeWords, word, child, paint, keyWord, recordWord, linkWord, colourWord, standingWord, holdersWord, nextWord, blackColour, redColour}
 use Rattle.spec.specs.Register.{State, state, withHeld}
 use Rattle.spec.specs.Plan.{paintRise, paintSink, paintEnd, paintLoss, redChild}
-use Rattle.spec.specs.Turn.{painted, blackRoot, oneMore, oneLess, endInsert, underCopy, endDiag, endZig}
-use Rattle.laws.specs.Words.{Node, length-setWord, word-other}
+use Rattle.spec.specs.Turn.{painted, oneMore, oneLess, endInsert, underCopy, endDiag, endZig}
+use Rattle.laws.specs.Words.{length-setWord, word-other}
 use Rattle.laws.specs.Queue.{Chain}
 use Rattle.readers.specs.Words.{node-length}
 use Rattle.readers.specs.Stock.{pool-stock, field-stock}

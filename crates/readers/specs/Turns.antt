@@ -1,13 +1,12 @@
 -- A turn of the writer as readers meet it: one link stored, perhaps a node that came, perhaps nodes that went and are retired. The fate of
 -- each node, which nodes are linked afterwards, and the words that lookups go by.
-use Prim.Native.Nat.{ℕ, zero, suc, _+_, _*_, _<_, _≤_}
-use mathlib.Core.Path.{_≡_, refl, sym, ap, _∙_, subst}
-use mathlib.Core.Bool.{Bool, true, false, cond, false≢true}
-use mathlib.Core.List.{List, [], _∷_, _++_}
+use Prim.Native.Nat.{ℕ, _+_, _≤_}
+use mathlib.Core.Path.{_≡_, refl, sym, _∙_, subst}
+use mathlib.Core.Bool.{true, false, cond}
+use mathlib.Core.List.{List, [], _∷_}
 use mathlib.Core.Logic.{_≢_, _⊎_, inl, inr, ⊎-elim, _↔_}
 use native.Mathlib.Omega.{arith}
 use native.Mathlib.Decide.{ℕ-discrete}
-use lib.Dec.{eqb}
 use lib.ListN.{length}
 use borrow.Author.Tests.{ne-eqb}
 use Rattle.types.specs.declared.Side.{Side}
@@ -15,9 +14,8 @@ use Rattle.types.specs.declared.Side.the-variants.{L, R}
 use Rattle.types.specs.declared.Link.{Link}
 use Rattle.types.specs.declared.Link.the-variants.{Root, Left, Right}
 use Rattle.types.specs.declared.Write.{Write}
-use Rattle.types.specs.declared.Register.{Register}
-use Rattle.types.specs.Side.{owner, sameSide}
-use Rattle.spec.specs.Pool.{word, child, linkWord, keyWord, recordWord, colourWord, standingWord, holdersWord, standingFree, standingLinked, standingRetired}
+use Rattle.types.specs.Side.{owner}
+use Rattle.spec.specs.Pool.{word, child, linkWord, keyWord, recordWord, standingWord, holdersWord, standingFree, standingLinked, standingRetired}
 use Rattle.spec.specs.Register.{State, state, withWrite}
 use Rattle.spec.specs.Free.{retire, retireTwo}
 use Rattle.tree.specs.Distinct.{_∈_}
@@ -26,9 +24,8 @@ use Rattle.heap.specs.Rep.{alike-refl}
 use Rattle.heap.specs.Fill.{Quiet, retire-quiet, retireTwo-quiet}
 use Rattle.readers.specs.Words.{Whole, whole-length, stands-node}
 use Rattle.readers.specs.Owned.{readingIn, Owned, own-retire}
-use Rattle.readers.specs.Reach.{Stands, Fate, comes, leaves, rests, goes}
+use Rattle.readers.specs.Reach.{Stands, Fate, comes, leaves, goes}
 use Rattle.readers.specs.Fates.{ranked, Reading, fate-same, Retires, stays, out, off, retire-other, retire-retires, retire-gone, retire-free, retireTwo-free, retireTwo-retires, retireTwo-owned, retireTwo-gone, retireTwo-other}
-use Rattle.readers.specs.Graft.{hits}
 use Rattle.readers.specs.Stored.{hitsLink, rootAfter, OwnerLinked, Stored, link-low, own-fields}
 
 -- whether a number is in a list

@@ -1,21 +1,19 @@
 -- What free, retire and take do to each word of each node, and to the register.
-use Prim.Native.Nat.{ℕ, zero, suc, _+_, _-_, _*_, _<_, _≤_}
-use mathlib.Core.Path.{_≡_, refl, sym, ap, _∙_}
+use Prim.Native.Nat.{ℕ, zero, suc, _-_, _*_, _<_, _≤_}
+use mathlib.Core.Path.{_≡_, refl, _∙_}
 use mathlib.Core.Bool.{Bool, true, false, cond}
 use mathlib.Core.List.{List, [], _∷_}
-use mathlib.Core.Logic.{_≢_, _⊎_, inl, inr}
+use mathlib.Core.Logic.{_≢_, inl, inr}
 use native.Mathlib.Omega.{arith}
 use native.Mathlib.Decide.{ℕ-discrete, decLe}
-use lib.Dec.{eqb}
 use lib.ListN.{length, getD}
 use borrow.Author.Tests.{eq-eqb, ne-eqb}
 use Rattle.types.specs.declared.Side.{Side}
 use Rattle.types.specs.declared.Side.the-variants.{L, R}
-use Rattle.types.specs.declared.Register.{Register}
 use Rattle.types.specs.Side.{other}
 use Rattle.spec.specs.Pool.{nodeWords, place, word, setWord, nodes, keyWord, recordWord, linkWord, colourWord, standingWord, holdersWord, nextWord, standingFree, standingLinked, standingRetired}
 use Rattle.spec.specs.Register.{State, state, withQueue, countUp, readingSlots}
-use Rattle.spec.specs.Free.{queueEmpty, takeFree, fillNode, takeNode, freeNode, retire}
+use Rattle.spec.specs.Free.{queueEmpty, fillNode, freeNode, retire}
 use Rattle.laws.specs.Words.{Node, length-setWord, word-none, word-at, word-same, word-other}
 
 pub node-set : (p : List ℕ) (m n f v : ℕ) → Node p m → Node (setWord p n f v) m

@@ -1,31 +1,27 @@
 -- What a reader's turn answers is right: one of the answers possible so far. A slot reads only from its begin on, until its reading ends.
 use Prim.Native.Nat.{ℕ, _<_}
 use mathlib.Core.Path.{_≡_, refl, sym, ap, _∙_, subst}
-use mathlib.Core.Bool.{Bool, true, false, false≢true}
+use mathlib.Core.Bool.{true, false≢true}
 use mathlib.Core.List.{List}
 use mathlib.Core.Option.{Option, none, some}
 use mathlib.Core.Logic.{_≢_, _⊎_, inl, inr}
 use native.Mathlib.Omega.{arith}
 use native.Mathlib.Decide.{ℕ-discrete}
 use lib.ListN.{length, getD}
-use Rattle.types.specs.declared.Reader.{Reader}
 use Rattle.types.specs.declared.Write.{Write}
-use Rattle.types.specs.declared.Register.{Register}
 use Rattle.spec.specs.Pool.{word, child, keyWord, recordWord, slots}
-use Rattle.spec.specs.Register.{State, state, noReader, readerOf, storeOf, withReader, withWrite}
+use Rattle.spec.specs.Register.{State, state, noReader, readerOf, withReader, withWrite}
 use Rattle.spec.specs.Free.{endReading}
-use Rattle.spec.specs.Turn.{stepMade, Made}
 use Rattle.spec.specs.Search.{towards}
-use Rattle.spec.specs.Calls.{Answer, ok, go, absent, wait, found, more, done, refused, Outcome, firstOf, stored, reading, Call, inserting, deleting, writing, beginning, turning, givingUp}
+use Rattle.spec.specs.Calls.{Answer, ok, go, absent, wait, found, more, done, refused, Outcome, firstOf, reading, Call, inserting, deleting, writing, beginning, turning, givingUp}
 use Rattle.spec.specs.PlainList.{Plain, recordFor}
 use Rattle.tree.specs.Linked.{Linked, nil, cell, find}
 use Rattle.heap.specs.Rep.{Rep}
 use Rattle.readers.specs.Marks.{reader-same, reader-other}
-use Rattle.readers.specs.Lookups.{Finds}
 use Rattle.readers.specs.Descends.{turn-found, turn-finds, turn-absent}
-use Rattle.readers.specs.Does.{Does, refuses, plansInsert, plansDelete, waits, stores, begins, loads, misses, finds, leaves, Loads, atRoot, atNode, Passed, testsOf}
+use Rattle.readers.specs.Does.{Does, refuses, plansInsert, plansDelete, waits, stores, begins, loads, misses, finds, leaves, Loads, atRoot, atNode, testsOf}
 use Rattle.readers.specs.Safe.{Safe, end-reader, end-own}
-use Rattle.runs.specs.Writer.{Stores, Writer, afterStore}
+use Rattle.runs.specs.Writer.{Writer, afterStore}
 use Rattle.runs.specs.Sound.{Sound}
 use Rattle.runs.specs.Slot.{Stand, stand-begin}
 use Rattle.runs.specs.Follow.{EndsBy, StandAt}

@@ -1,26 +1,24 @@
 -- A fresh index has the readers' side of the invariant: every node stands free and is queued in order.
-use Prim.Native.Nat.{ℕ, zero, suc, _+_, _-_, _*_, _/_, _^_, _<_, _≤_}
+use Prim.Native.Nat.{ℕ, zero, suc, _+_, _-_, _*_, _<_, _≤_}
 use mathlib.Core.Path.{_≡_, refl, sym, ap, _∙_, subst}
-use mathlib.Core.Bool.{Bool, true, false, cond, false≢true}
-use mathlib.Core.List.{List, [], _∷_, _++_}
+use mathlib.Core.Bool.{false, false≢true}
+use mathlib.Core.List.{List, [], _∷_}
 use mathlib.Core.Logic.{_≢_, _⊎_, inl, inr, ⊎-elim, _↔_}
 use native.Mathlib.Omega.{arith}
 use native.Mathlib.Decide.{ℕ-discrete, decLt}
 use lib.ListN.{length, getD, replicate}
 use lib.Seq.{getD-append-add}
-use Rattle.types.specs.declared.Register.{Register}
 use Rattle.tree.specs.Distinct.{_∈_}
-use Rattle.spec.specs.Pool.{nodeWords, place, word, nodes, slots, nextWord, standingWord, holdersWord, freshNodes, freshPool}
-use Rattle.spec.specs.Register.{State, state, noReader, readerOf, hasSlot, fresh, freshRegister}
-use Rattle.laws.specs.Words.{Node, word-at, word-none}
-use Rattle.laws.specs.Queue.{NotIn, Distinct, Chain, lastOf, Queue}
+use Rattle.spec.specs.Pool.{place, word, nodes, slots, nextWord, standingWord, holdersWord, freshNodes, freshPool}
+use Rattle.spec.specs.Register.{noReader, readerOf, fresh, freshRegister}
+use Rattle.laws.specs.Words.{word-at, word-none}
+use Rattle.laws.specs.Queue.{NotIn, Distinct, Chain, lastOf}
 use Rattle.readers.specs.Marks.{no-bit}
-use Rattle.readers.specs.Words.{Whole, node-in, node-high, past-end}
+use Rattle.readers.specs.Words.{node-in, node-high, past-end}
 use Rattle.readers.specs.Stock.{Stock}
-use Rattle.readers.specs.Owned.{Good, Slots, Owned}
-use Rattle.readers.specs.Reach.{Closed}
+use Rattle.readers.specs.Owned.{Owned}
 use Rattle.readers.specs.Safe.{Safe}
-use Rattle.ranges.specs.Fits.{Fit, Fits, fit-zero, fit-next, Within}
+use Rattle.ranges.specs.Fits.{Fit, Fits, fit-zero, fit-next}
 use Rattle.ranges.specs.Writes.{write-none}
 use Rattle.ranges.specs.Calls.{Ranged}
 

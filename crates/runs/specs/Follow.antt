@@ -1,18 +1,16 @@
 -- A slot that reads, through any call that does not end its reading: it goes on, what is kept for it stays kept, R1 and R2 go on.
-use Prim.Native.Nat.{ℕ, _<_, _≤_}
+use Prim.Native.Nat.{ℕ, _<_}
 use mathlib.Core.Path.{_≡_, refl, sym, ap, _∙_, subst}
-use mathlib.Core.Bool.{Bool, true, false, false≢true}
-use mathlib.Core.List.{List, [], _∷_}
-use mathlib.Core.Option.{Option, none, some}
-use mathlib.Core.Logic.{_≢_, _⊎_, inl, inr, ⊎-elim, _↔_}
+use mathlib.Core.Bool.{true, false≢true}
+use mathlib.Core.Option.{Option}
+use mathlib.Core.Logic.{_≢_, _⊎_, inl, inr, ⊎-elim}
 use native.Mathlib.Omega.{arith}
 use native.Mathlib.Decide.{ℕ-discrete}
 use lib.ListN.{getD}
 use Rattle.types.specs.declared.Reader.{Reader}
-use Rattle.types.specs.declared.Register.{Register}
 use Rattle.types.specs.declared.Write.{Write}
 use Rattle.spec.specs.Pool.{slots, standingLinked}
-use Rattle.spec.specs.Register.{State, state, noReader, readerOf, storeOf, withReader, withAwaited, withWrite, hasSlot, dropSlot, readingSlots}
+use Rattle.spec.specs.Register.{State, state, noReader, readerOf, storeOf, withReader, withAwaited, withWrite, hasSlot, dropSlot}
 use Rattle.spec.specs.Free.{endReading}
 use Rattle.spec.specs.Turn.{stepMade}
 use Rattle.spec.specs.Calls.{Answer, ok, go, absent, found, Outcome, reading, Call, turning, givingUp}
@@ -20,7 +18,6 @@ use Rattle.spec.specs.PlainList.{Plain, recordFor, heard, feed, storeMade}
 use Rattle.laws.specs.Slots.{drop-other}
 use Rattle.tree.specs.Distinct.{_∈_}
 use Rattle.tree.specs.Linked.{Linked, find, nodes}
-use Rattle.heap.specs.Rep.{Rep}
 use Rattle.readers.specs.Marks.{no-bit, reading-bit, reader-same, reader-other}
 use Rattle.readers.specs.Release.{ended, end-released}
 use Rattle.readers.specs.Reach.{Stands, Kept, kept-end, linked-end, kept-store}

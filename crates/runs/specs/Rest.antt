@@ -1,38 +1,32 @@
 -- The other promises about runs: the free queue, waits, writes done within seven stores, the tree at rest, and that 1, 2 and 12 are never met.
 -- What of them is the writer's side alone is asked as `Completes`.
 use Prim.Native.Nat.{ℕ, zero, suc, _+_, _%_, _^_, _<_, _≤_}
-use mathlib.Core.Path.{_≡_, refl, sym, ap, _∙_, subst}
+use mathlib.Core.Path.{_≡_, refl, sym, ap, _∙_}
 use mathlib.Core.Bool.{Bool, true, false, cond, not, _&&_, false≢true}
 use mathlib.Core.List.{List, [], _∷_}
-use mathlib.Core.Option.{Option, none, some}
-use mathlib.Core.Logic.{_≢_, _⊎_, inl, inr, ⊎-elim, _↔_}
+use mathlib.Core.Option.{none}
+use mathlib.Core.Logic.{_≢_, _⊎_, inl, inr, ⊎-elim}
 use native.Mathlib.Omega.{arith}
-use native.Mathlib.Numerals.{add-one}
 use native.Mathlib.Decide.{ℕ-discrete}
 use lib.Dec.{eqb}
 use lib.ListN.{length}
-use borrow.Author.Tests.{eqb-true, eqb-false, eq-eqb, ne-eqb, le-leb}
+use borrow.Author.Tests.{eqb-true, eqb-false, eq-eqb, le-leb}
 use Rattle.types.specs.declared.Link.{Link}
-use Rattle.types.specs.declared.Register.{Register}
 use Rattle.sequential.specs.Tree.{leaf}
 use Rattle.sequential.specs.Delete.{changedBy}
 use Rattle.spec.specs.Pool.{word, colourWord, nodes, nodeWords, leastNodes, mostNodes, slots, lengthRight}
-use Rattle.spec.specs.Register.{State, state, mostStores, storeOf, hasSlot, withWrite, lessFirst}
+use Rattle.spec.specs.Register.{State, mostStores, storeOf, hasSlot, withWrite, lessFirst}
 use Rattle.spec.specs.Turn.{Made, stepFinds, stepMade}
-use Rattle.spec.specs.Calls.{Answer, ok, go, absent, wait, found, more, done, refused, Outcome, outcome, stored, Test, _gives_, firstOf, unless, wrongLength, outOfRange, slotTooHigh, reading, writeInHand, placeOf, tooDeep, isHeld, full, fewerFree, insertAt, deleteAt, insert, delete, writerTurn, begin, readerTests, readerStep, readerTurn, giveUp, Call, inserting, deleting, writing, beginning, turning, givingUp, call}
-use Rattle.spec.specs.PlainList.{Plain, Heard, went, heard, accepted}
-use Rattle.laws.specs.Words.{Node}
+use Rattle.spec.specs.Calls.{Answer, ok, go, absent, wait, found, more, done, refused, Outcome, stored, Test, _gives_, firstOf, wrongLength, outOfRange, reading, writeInHand, placeOf, tooDeep, isHeld, fewerFree, insertAt, deleteAt, readerTests, Call, inserting, deleting, writing, beginning, turning, givingUp}
+use Rattle.spec.specs.PlainList.{Plain, went, heard, accepted}
 use Rattle.laws.specs.Slots.{no-slot}
 use Rattle.tree.specs.Linked.{Linked}
-use Rattle.promise.specs.Run.{Moment, thenPerhaps, callAt, after, indexAfter, plainAfter, Gives}
-use Rattle.promise.specs.Demands.{Stands, FreeRight, Demand2, NeverMet}
+use Rattle.promise.specs.Run.{after}
+use Rattle.promise.specs.Demands.{Stands, FreeRight}
 use Rattle.readers.specs.Words.{Whole, node-high, node-in}
-use Rattle.readers.specs.Owned.{Slots}
-use Rattle.readers.specs.Does.{Does, does, refuses, plansInsert, plansDelete, waits, stores, begins, loads, misses, finds, leaves, testsOf, insertTests, deleteTests, turnTests, beginTests, own, waiting, Clear, not-false}
+use Rattle.readers.specs.Does.{Does, refuses, plansInsert, plansDelete, waits, stores, begins, loads, misses, finds, leaves, testsOf, insertTests, deleteTests, turnTests, beginTests, own, waiting, Clear, not-false}
 use Rattle.readers.specs.Safe.{Safe}
-use Rattle.runs.specs.Writer.{Writer, afterStore}
-use Rattle.runs.specs.Sound.{Sound, store-went}
-use Rattle.runs.specs.Theorem.{sound-at}
+use Rattle.runs.specs.Sound.{store-went}
 
 -- the free queue
 pub safe-free : (st : State) → Safe st → FreeRight st

@@ -1,37 +1,31 @@
 -- A slot on its way: R1 and R2 of its node and key, kept by each call that does not end its reading.
-use Prim.Native.Nat.{ℕ, _<_, _≤_}
-use mathlib.Core.Path.{_≡_, refl, sym, ap, _∙_, subst}
-use mathlib.Core.Bool.{Bool, true, false, cond, false≢true}
+use Prim.Native.Nat.{ℕ, _<_}
+use mathlib.Core.Path.{_≡_, refl, sym, _∙_, subst}
+use mathlib.Core.Bool.{true, cond}
 use mathlib.Core.List.{List, [], _∷_, _++_}
-use mathlib.Core.Option.{Option, none, some}
-use mathlib.Core.Logic.{_≢_, _⊎_, inl, inr, ⊎-elim, ⊎-map, _↔_}
+use mathlib.Core.Option.{Option, none}
+use mathlib.Core.Logic.{_≢_, _⊎_, inl, inr, ⊎-elim, ⊎-map}
 use native.Mathlib.Omega.{arith}
-use native.Mathlib.Decide.{ℕ-discrete}
-use lib.ListN.{length}
-use lib.Dec.{eqb}
 use borrow.Author.Tests.{ne-eqb}
 use Rattle.types.specs.declared.Side.{Side}
 use Rattle.types.specs.declared.Side.the-variants.{L, R}
 use Rattle.types.specs.declared.Link.{Link}
 use Rattle.types.specs.declared.Link.the-variants.{Root, Left, Right}
 use Rattle.types.specs.declared.Reader.{Reader}
-use Rattle.types.specs.declared.Register.{Register}
-use Rattle.spec.specs.Pool.{word, child, keyWord, recordWord, slots, standingWord, standingFree, standingLinked}
-use Rattle.spec.specs.Register.{State, state, readerOf, hasSlot, dropSlot, readingSlots}
-use Rattle.spec.specs.Free.{endReading}
+use Rattle.spec.specs.Pool.{word, child, keyWord, slots, standingWord, standingFree, standingLinked}
+use Rattle.spec.specs.Register.{State, hasSlot}
 use Rattle.spec.specs.Search.{towards}
 use Rattle.laws.specs.Words.{word-none}
 use Rattle.tree.specs.Distinct.{_∈_, in-append}
 use Rattle.tree.specs.Thin.{Thin, thin-weaken}
-use Rattle.tree.specs.Linked.{Node, Linked, nil, cell, find, path, nodes}
+use Rattle.tree.specs.Linked.{Linked, nil, cell, find, path, nodes}
 use Rattle.heap.specs.Rep.{Rep, Alike, rep-alike}
-use Rattle.readers.specs.Marks.{no-bit, reading-bit}
 use Rattle.readers.specs.Reach.{Stands, Kept, Closed, kept-stands, kept-child, kept-store, not-again}
 use Rattle.readers.specs.Fates.{Reading}
 use Rattle.readers.specs.Graft.{All, all-map, Redirects, hits}
 use Rattle.readers.specs.Lookups.{Unlinked, Finds, OnWay, Store, store-finds, store-way, Anew, anew-finds, anew-way, root-way}
 use Rattle.readers.specs.Descends.{turn-finds, turn-way}
-use Rattle.readers.specs.Stored.{OwnerLinked, rootAfter}
+use Rattle.readers.specs.Stored.{OwnerLinked}
 use Rattle.readers.specs.Turns.{Turn}
 
 -- R2 of slot s at node n

@@ -1,33 +1,28 @@
 -- Both sides of the invariant, kept by every call.
-use Prim.Native.Nat.{ℕ, _+_, _<_, _≤_}
-use mathlib.Core.Path.{_≡_, refl, sym, ap, _∙_, subst}
+use Prim.Native.Nat.{ℕ, _+_, _<_}
+use mathlib.Core.Path.{_≡_, refl, _∙_}
 use mathlib.Core.Bool.{Bool, true, false, cond}
-use mathlib.Core.List.{List, [], _∷_, _++_}
+use mathlib.Core.List.{List}
 use mathlib.Core.Logic.{_≢_, _⊎_, inl, inr, ⊎-elim, _↔_}
 use native.Mathlib.Omega.{arith}
-use lib.ListN.{length, length-append}
+use lib.ListN.{length-append}
 use lib.Dec.{eqb}
 use Rattle.types.specs.declared.Side.{Side}
 use Rattle.types.specs.declared.Side.the-variants.{L, R}
-use Rattle.types.specs.declared.Link.{Link}
 use Rattle.types.specs.declared.Reader.{Reader}
-use Rattle.types.specs.declared.Register.{Register}
-use Rattle.spec.specs.Pool.{word, child, slots, standingLinked, nodes as poolNodes}
+use Rattle.spec.specs.Pool.{child, slots, standingLinked, nodes as poolNodes}
 use Rattle.spec.specs.Register.{State, state, storeOf, readerOf, withReader, withAwaited, lessFirst}
 use Rattle.spec.specs.Free.{endReading}
 use Rattle.spec.specs.Search.{towards}
 use Rattle.spec.specs.Turn.{Made, stepMade}
-use Rattle.spec.specs.Calls.{Answer, more, done, refused, Outcome, stored, Call, inserting, deleting, writing, beginning, turning, givingUp, call}
-use Rattle.spec.specs.PlainList.{Plain, Heard, went, heard, feed}
+use Rattle.spec.specs.Calls.{more, done, Outcome, stored, Call, call}
+use Rattle.spec.specs.PlainList.{Plain, went, heard, feed}
 use Rattle.tree.specs.Distinct.{_∈_, in-append}
-use Rattle.tree.specs.Linked.{Node, Linked, nil, cell, nodes}
+use Rattle.tree.specs.Linked.{Linked, nil, cell, nodes}
 use Rattle.heap.specs.Rep.{Rep, alike-refl}
-use Rattle.promise.specs.Run.{Moment, thenCall}
 use Rattle.readers.specs.Release.{ended, freedBelow, end-released}
 use Rattle.readers.specs.Reach.{Stands, Kept, LinkedClosed, kept-child, end-linked, linked-end}
-use Rattle.readers.specs.Owned.{Owned}
-use Rattle.readers.specs.Turns.{Turn}
-use Rattle.readers.specs.Does.{Does, does, refuses, plansInsert, plansDelete, waits, stores, begins, loads, misses, finds, leaves, Loads, atRoot, atNode, Passed}
+use Rattle.readers.specs.Does.{Does, refuses, plansInsert, plansDelete, waits, stores, begins, loads, misses, finds, leaves, Loads, atRoot, atNode, Passed}
 use Rattle.readers.specs.Safe.{Safe, safe-write, safe-reader, safe-end, safe-turn}
 use Rattle.runs.specs.Writer.{Still, Stores, Writer, afterStore}
 

@@ -1,22 +1,20 @@
 -- Demand 3 of every list of calls, from what the writer's side gives (Writer).
 use Prim.Native.Nat.{ℕ, zero, suc, _+_, _-_, _<_, _≤_}
 use mathlib.Core.Path.{_≡_, refl, sym, ap, _∙_, subst}
-use mathlib.Core.Bool.{Bool, true, false, false≢true}
+use mathlib.Core.Bool.{true, false≢true}
 use mathlib.Core.List.{List, [], _∷_}
 use mathlib.Core.Option.{Option, none, some}
-use mathlib.Core.Logic.{_≢_, _⊎_, inl, inr, ⊎-map}
+use mathlib.Core.Logic.{_≢_, _⊎_, inl, inr}
 use native.Mathlib.Omega.{arith}
-use native.Mathlib.Numerals.{add-one}
 use native.Mathlib.Decide.{ℕ-discrete}
-use lib.ListN.{length}
-use Rattle.spec.specs.Pool.{word, slots, standingWord, standingFree}
-use Rattle.spec.specs.Register.{State, readerOf, fresh}
-use Rattle.spec.specs.Calls.{Answer, ok, absent, found, Outcome, reading, Call, writing, beginning, turning, givingUp, call}
-use Rattle.spec.specs.PlainList.{Plain, noTicket, recordFor, heard, feed}
+use Rattle.spec.specs.Pool.{slots, standingWord}
+use Rattle.spec.specs.Register.{State}
+use Rattle.spec.specs.Calls.{ok, reading, Call, beginning, turning, givingUp, call}
+use Rattle.spec.specs.PlainList.{Plain, recordFor}
 use Rattle.laws.specs.Words.{word-none}
-use Rattle.tree.specs.Linked.{Linked, nil, find}
-use Rattle.promise.specs.Run.{Moment, outset, thenCall, thenPerhaps, callAt, after, indexAfter, plainAfter, ticketsAfter, Gives, Ends, Lookup}
-use Rattle.promise.specs.Demands.{AtOneMoment, LookupsRight, Going, answerOf, TreeHolds, Reaches, Takes, NodesKept, Demand3}
+use Rattle.tree.specs.Linked.{Linked, nil}
+use Rattle.promise.specs.Run.{Moment, thenPerhaps, callAt, after, indexAfter, plainAfter, ticketsAfter, Gives, Ends, Lookup}
+use Rattle.promise.specs.Demands.{AtOneMoment, LookupsRight, Going, answerOf, TreeHolds, Reaches, NodesKept, Demand3}
 use Rattle.readers.specs.Reach.{Kept, kept-stands}
 use Rattle.readers.specs.Stock.{Stock}
 use Rattle.readers.specs.Descends.{going-root}
@@ -24,7 +22,7 @@ use Rattle.readers.specs.Does.{does}
 use Rattle.readers.specs.Safe.{Safe, safe-reach}
 use Rattle.runs.specs.Writer.{Writer}
 use Rattle.runs.specs.Sound.{Sound, sound-next}
-use Rattle.runs.specs.Slot.{Stand, stand-more}
+use Rattle.runs.specs.Slot.{stand-more}
 use Rattle.runs.specs.Follow.{EndsBy, StandAt, stand-next, kept-next}
 use Rattle.runs.specs.Answers.{begun-right, found-right, absent-right, read-before}
 use Rattle.runs.specs.Begin.{safe-fresh, quiet-fresh}

@@ -1,7 +1,7 @@
 -- The whole promise of a list of calls, from what the writer's side gives (`Writer`, `Completes`).
 use Prim.Native.Nat.{ℕ, zero, suc, _+_, _<_, _≤_}
-use mathlib.Core.Path.{_≡_, refl, sym, ap, _∙_, subst}
-use mathlib.Core.Bool.{Bool, true, false, not}
+use mathlib.Core.Path.{_≡_, sym, ap, subst}
+use mathlib.Core.Bool.{true, false}
 use mathlib.Core.List.{List}
 use mathlib.Core.Option.{Option, none, some}
 use mathlib.Core.Logic.{_≢_, ⊎-elim}
@@ -12,11 +12,11 @@ use Rattle.types.specs.declared.Link.{Link}
 use Rattle.spec.specs.Pool.{slots}
 use Rattle.spec.specs.Register.{State, mostStores, storeOf, hasSlot}
 use Rattle.spec.specs.Turn.{stepMade}
-use Rattle.spec.specs.Calls.{Answer, more, done, wait, refused, Outcome, wrongLength, reading, writeInHand, Call, writing, call}
-use Rattle.spec.specs.PlainList.{Plain, Heard, went, heard}
+use Rattle.spec.specs.Calls.{more, done, Outcome, wrongLength, reading, writeInHand, Call, writing, call}
+use Rattle.spec.specs.PlainList.{Plain, went, heard}
 use Rattle.tree.specs.Linked.{Linked}
 use Rattle.promise.specs.Run.{Moment, thenPerhaps, callAt, after, indexAfter, plainAfter, Gives}
-use Rattle.promise.specs.Demands.{Demand2, Demand3, NeverMet, Promise}
+use Rattle.promise.specs.Demands.{Demand2, NeverMet, Promise}
 use Rattle.readers.specs.Does.{Does, does, refuses, plansInsert, plansDelete, waits, stores, begins, loads, misses, finds, leaves}
 use Rattle.ranges.specs.Fits.{colour-fits}
 use Rattle.ranges.specs.Calls.{Ranged, ranged-in, ranged-next}

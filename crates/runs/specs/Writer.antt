@@ -1,14 +1,13 @@
 -- What the writer's side of the invariant has to give, W being that side: a fact of pool and register, of the plain list, and of the tree
 -- that the root unfolds to. The readers' side is `Safe` (crate readers); the two together are kept by every call, and the demands follow.
-use Prim.Native.Nat.{ℕ, _<_, _≤_}
+use Prim.Native.Nat.{ℕ, _≤_}
 use mathlib.Core.Path.{_≡_}
-use mathlib.Core.Logic.{_≢_, _⊎_, _↔_}
+use mathlib.Core.Logic.{_⊎_, _↔_}
 use mathlib.Core.Bool.{true}
 use mathlib.Core.List.{List}
 use lib.ListN.{length}
 use Rattle.types.specs.declared.Link.{Link}
 use Rattle.types.specs.declared.Store.{Store}
-use Rattle.types.specs.declared.Register.{Register}
 use Rattle.sequential.specs.Delete.{insertion, deletion}
 use Rattle.spec.specs.Pool.{standingLinked}
 use Rattle.spec.specs.Register.{State, state, fresh, storeOf, withWrite, writeOf, readingSlots}

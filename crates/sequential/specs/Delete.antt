@@ -1,11 +1,10 @@
 -- Sequential delete after Cormen, Leiserson, Rivest and Stein (third edition), with the successor moved up; and a list of writes.
 use Prim.Native.Nat.{ℕ}
-use mathlib.Core.Bool.{Bool, true, false}
 use mathlib.Core.List.{List, [], _∷_}
 use Rattle.types.specs.declared.Side.{Side}
 use Rattle.types.specs.declared.Side.the-variants.{L, R}
 use Rattle.types.specs.Side.{other}
-use Rattle.sequential.specs.Tree.{Colour, red, black, Tree, leaf, node, ifRed, mk, child, keyOf, recordOf, colourOf, paint, redChild, Frame, frame, plug, Spot, descend, diag, zig}
+use Rattle.sequential.specs.Tree.{Colour, red, black, Tree, leaf, node, ifRed, mk, child, keyOf, recordOf, colourOf, paint, redChild, Frame, frame, plug, descend, diag, zig}
 use Rattle.sequential.specs.Insert.{insert}
 
 -- w with its child on the side z black

@@ -6,7 +6,7 @@ use mathlib.Core.Bool.{Bool, true, false}
 use mathlib.Core.List.{List, [], _∷_}
 use Rattle.types.specs.declared.Side.{Side}
 use Rattle.types.specs.Side.{sameSide}
-use Rattle.sequential.specs.Tree.{Colour, red, black, Tree, leaf, node, ifRed, mk, colourOf, paint, Frame, frame, plug, Spot, descend, diag, zig}
+use Rattle.sequential.specs.Tree.{red, black, Tree, leaf, node, ifRed, mk, colourOf, paint, Frame, frame, plug, descend, diag, zig}
 
 -- Parent p and its child are red, the aunt is not. z is p's side of the grandparent (k, v); the child is an outer one, or an inner one.
 abbrev pub turnUp : Bool → Side → ℕ → ℕ → Tree → Tree → Tree

@@ -7,8 +7,6 @@ use Rattle.types.specs.declared.Link.{Link}
 use Rattle.types.specs.declared.Link.the-variants.{Root}
 use Rattle.types.specs.declared.Place.{Place}
 use Rattle.types.specs.declared.Place.the-variants.{Held, Empty, TooDeep}
-use Rattle.types.specs.declared.Reader.{Reader}
-use Rattle.types.specs.declared.Register.{Register}
 use Rattle.types.specs.declared.Acceptance.{Acceptance}
 use Rattle.types.specs.declared.Acceptance.the-variants as acceptance
 use Rattle.types.specs.declared.WriterAnswer.{WriterAnswer}

@@ -1,11 +1,10 @@
 -- 01, 'Pool and register' and 'Calls': the free queue, retire, the end of a reading.
 use Prim.Native.Nat.{ℕ, _+_, _-_}
-use mathlib.Core.Bool.{Bool, true, false, cond, _&&_, _||_}
+use mathlib.Core.Bool.{Bool, cond}
 use mathlib.Core.List.{List}
 use lib.Dec.{eqb, ltb}
 use Rattle.base.specs.Walk.{foldIn}
 use Rattle.types.specs.declared.Side.{Side}
-use Rattle.types.specs.declared.Register.{Register}
 use Rattle.types.specs.Side.{other}
 use Rattle.spec.specs.Pool.{word, setWord, keyWord, recordWord, linkWord, colourWord, standingWord, holdersWord, nextWord, standingFree, standingLinked, standingRetired, nodes}
 use Rattle.spec.specs.Register.{State, state, noReader, withQueue, withReader, withAwaited, countUp, countDown, dropSlot, readingSlots}

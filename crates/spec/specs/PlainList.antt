@@ -5,7 +5,7 @@ use mathlib.Core.Bool.{Bool, true, false, cond}
 use mathlib.Core.List.{List, [], _∷_, _++_}
 use mathlib.Core.Option.{Option, none, some}
 use lib.Dec.{eqb}
-use Rattle.sequential.specs.Tree.{Tree, leaf, node, Spot, descend}
+use Rattle.sequential.specs.Tree.{Tree, leaf, node, descend}
 use Rattle.sequential.specs.Delete.{Change, insertion, deletion, changedBy}
 use Rattle.spec.specs.Calls.{Answer, ok, go, absent, wait, found, more, done, refused, Call, inserting, deleting, writing, beginning, turning, givingUp}
 

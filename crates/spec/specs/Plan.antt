@@ -7,7 +7,7 @@ use lib.Dec.{eqb}
 use Rattle.types.specs.declared.Side.{Side}
 use Rattle.types.specs.declared.Side.the-variants.{L, R}
 use Rattle.types.specs.declared.Link.{Link}
-use Rattle.types.specs.declared.Link.the-variants.{Root, Left, Right}
+use Rattle.types.specs.declared.Link.the-variants.{Root, Right}
 use Rattle.types.specs.declared.Form.{Form}
 use Rattle.types.specs.declared.Form.the-variants.{Diag, Zig}
 use Rattle.types.specs.declared.Rule.{Rule}

@@ -1,7 +1,7 @@
 -- 01, 'Pool and register': the pool's words.
 -- A pool is lent as 32-bit words, eight a node. Nodes are numbered from 1; 0 is no node.
 use Prim.Native.Nat.{ℕ, zero, suc, _+_, _-_, _*_, _/_, _%_}
-use mathlib.Core.Bool.{Bool, true, false, cond, _&&_}
+use mathlib.Core.Bool.{Bool, cond, _&&_}
 use mathlib.Core.List.{List, [], _∷_}
 use lib.ListN.{length, getD, set}
 use lib.Dec.{eqb, leb}

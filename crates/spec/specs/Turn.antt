@@ -17,7 +17,6 @@ use Rattle.types.specs.declared.Step.{Step}
 use Rattle.types.specs.declared.Step.the-variants.{Vacant, Insert, DiagLower, DiagRaise, ZigLowerA, ZigLowerC, ZigRaise, Unlink, Adopt, Replace, Publish, Detach}
 use Rattle.types.specs.declared.Store.{Store}
 use Rattle.types.specs.declared.Write.{Write}
-use Rattle.types.specs.declared.Register.{Register}
 use Rattle.types.specs.Side.{other, linkAt}
 use Rattle.spec.specs.Pool.{word, child, paint, keyWord, recordWord, colourWord, blackColour, redColour, nodes}
 use Rattle.spec.specs.Register.{State, state, withHeld, withAwaited, withWrite, countUp, countDown, linkNode, setLink, readingSlots}

@@ -8,7 +8,7 @@ use Rattle.types.specs.declared.Link.{Link}
 use Rattle.types.specs.declared.Link.the-variants.{Root, Left, Right}
 use Rattle.spec.specs.Pool.{word, keyWord, recordWord, colourWord, leftWord, rightWord, standingWord, nextWord, standingLinked, standingRetired, nodeWords, nodes}
 use Rattle.spec.specs.Register.{State, state, fresh}
-use Rattle.spec.specs.Calls.{Answer, ok, go, absent, wait, found, more, done, refused, Outcome, Call, call, setUp}
+use Rattle.spec.specs.Calls.{Answer, ok, go, absent, wait, found, more, done, refused, Call, call, setUp}
 
 -- a call with the answer that it must give
 pub record Asked : Type 0 where
