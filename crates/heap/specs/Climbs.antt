@@ -17,7 +17,7 @@ use Rattle.types.specs.declared.Form.the-variants.{Diag, Zig}
 use Rattle.types.specs.declared.Rule.the-variants.{Grow, Pass, Borrow}
 use Rattle.types.specs.declared.Ending.{Ending}
 use Rattle.types.specs.declared.Ending.the-variants.{Calm, Blacken, Rotate, RotateTwice, Missing}
-use Rattle.types.specs.Side.{other, sameSide, linkAt, owner, sideOf}
+use Rattle.types.specs.Side.{other, sameSide, linkAt, sideOf, owner-at}
 use Rattle.spec.specs.Pool.{child, isRed}
 use Rattle.spec.specs.Plan.{climb, rotation, rise, redChild, borrow}
 use Rattle.laws.specs.Words.{Node as Within, word-none}
@@ -33,10 +33,6 @@ use Rattle.tree.specs.Sink.{Loan, noLoan, loan, SinkEnd, darken, borrowed, pass
 use Rattle.heap.specs.Rep.{Rep, Alike, rep-alike}
 use Rattle.heap.specs.Sites.{linkTo, links, Way}
 use Rattle.heap.specs.Colours.{redly, colours, red-is, red-tree}
-
-pub owner-at : (s : Side) (n : ℕ) → owner (linkAt s n) ≡ n
-owner-at L n = refl
-owner-at R n = refl
 
 pub side-at : (s : Side) (n : ℕ) → sideOf (linkAt s n) ≡ s
 side-at L n = refl

@@ -9,7 +9,7 @@ use lib.ListN.{length}
 use native.Mathlib.Omega.{arith}
 use native.Mathlib.Nat.{zero-add}
 use Rattle.types.specs.declared.Side.{Side}
-use Rattle.types.specs.Side.{other, sameSide}
+use Rattle.types.specs.Side.{other, sameSide, owner-at}
 use Rattle.spec.specs.Register.{State}
 use Rattle.spec.specs.Search.{pathBound}
 use Rattle.spec.specs.Plan.{climb, endingStores, missing, rise, insertClimb}
@@ -31,7 +31,7 @@ use Rattle.heap.specs.Rep.{Rep}
 use Rattle.heap.specs.Sites.{linkTo, Way, Site, site-of, of-site}
 use Rattle.heap.specs.Colours.{colours, colours-none, red-is}
 use Rattle.heap.specs.Paths.{OnceWay, path-to, depth}
-use Rattle.heap.specs.Climbs.{owner-at, way-sides, pairsUp, riseEnding, rise-links}
+use Rattle.heap.specs.Climbs.{way-sides, pairsUp, riseEnding, rise-links}
 use Rattle.heap.specs.Moves.{Once}
 use Rattle.heap.specs.Phase.{byGrow, growEnding, Sound, Lined, Phase, diag-0, zig-0}
 use Rattle.heap.specs.RaiseSteps.{split}

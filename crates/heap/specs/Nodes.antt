@@ -9,7 +9,7 @@ use Rattle.types.specs.declared.Side.the-variants.{L, R}
 use Rattle.types.specs.declared.Link.{Link}
 use Rattle.types.specs.declared.Link.the-variants.{Root}
 use Rattle.types.specs.declared.Store.{Store}
-use Rattle.types.specs.Side.{other, owner}
+use Rattle.types.specs.Side.{other, owner, owner-at}
 use Rattle.sequential.specs.Tree as Seq
 use Rattle.sequential.specs.Tree.{Colour, Tree}
 use Rattle.tree.specs.Linked.{copy, Linked, nil, cell, at, nodes}
@@ -21,7 +21,6 @@ use Rattle.tree.specs.Rotations.{diag₀, diag₁, diag₂, zig₀, zig₁, zig
 use Rattle.tree.specs.Stores.{form₁}
 use Rattle.tree.specs.Successor.{third₀, third₁}
 use Rattle.heap.specs.Sites.{linkTo}
-use Rattle.heap.specs.Climbs.{owner-at}
 use Rattle.heap.specs.Moves.{new-apart}
 use Rattle.heap.specs.Lowers.{diag-count, zig-count}
 use Rattle.heap.specs.Tolds.{Told}

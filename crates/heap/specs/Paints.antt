@@ -5,7 +5,7 @@ use mathlib.Core.List.{List, [], _∷_}
 use lib.ListN.{length}
 use native.Mathlib.Omega.{arith}
 use Rattle.types.specs.declared.Side.{Side}
-use Rattle.types.specs.Side.{other}
+use Rattle.types.specs.Side.{other, owner-at}
 use Rattle.spec.specs.Pool.{child, paint, blackColour, redColour}
 use Rattle.spec.specs.Plan.{paintRise, paintSink}
 use Rattle.sequential.specs.Tree as Seq
@@ -21,7 +21,7 @@ use Rattle.heap.specs.Rep.{Rep, Alike, alike-refl, alike-trans, rep-alik
 use Rattle.heap.specs.Sites.{links}
 use Rattle.heap.specs.Colours.{colours, paint-alike, paint-none, paint-other, paint-same, erase-occ, way-occ, erase-paint, erase-top}
 use Rattle.heap.specs.Paths.{OnceWay}
-use Rattle.heap.specs.Climbs.{owner-at, side-at, Sides, sides-alike, pairsUp, framesUp}
+use Rattle.heap.specs.Climbs.{side-at, Sides, sides-alike, pairsUp, framesUp}
 
 -- painting the top of a tree changes no colour outside it
 pub top-outside : (p : List ℕ) (w c : ℕ) (y : Linked) (n : ℕ) → Rep p w y → occ n (nodes y) ≡ 0 → colours (paint p w c) n ≡ colours p n

@@ -12,7 +12,7 @@ use Rattle.types.specs.declared.Link.{Link}
 use Rattle.types.specs.declared.Form.the-variants.{Diag}
 use Rattle.types.specs.declared.Rule.the-variants.{Pass, Borrow}
 use Rattle.types.specs.declared.Ending.the-variants.{Rotate, RotateTwice}
-use Rattle.types.specs.Side.{other, other-other, linkAt}
+use Rattle.types.specs.Side.{other, other-other, linkAt, owner-at}
 use Rattle.spec.specs.Pool.{child, isRed}
 use Rattle.spec.specs.Plan.{climb, rotation, redChild, borrow, redSibling, sink, missing}
 use Rattle.sequential.specs.Tree as Seq
@@ -27,7 +27,7 @@ use Rattle.tree.specs.Sink.{Sink, Loan, noLoan, loan, SinkEnd, loanOf, Sinks, s
 use Rattle.heap.specs.Rep.{Rep}
 use Rattle.heap.specs.Sites.{linkTo, links}
 use Rattle.heap.specs.Colours.{redly, colours, red-is, red-tree}
-use Rattle.heap.specs.Climbs.{owner-at, side-at, Sides, formOf, childOf, rep-child, erase-child, there-tree, loan-cases, framesUp, tip, numOf, loanEnding, sinkEnding, Stop, stop-root, stop-red, stop-turn, stop-pass}
+use Rattle.heap.specs.Climbs.{side-at, Sides, formOf, childOf, rep-child, erase-child, there-tree, loan-cases, framesUp, tip, numOf, loanEnding, sinkEnding, Stop, stop-root, stop-red, stop-turn, stop-pass}
 
 -- the tree's climb on a way
 abbrev pub sinkOf : (ℕ → Colour) → Colour → List Frame → Sink

@@ -12,8 +12,7 @@ use native.Mathlib.Omega.{arith}
 use Prim.Native.Nat.{ℕ, zero, suc, _+_, _-_, _*_, _/_, _%_, _<_, _≤_}
 use Rattle.types.specs.declared.Link.{Link}
 use Rattle.types.specs.declared.Link.the-variants.{Root, Left, Right}
-use Rattle.types.specs.declared.Side.{Side}
-use Rattle.types.specs.declared.Side.the-variants.{L, R}
+use Rattle.types.specs.declared.Side.the-variants.{L}
 use Rattle.types.specs.Side.{linkAt, owner}
 use Rattle.spec.specs.Pool.{child}
 use Rattle.spec.specs.Search.{towards, sameLink, trail, leftmost}
@@ -104,7 +103,3 @@ module _ (p : List ℕ) (n : ℕ) (up : List Link) where
   leftmost-step (suc a) b z d =
       let i : a ≡ b = omega arith in
       rw (ne-eqb (child p L n) 0 d, i)
-
-pub owner-at : (s : Side) (n : ℕ) → owner (linkAt s n) ≡ n
-owner-at L n = refl
-owner-at R n = refl

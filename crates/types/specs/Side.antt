@@ -37,3 +37,7 @@ sideOf (Right n) = R
 pub other-other : (s : Side) → other (other s) ≡ s
 other-other L = refl
 other-other R = refl
+
+pub owner-at : (s : Side) (n : ℕ) → owner (linkAt s n) ≡ n
+owner-at L n = refl
+owner-at R n = refl

@@ -1,5 +1,6 @@
+use Rattle.types.specs.Side.{owner-at}
 use Rattle.spec.specs.Search.{sameLink}
-use Rattle.paths.specs.Upward.{upward, upward-push, upward-none, trail-here, trail-end, trail-deep, trail-step, owner-at}
+use Rattle.paths.specs.Upward.{upward, upward-push, upward-none, trail-here, trail-end, trail-deep, trail-step}
 use lib.ListN.{length, set, length-set}
 use mathlib.Core.Bool.{true, false}
 use mathlib.Core.Path.{_≡_, refl, sym, ap, _∙_}
