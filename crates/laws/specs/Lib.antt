@@ -6,3 +6,4 @@ pub mod Tests
 pub mod Descend
 pub mod Fresh
 pub mod Inserts
+pub mod Turns

@@ -115,6 +115,14 @@ pub struct Climb {
     pub ending: Ending,
 }
 
+// What the step of a turn did: whether it found every node that it names, and then the link that it stored with its new node.
+pub struct Turned {
+    pub found: bool,
+    pub link: Link,
+    pub node: u32,
+    pub register: Register,
+}
+
 // The answer of set up, insert, delete, begin and give up.
 pub enum Acceptance {
     Accepted,
