@@ -1,14 +1,18 @@
 -- The step of a writer's turn, tried: made if it finds every node that it names.
-use mathlib.Core.Path.{_≡_}
+use mathlib.Core.Path.{_≡_, refl, sym, _∙_}
 use mathlib.Core.List.{List}
-use mathlib.Core.Bool.{true, false, cond}
+use mathlib.Core.Bool.{Bool, true, false, cond, not, _&&_}
+use borrow.Author.Tests.{eq-eqb, ne-eqb}
+use lib.Dec.{eqb}
 use Prim.Native.Nat.{ℕ}
 use Rattle.types.specs.declared.Link.{Link}
 use Rattle.types.specs.declared.Link.the-variants.{Root}
 use Rattle.types.specs.declared.Step.{Step}
 use Rattle.types.specs.declared.Turned.{Turned}
+use Rattle.types.specs.declared.Register.{Register}
 use Rattle.spec.specs.Register.{State, state}
-use Rattle.spec.specs.Turn.{Made, made, stepFinds, stepMade}
+use Rattle.spec.specs.Free.{queueEmpty}
+use Rattle.spec.specs.Turn.{Made, made, isNode, stepFinds, stepMade}
 
 abbrev pub tried : State → Link → Step → Made
 tried st l x = cond (stepFinds st l x) (stepMade st l x) (made st Root 0)
@@ -17,9 +21,34 @@ tried st l x = cond (stepFinds st l x) (stepMade st l x) (made st Root 0)
 abbrev pub turned : List ℕ → Turned → Made
 turned p t = made (state p (t .register)) (t .link) (t .node)
 
-module _ (st : State) (l : Link) (x : Step) where
-  pub tried-made : stepFinds st l x ≡ true → tried st l x ≡ stepMade st l x
-  tried-made e = rw e
+-- The answer of a step that misses a node, and of one that finds all.
+abbrev pub Missed : Turned → Register → Type 0
+Missed t r = (t .found ≡ false) × (t .link ≡ Root) × (t .node ≡ 0) × (t .register ≡ r)
 
-  pub tried-missed : stepFinds st l x ≡ false → tried st l x ≡ made st Root 0
-  tried-missed e = rw e
+module _ (st : State) (l : Link) (x : Step) where
+  abbrev pub Tells : List ℕ → Turned → Type 0
+  Tells p t = (t .found ≡ stepFinds st l x) × (turned p t ≡ tried st l x)
+
+  pub tells-missed : (t : Turned) → stepFinds st l x ≡ false → Missed t (st .register) → Tells (st .pool) t
+  tells-missed t e m = (m .0 ∙ sym e, rw (e, m .1, m .2, m .3))
+
+  pub tells-made : (p : List ℕ) (t : Turned) → stepFinds st l x ≡ true → t .found ≡ true → turned p t ≡ stepMade st l x → Tells p t
+  tells-made p t e f m = (f ∙ sym e, m ∙ rw e)
+
+-- The tests of a step that names node n and of one that takes a node as well.
+pub no-node : (n : ℕ) (b : Bool) → n ≡ 0 → (isNode n && b) ≡ false
+no-node n b e = rw (eq-eqb n 0 e)
+
+pub and-false : (a b : Bool) → b ≡ false → (a && b) ≡ false
+and-false true b e = e
+and-false false b e = refl
+
+pub node-there : (n : ℕ) (b : Bool) → (n ≡ 0 → ⊥) → b ≡ true → (isNode n && b) ≡ true
+node-there n b d e = rw (ne-eqb n 0 d, e)
+
+module _ (st : State) (n : ℕ) where
+  pub no-free : st .register .first ≡ 0 → (isNode n && not (queueEmpty st)) ≡ false
+  no-free e = and-false (isNode n) (not (queueEmpty st)) (rw (eq-eqb (st .register .first) 0 e))
+
+  pub takes-node : (n ≡ 0 → ⊥) → (st .register .first ≡ 0 → ⊥) → (isNode n && not (queueEmpty st)) ≡ true
+  takes-node d e = node-there n (not (queueEmpty st)) d (rw (ne-eqb (st .register .first) 0 e))

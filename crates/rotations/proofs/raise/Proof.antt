@@ -1,0 +1,30 @@
+use Rattle.spec.specs.Turn.{painted}
+use mathlib.Core.Path.{_≡_, refl, sym, ap, _∙_}
+use native.Mathlib.Omega.{arith}
+use borrow.Author.Tests.{eq-eqb, ne-eqb, lt-ltb, le-ltb, lt-leb, le-leb, not-true, not-false}
+use borrow.Author.Needs.{needs}
+use Rattle.rotations.proofs.raise.Statement.{statement}
+use Rattle.rotations.proofs.raise.Tie as tie
+use Rattle.rotations.proofs.raise.Reads as reads
+use Rattle.rotations.proofs.raise.Lts as lts
+use Rattle.pool.proofs.set_word.Reads as set-word-reads
+use Rattle.register.proofs.set_link.Reads as set-link-reads
+
+-- src/lib.rt:140:9
+set-link-requires : tie.Need-set-link-requires
+set-link-requires c κs = search needs
+
+-- src/lib.rt:141:5
+set-word-requires : tie.Need-set-word-requires
+set-word-requires c κs = search needs
+
+-- src/lib.rt:137:1
+same-length : tie.Need-same-length
+same-length c = search needs
+
+-- src/lib.rt:137:1
+returns : tie.Need-returns
+returns c = rw (c .before .before .set-word .ensures, c .before .before .before .before .before .before .set-link .ensures .0, c .before .before .before .before .before .before .set-link .ensures .1)
+
+pub raise-spec : {M : Type 1} → statement M
+raise-spec = tie.close (tie.spec set-link-requires set-word-requires same-length returns)

@@ -1,0 +1,60 @@
+use Rattle.spec.specs.Turn.{underCopy}
+use Rattle.spec.specs.Plan.{redChild}
+use Rattle.spec.specs.Pool.{child}
+use mathlib.Core.Bool.{true, false}
+use mathlib.Core.Path.{_≡_, refl, sym, ap, _∙_}
+use native.Mathlib.Omega.{arith}
+use borrow.Author.Tests.{eq-eqb, ne-eqb, lt-ltb, le-ltb, lt-leb, le-leb, not-true, not-false}
+use borrow.Author.Needs.{needs}
+use Rattle.rotations.proofs.under_copy.Statement.{statement}
+use Rattle.rotations.proofs.under_copy.Tie as tie
+use Rattle.rotations.proofs.under_copy.Reads as reads
+use Rattle.rotations.proofs.under_copy.Lts as lts
+use Rattle.climbs.proofs.red_child.Reads as red-child-reads
+use Rattle.pool.proofs.child.Reads as child-reads
+use Rattle.pool.proofs.set_word.Reads as set-word-reads
+
+-- src/lib.rt:149:9
+child-requires : tie.Need-child-requires
+child-requires c κs = search needs
+
+-- src/lib.rt:150:8
+red-child-requires : tie.Need-red-child-requires
+red-child-requires c κs = search needs
+
+-- src/lib.rt:151:9
+same-length : tie.Need-same-length
+same-length c = search needs
+
+-- src/lib.rt:151:9
+returns : tie.Need-returns
+returns c = λ q. let a = c .before .before .before .before .before .before .args in let e : redChild (a .pool .now) (child (a .pool .now) (a .s) (a .copy)) ≡ true = rw (← (c .before .before .before .child .ensures), ← (c .before .red-child .ensures)) (c .if1 .taken) in rw e
+
+-- src/lib.rt:153:5
+set-word-requires : tie.Need-set-word-requires
+set-word-requires c κs = search needs
+
+-- src/lib.rt:154:5
+set-word-requires-2 : tie.Need-set-word-requires-2
+set-word-requires-2 c κs = search needs
+
+-- src/lib.rt:146:1
+same-length-2 : tie.Need-same-length-2
+same-length-2 c = search needs
+
+-- src/lib.rt:146:1
+returns-2 : tie.Need-returns-2
+returns-2 c = λ q. let a = c .before .before .before .before .before .before .before .before .before .before .before .before .before .before .args in let e : redChild (a .pool .now) (child (a .pool .now) (a .s) (a .copy)) ≡ false = rw (← (c .before .before .before .before .before .before .before .before .before .before .before .child .ensures), ← (c .before .before .before .before .before .before .before .before .before .red-child .ensures)) (c .before .before .before .before .before .before .before .before .if1 .left) in rw (e, c .before .before .set-word2 .ensures, c .before .before .before .before .before .before .set-word .ensures, c .before .before .before .before .before .before .before .before .before .before .before .child .ensures)
+
+pub under-copy-spec : {M : Type 1} → statement M
+under-copy-spec =
+    tie.close
+    (tie.spec
+    child-requires
+    red-child-requires
+    same-length
+    returns
+    set-word-requires
+    set-word-requires-2
+    same-length-2
+    returns-2)

@@ -1,0 +1,97 @@
+use Rattle.spec.specs.Register.{state, setLink}
+use Rattle.spec.specs.Turn.{stepFinds, stepMade, diagLower, zigLowerA, zigLowerC, diagRaise, zigRaise, diagChild, zigChild}
+use Rattle.laws.specs.Turns.{tells-missed, tells-made, no-node, no-free, takes-node, node-there, and-false}
+use Rattle.types.specs.declared.Step.the-variants.{DiagLower, DiagRaise, ZigLowerA, ZigLowerC, ZigRaise}
+use mathlib.Core.Bool.{true, false}
+use Rattle.spec.specs.Turn.{endZig}
+use Rattle.spec.specs.Free.{retire}
+use Rattle.rotations.specs.Raises.{diag-raised, zig-raised}
+use mathlib.Core.Path.{_≡_, refl, sym, ap, _∙_}
+use native.Mathlib.Omega.{arith}
+use borrow.Author.Tests.{eq-eqb, ne-eqb, lt-ltb, le-ltb, lt-leb, le-leb, not-true, not-false}
+use borrow.Author.Needs.{needs}
+use Rattle.rotations.proofs.zig_raise.Statement.{statement}
+use Rattle.rotations.proofs.zig_raise.Tie as tie
+use Rattle.rotations.proofs.zig_raise.Reads as reads
+use Rattle.rotations.proofs.zig_raise.Lts as lts
+use Rattle.pool.proofs.child.Reads as child-reads
+use Rattle.pool.proofs.other.Reads as other-reads
+use Rattle.queue.proofs.retire_two.Reads as retire-two-reads
+use Rattle.register.proofs.node_at.Reads as node-at-reads
+use Rattle.rotations.proofs.end_zig.Reads as end-zig-reads
+use Rattle.rotations.proofs.missed.Reads as missed-reads
+use Rattle.rotations.proofs.raise.Reads as raise-reads
+use Rattle.rotations.proofs.risen_colour.Reads as risen-colour-reads
+
+-- src/lib.rt:228:9
+node-at-requires : tie.Need-node-at-requires
+node-at-requires c κs = search needs
+
+-- src/lib.rt:229:9
+child-requires : tie.Need-child-requires
+child-requires c κs = search needs
+
+-- src/lib.rt:230:31
+other-requires : tie.Need-other-requires
+other-requires c κs = search needs
+
+-- src/lib.rt:230:9
+child-requires-2 : tie.Need-child-requires-2
+child-requires-2 c κs = search needs
+
+-- src/lib.rt:232:9
+missed-requires : tie.Need-missed-requires
+missed-requires c κs = search needs
+
+-- src/lib.rt:232:9
+same-length : tie.Need-same-length
+same-length c = search needs
+
+-- src/lib.rt:232:9
+returns : tie.Need-returns
+unfolding stepFinds
+returns c = let a = c .before .before .before .before .before .before .before .before .before .before .args in let st = state (a .pool .now) (a .reg) in let e : zigChild st (a .l) (a .s) ≡ 0 = rw (← (c .before .before .before .before .before .before .before .node-at .ensures), ← (c .before .before .before .before .before .child .ensures), ← (c .before .before .before .other .ensures), ← (c .before .before .child2 .ensures)) (c .before .if1 .taken) in tells-missed st (a .l) (ZigRaise (a .s) (a .rule)) (c .missed .result) (rw (eq-eqb (zigChild st (a .l) (a .s)) 0 e)) (c .missed .ensures)
+
+-- src/lib.rt:234:9
+risen-colour-requires : tie.Need-risen-colour-requires
+risen-colour-requires c κs = search needs
+
+-- src/lib.rt:235:9
+raise-requires : tie.Need-raise-requires
+raise-requires c κs = search needs
+
+-- src/lib.rt:236:5
+end-zig-requires : tie.Need-end-zig-requires
+end-zig-requires c κs = search needs
+
+-- src/lib.rt:237:9
+retire-two-requires : tie.Need-retire-two-requires
+retire-two-requires c κs = search needs
+
+-- src/lib.rt:223:1
+same-length-2 : tie.Need-same-length-2
+same-length-2 c = search needs
+
+-- src/lib.rt:223:1
+returns-2 : tie.Need-returns-2
+unfolding stepFinds stepMade
+returns-2 c = let a = c .before .before .before .before .before .before .before .before .before .before .before .before .before .before .before .before .before .before .before .before .before .before .before .args in let st = state (a .pool .now) (a .reg) in let d : zigChild st (a .l) (a .s) ≡ 0 → ⊥ = rw (← (c .before .before .before .before .before .before .before .before .before .before .before .before .before .before .before .before .before .before .before .before .node-at .ensures), ← (c .before .before .before .before .before .before .before .before .before .before .before .before .before .before .before .before .before .before .child .ensures), ← (c .before .before .before .before .before .before .before .before .before .before .before .before .before .before .before .before .other .ensures), ← (c .before .before .before .before .before .before .before .before .before .before .before .before .before .before .before .child2 .ensures)) (c .before .before .before .before .before .before .before .before .before .before .before .before .before .before .if1 .left) in tells-made st (a .l) (ZigRaise (a .s) (a .rule)) _ _ (rw (ne-eqb (zigChild st (a .l) (a .s)) 0 d)) refl
+    (zig-raised st (a .l) (a .s) (a .rule) (c .before .before .before .before .before .before .before .before .before .before .before .before .before .before .before .before .before .before .before .before .node-at .result) (c .before .before .before .before .before .before .before .before .before .before .before .before .before .before .before .child2 .result) (c .before .before .before .before .before .before .before .before .before .before .before .before .risen-colour .result) (c .before .before .before .before .before .before .before .before .before .before .raise .last .0) (c .before .before .before .before .before .before .end-zig .last .0) (c .before .before .before .before .before .before .before .before .before .before .raise .result) (state (c .before .before .retire-two .last .0) (c .before .before .retire-two .result)) (c .before .before .before .before .before .before .before .before .before .before .before .before .before .before .before .before .before .before .before .before .node-at .ensures) (c .before .before .before .before .before .before .before .before .before .before .before .before .risen-colour .ensures (a .reg)) (c .before .before .before .before .before .before .before .before .before .before .raise .ensures) (c .before .before .before .before .before .before .before .before .before .before .before .before .before .before .before .before .before .before .child .result) (c .before .before .before .before .before .before .before .before .before .before .before .before .before .before .before .before .before .before .child .ensures ∙ rw (c .before .before .before .before .before .before .before .before .before .before .before .before .before .before .before .before .before .before .before .before .node-at .ensures)) (c .before .before .before .before .before .before .before .before .before .before .before .before .before .before .before .child2 .ensures ∙ rw (c .before .before .before .before .before .before .before .before .before .before .before .before .before .before .before .before .other .ensures, c .before .before .before .before .before .before .before .before .before .before .before .before .before .before .before .before .before .before .child .ensures, c .before .before .before .before .before .before .before .before .before .before .before .before .before .before .before .before .before .before .before .before .node-at .ensures)) (c .before .before .before .before .before .before .end-zig .ensures (c .before .before .before .before .before .before .before .before .before .before .raise .result) refl) (rw (c .before .before .retire-two .ensures .0, c .before .before .retire-two .ensures .1)))
+
+pub zig-raise-spec : {M : Type 1} → statement M
+zig-raise-spec =
+    tie.close
+    (tie.spec
+    node-at-requires
+    child-requires
+    other-requires
+    child-requires-2
+    missed-requires
+    same-length
+    returns
+    risen-colour-requires
+    raise-requires
+    end-zig-requires
+    retire-two-requires
+    same-length-2
+    returns-2)

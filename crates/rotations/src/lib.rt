@@ -1,0 +1,244 @@
+// The stores of a rotation: diag and zig, left and right alike. Each function tries one store: it tests that the nodes are there, and
+// the free node that it takes, before it changes anything.
+use types::Link;
+use types::Register;
+use types::Rule;
+use types::Side;
+use types::Turned;
+ghost use mathlib.Core.Path.{_≡_};
+ghost use mathlib.Core.Bool.{true, false};
+ghost use Prim.Native.Nat.{ℕ, _<_};
+ghost use lib.ListN.{length};
+ghost use Rattle.types.specs.declared.Link.the-variants.{Root};
+ghost use Rattle.types.specs.declared.Step.the-variants.{DiagLower, DiagRaise, ZigLowerA, ZigLowerC, ZigRaise};
+ghost use Rattle.spec.specs.Pool.{paint, blackColour};
+ghost use Rattle.spec.specs.Register.{state, setLink};
+ghost use Rattle.spec.specs.Turn.{made, painted, copyNode, copyColour, risenColour, underCopy, endDiag, endDiagFinds, endZig, stepFinds};
+ghost use Rattle.types.specs.declared.Register.{Register};
+ghost use Rattle.laws.specs.Turns.{turned, tried};
+
+// the step names a node where there is none
+pub fn missed(register: Register) -> Turned
+    ensures { λ r. ⌜ (r .found ≡ false) × (r .link ≡ Root) × (r .node ≡ 0) × (r .register ≡ register) ⌝ }
+{
+    Turned {
+        found: false,
+        link: Link::Root,
+        node: 0,
+        register,
+    }
+}
+
+// The link l := a copy of node n, which has x on the side s and y on the other side.
+pub fn hang_copy(
+    pool: &mut [u32],
+    reg: Register,
+    l: Link,
+    n: u32,
+    s: Side,
+    x: u32,
+    y: u32,
+    colour: u32,
+) -> Turned
+    ensures { λ r. ⌜ r .found ≡ true ⌝ }
+    ensures { λ r. ⌜ turned (now (pool .exit)) r ≡ made (setLink (copyNode (state (now (pool .entry)) reg) n s x y colour) l (reg .first)) l (reg .first) ⌝ }
+{
+    let first = reg.first;
+    let k = pool::word(pool, n, pool::KEY);
+    let v = pool::word(pool, n, pool::RECORD);
+    let taken = queue::take_node(pool, reg, k, v, s, x, y, colour);
+    let register = register::set_link(pool, taken, l, first);
+    Turned {
+        found: true,
+        link: l,
+        node: first,
+        register,
+    }
+}
+
+fn copy_colour(rule: Rule) -> u32
+    ensures { λ r. ⌜ r ≡ copyColour rule ⌝ }
+{
+    match rule {
+        Rule::Grow => pool::RED,
+        Rule::Pass => pool::RED,
+        Rule::Borrow => pool::BLACK,
+    }
+}
+
+// the risen node's colour, c being the top
+fn risen_colour(pool: &[u32], rule: Rule, c: u32) -> u32
+    ensures { λ r. ⌜ ((q : Register) → r ≡ risenColour rule (state (now (pool .entry)) q) c) ⌝ }
+{
+    match rule {
+        Rule::Grow => pool::BLACK,
+        Rule::Pass => pool::BLACK,
+        Rule::Borrow => pool::word(pool, c, pool::COLOUR),
+    }
+}
+
+// C' takes B's inner child on B's side; B's inner link := C'.
+pub fn diag_lower(pool: &mut [u32], reg: Register, l: Link, s: Side, rule: Rule) -> Turned
+    ensures { λ r. ⌜ r .found ≡ stepFinds (state (now (pool .entry)) reg) l (DiagLower s rule) ⌝ }
+    ensures { λ r. ⌜ turned (now (pool .exit)) r ≡ tried (state (now (pool .entry)) reg) l (DiagLower s rule) ⌝ }
+{
+    let c = register::node_at(pool, reg.root, l);
+    let b = pool::child(pool, s, c);
+    if b == 0 {
+        return missed(reg);
+    }
+    if reg.first == 0 {
+        return missed(reg);
+    }
+    let z = pool::other(s);
+    let x = pool::child(pool, z, b);
+    let y = pool::child(pool, z, c);
+    hang_copy(pool, reg, register::link_at(z, b), c, s, x, y, copy_colour(rule))
+}
+
+// A' takes B's child on A's side; B's link on that side := A'.
+pub fn zig_lower_a(pool: &mut [u32], reg: Register, l: Link, s: Side, rule: Rule) -> Turned
+    ensures { λ r. ⌜ r .found ≡ stepFinds (state (now (pool .entry)) reg) l (ZigLowerA s rule) ⌝ }
+    ensures { λ r. ⌜ turned (now (pool .exit)) r ≡ tried (state (now (pool .entry)) reg) l (ZigLowerA s rule) ⌝ }
+{
+    let a = pool::child(pool, s, register::node_at(pool, reg.root, l));
+    let b = pool::child(pool, pool::other(s), a);
+    if b == 0 {
+        return missed(reg);
+    }
+    if reg.first == 0 {
+        return missed(reg);
+    }
+    let x = pool::child(pool, s, a);
+    let y = pool::child(pool, s, b);
+    hang_copy(pool, reg, register::link_at(s, b), a, s, x, y, copy_colour(rule))
+}
+
+// C' takes B's child on the other side; B's link on that side := C'.
+pub fn zig_lower_c(pool: &mut [u32], reg: Register, l: Link, s: Side, rule: Rule) -> Turned
+    ensures { λ r. ⌜ r .found ≡ stepFinds (state (now (pool .entry)) reg) l (ZigLowerC s rule) ⌝ }
+    ensures { λ r. ⌜ turned (now (pool .exit)) r ≡ tried (state (now (pool .entry)) reg) l (ZigLowerC s rule) ⌝ }
+{
+    let z = pool::other(s);
+    let c = register::node_at(pool, reg.root, l);
+    let b = pool::child(pool, z, pool::child(pool, s, c));
+    if b == 0 {
+        return missed(reg);
+    }
+    if reg.first == 0 {
+        return missed(reg);
+    }
+    let x = pool::child(pool, z, b);
+    let y = pool::child(pool, z, c);
+    hang_copy(pool, reg, register::link_at(z, b), c, s, x, y, copy_colour(rule))
+}
+
+// The link from above := B, which takes its colour.
+fn raise(pool: &mut [u32], reg: Register, l: Link, b: u32, colour: u32) -> Register
+    ensures { λ r. ⌜ state (now (pool .exit)) r ≡ painted (setLink (state (now (pool .entry)) reg) l b) b colour ⌝ }
+{
+    let r = register::set_link(pool, reg, l, b);
+    pool::set_word(pool, b, pool::COLOUR, colour);
+    r
+}
+
+// Under the copy that a red sibling's diag leaves, with the black sibling on the side s: without a red child it turns red, the copy black.
+fn under_copy(pool: &mut [u32], s: Side, copy: u32)
+    ensures { λ _. ⌜ ((q : Register) → now (pool .exit) ≡ underCopy (state (now (pool .entry)) q) s copy .pool) ⌝ }
+{
+    let w = pool::child(pool, s, copy);
+    if climbs::red_child(pool, w) {
+        return;
+    }
+    pool::set_word(pool, w, pool::COLOUR, pool::RED);
+    pool::set_word(pool, copy, pool::COLOUR, pool::BLACK);
+}
+
+// the colour work after a diag's last store, B being risen
+fn end_diag(pool: &mut [u32], root: u32, rule: Rule, s: Side, b: u32)
+    ensures { λ _. ⌜ ((q : Register) → q .root ≡ root → now (pool .exit) ≡ endDiag rule (state (now (pool .entry)) q) s b .pool) ⌝ }
+{
+    match rule {
+        Rule::Grow => pool::set_word(pool, root, pool::COLOUR, pool::BLACK),
+        Rule::Pass => {
+            let copy = pool::child(pool, pool::other(s), b);
+            under_copy(pool, s, copy);
+        }
+        Rule::Borrow => {
+            let outer = pool::child(pool, s, b);
+            pool::set_word(pool, outer, pool::COLOUR, pool::BLACK);
+        }
+    }
+}
+
+// whether the nodes that this colour work names are there
+fn end_diag_finds(pool: &[u32], rule: Rule, s: Side, b: u32) -> bool
+    ensures { λ r. ⌜ ((q : Register) → r ≡ endDiagFinds rule (state (now (pool .entry)) q) s b) ⌝ }
+{
+    match rule {
+        Rule::Grow => true,
+        Rule::Pass => pool::child(pool, s, pool::child(pool, pool::other(s), b)) != 0,
+        Rule::Borrow => pool::child(pool, s, b) != 0,
+    }
+}
+
+// The link from above := B; C retired.
+pub fn diag_raise(pool: &mut [u32], reg: Register, l: Link, s: Side, rule: Rule) -> Turned
+    requires { ⌜ length (now pool) < 8192 ⌝ }
+    ensures { λ r. ⌜ r .found ≡ stepFinds (state (now (pool .entry)) reg) l (DiagRaise s rule) ⌝ }
+    ensures { λ r. ⌜ turned (now (pool .exit)) r ≡ tried (state (now (pool .entry)) reg) l (DiagRaise s rule) ⌝ }
+{
+    let c = register::node_at(pool, reg.root, l);
+    let b = pool::child(pool, s, c);
+    if b == 0 {
+        return missed(reg);
+    }
+    if end_diag_finds(pool, rule, s, b) {} else {
+        return missed(reg);
+    }
+    let colour = risen_colour(pool, rule, c);
+    let risen = raise(pool, reg, l, b, colour);
+    end_diag(pool, risen.root, rule, s, b);
+    let register = queue::retire(pool, risen, c);
+    Turned {
+        found: true,
+        link: l,
+        node: b,
+        register,
+    }
+}
+
+// the colour work after a zig's last store
+fn end_zig(pool: &mut [u32], root: u32, rule: Rule)
+    ensures { λ _. ⌜ ((q : Register) → q .root ≡ root → now (pool .exit) ≡ endZig rule (state (now (pool .entry)) q) .pool) ⌝ }
+{
+    match rule {
+        Rule::Grow => pool::set_word(pool, root, pool::COLOUR, pool::BLACK),
+        Rule::Pass => {}
+        Rule::Borrow => {}
+    }
+}
+
+// The link from above := B; A and C retired.
+pub fn zig_raise(pool: &mut [u32], reg: Register, l: Link, s: Side, rule: Rule) -> Turned
+    requires { ⌜ length (now pool) < 8192 ⌝ }
+    ensures { λ r. ⌜ r .found ≡ stepFinds (state (now (pool .entry)) reg) l (ZigRaise s rule) ⌝ }
+    ensures { λ r. ⌜ turned (now (pool .exit)) r ≡ tried (state (now (pool .entry)) reg) l (ZigRaise s rule) ⌝ }
+{
+    let c = register::node_at(pool, reg.root, l);
+    let a = pool::child(pool, s, c);
+    let b = pool::child(pool, pool::other(s), a);
+    if b == 0 {
+        return missed(reg);
+    }
+    let colour = risen_colour(pool, rule, c);
+    let risen = raise(pool, reg, l, b, colour);
+    end_zig(pool, risen.root, rule);
+    let register = queue::retire_two(pool, risen, a, c);
+    Turned {
+        found: true,
+        link: l,
+        node: b,
+        register,
+    }
+}
