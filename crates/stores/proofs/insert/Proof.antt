@@ -1,0 +1,75 @@
+use Rattle.spec.specs.Register.{state}
+use Rattle.spec.specs.Pool.{isRed}
+use Rattle.types.specs.Side.{owner}
+use Rattle.laws.specs.Turns.{tells-missed}
+use Rattle.types.specs.declared.Step.the-variants.{Insert}
+use Rattle.stores.specs.Inserted.{insert-empty, calm-found}
+use mathlib.Core.Bool.{true, false}
+use mathlib.Core.Path.{_≡_, refl, sym, ap, _∙_}
+use native.Mathlib.Omega.{arith}
+use borrow.Author.Tests.{eq-eqb, ne-eqb, lt-ltb, le-ltb, lt-leb, le-leb, not-true, not-false}
+use borrow.Author.Needs.{needs}
+use Rattle.stores.proofs.insert.Statement.{statement}
+use Rattle.stores.proofs.insert.Tie as tie
+use Rattle.stores.proofs.insert.Reads as reads
+use Rattle.stores.proofs.insert.Lts as lts
+use Rattle.pool.proofs.is_red.Reads as is-red-reads
+use Rattle.register.proofs.owner.Reads as owner-reads
+use Rattle.rotations.proofs.missed.Reads as missed-reads
+use Rattle.stores.proofs.insert_calm.Reads as insert-calm-reads
+use Rattle.stores.proofs.insert_climbing.Reads as insert-climbing-reads
+
+-- src/lib.rt:98:9
+missed-requires : tie.Need-missed-requires
+missed-requires c κs = search needs
+
+-- src/lib.rt:98:9
+returns : tie.Need-returns
+returns c = let a = c .before .before .before .before .args in let st = state (a .pool .now) (a .reg) in tells-missed st (a .l) (Insert (a .k) (a .v)) (c .missed .result) (insert-empty st (a .l) (a .k) (a .v) (c .before .if1 .taken)) (c .missed .ensures)
+
+-- src/lib.rt:100:27
+owner-requires : tie.Need-owner-requires
+owner-requires c κs = search needs
+
+-- src/lib.rt:100:8
+is-red-requires : tie.Need-is-red-requires
+is-red-requires c κs = search needs
+
+-- src/lib.rt:101:9
+insert-climbing-requires : tie.Need-insert-climbing-requires
+insert-climbing-requires c κs = let a = c .before .before .before .before .before .before .before .before .args in let e : isRed (a .pool .now) (owner (a .l)) ≡ true = rw (← (c .before .before .before .owner .ensures), ← (c .before .before .is-red .ensures)) (c .before .if2 .taken) in (c .before .before .before .before .before .before .before .before .pre, e, c .before .before .before .before .before .if1 .left)
+
+-- src/lib.rt:101:9
+same-length : tie.Need-same-length
+same-length c = search needs
+
+-- src/lib.rt:101:9
+returns-2 : tie.Need-returns-2
+returns-2 c = c .before .before .insert-climbing .ensures
+
+-- src/lib.rt:103:5
+insert-calm-requires : tie.Need-insert-calm-requires
+insert-calm-requires c κs = let a = c .before .before .before .before .before .before .before .before .args in let e : isRed (a .pool .now) (owner (a .l)) ≡ false = rw (← (c .before .before .before .owner .ensures), ← (c .before .before .is-red .ensures)) (c .before .if2 .left) in (c .before .before .before .before .before .before .before .before .pre, e, calm-found (state (a .pool .now) (a .reg)) (a .l) (a .k) (a .v) e (c .before .before .before .before .before .if1 .left))
+
+-- src/lib.rt:92:1
+same-length-2 : tie.Need-same-length-2
+same-length-2 c = search needs
+
+-- src/lib.rt:92:1
+returns-3 : tie.Need-returns-3
+returns-3 c = c .before .before .insert-calm .ensures
+
+pub insert-spec : {M : Type 1} → statement M
+insert-spec =
+    tie.close
+    (tie.spec
+    missed-requires
+    returns
+    owner-requires
+    is-red-requires
+    insert-climbing-requires
+    same-length
+    returns-2
+    insert-calm-requires
+    same-length-2
+    returns-3)

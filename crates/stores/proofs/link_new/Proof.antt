@@ -1,0 +1,54 @@
+use Rattle.spec.specs.Turn.{oneMore}
+use mathlib.Core.Path.{_≡_, refl, sym, ap, _∙_}
+use native.Mathlib.Omega.{arith}
+use borrow.Author.Tests.{eq-eqb, ne-eqb, lt-ltb, le-ltb, lt-leb, le-leb, not-true, not-false}
+use borrow.Author.Needs.{needs}
+use Rattle.stores.proofs.link_new.Statement.{statement}
+use Rattle.stores.proofs.link_new.Tie as tie
+use Rattle.stores.proofs.link_new.Reads as reads
+use Rattle.stores.proofs.link_new.Lts as lts
+use Rattle.pool.proofs.nodes.Reads as nodes-reads
+use Rattle.queue.proofs.take_node.Reads as take-node-reads
+use Rattle.register.proofs.count_up.Reads as count-up-reads
+use Rattle.register.proofs.set_link.Reads as set-link-reads
+use Rattle.register.proofs.with_held.Reads as with-held-reads
+
+-- src/lib.rt:30:9
+take-node-requires : tie.Need-take-node-requires
+take-node-requires c κs = search needs
+
+-- src/lib.rt:31:9
+set-link-requires : tie.Need-set-link-requires
+set-link-requires c κs = search needs
+
+-- src/lib.rt:32:9
+nodes-requires : tie.Need-nodes-requires
+nodes-requires c κs = search needs
+
+-- src/lib.rt:33:33
+count-up-requires : tie.Need-count-up-requires
+count-up-requires c κs = search needs
+
+-- src/lib.rt:33:5
+with-held-requires : tie.Need-with-held-requires
+with-held-requires c κs = search needs
+
+-- src/lib.rt:25:1
+same-length : tie.Need-same-length
+same-length c = search needs
+
+-- src/lib.rt:25:1
+returns : tie.Need-returns
+returns c = rw (c .with-held .ensures, c .before .count-up .ensures, c .before .before .nodes .ensures, c .before .before .before .before .before .before .set-link .ensures .0, c .before .before .before .before .before .before .set-link .ensures .1, c .before .before .before .before .before .before .before .before .before .before .take-node .ensures .0, c .before .before .before .before .before .before .before .before .before .before .take-node .ensures .1)
+
+pub link-new-spec : {M : Type 1} → statement M
+link-new-spec =
+    tie.close
+    (tie.spec
+    take-node-requires
+    set-link-requires
+    nodes-requires
+    count-up-requires
+    with-held-requires
+    same-length
+    returns)

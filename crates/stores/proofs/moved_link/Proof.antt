@@ -1,0 +1,42 @@
+use mathlib.Core.Path.{_≡_, refl, sym, ap, _∙_}
+use native.Mathlib.Omega.{arith}
+use borrow.Author.Tests.{eq-eqb, ne-eqb, lt-ltb, le-ltb, lt-leb, le-leb, not-true, not-false}
+use borrow.Author.Needs.{needs}
+use Rattle.stores.proofs.moved_link.Statement.{statement}
+use Rattle.stores.proofs.moved_link.Tie as tie
+use Rattle.stores.proofs.moved_link.Reads as reads
+use Rattle.stores.proofs.moved_link.Lts as lts
+use Rattle.register.proofs.choose.Reads as choose-reads
+
+-- src/lib.rt:132:23
+enum-told : tie.Need-enum-told
+enum-told c = search needs
+
+-- src/lib.rt:133:26
+enum-told-2 : tie.Need-enum-told-2
+enum-told-2 c = search needs
+
+-- src/lib.rt:134:21
+enum-known-l : tie.Need-enum-known-l
+enum-known-l c = search needs
+
+-- src/lib.rt:134:39
+choose-requires : tie.Need-choose-requires
+choose-requires c κs = search needs
+
+-- src/lib.rt:128:1
+returns : tie.Need-returns
+returns c = search needs
+
+-- src/lib.rt:128:1
+returns-2 : tie.Need-returns-2
+returns-2 c = search needs
+
+-- src/lib.rt:128:1
+returns-3 : tie.Need-returns-3
+returns-3 c = rw (c .before .before .l .given .1, c .choose .ensures)
+
+pub moved-link-spec : {M : Type 1} → statement M
+moved-link-spec =
+    tie.close
+    (tie.spec enum-told enum-told-2 enum-known-l choose-requires returns returns-2 returns-3)

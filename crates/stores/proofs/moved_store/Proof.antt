@@ -1,0 +1,20 @@
+use mathlib.Core.Path.{_≡_, refl, sym, ap, _∙_}
+use native.Mathlib.Omega.{arith}
+use borrow.Author.Tests.{eq-eqb, ne-eqb, lt-ltb, le-ltb, lt-leb, le-leb, not-true, not-false}
+use borrow.Author.Needs.{needs}
+use Rattle.stores.proofs.moved_store.Statement.{statement}
+use Rattle.stores.proofs.moved_store.Tie as tie
+use Rattle.stores.proofs.moved_store.Reads as reads
+use Rattle.stores.proofs.moved_store.Lts as lts
+use Rattle.stores.proofs.moved_link.Reads as moved-link-reads
+
+-- src/lib.rt:143:9
+moved-link-requires : tie.Need-moved-link-requires
+moved-link-requires c κs = search needs
+
+-- src/lib.rt:138:1
+returns : tie.Need-returns
+returns c = rw (c .moved-link .ensures)
+
+pub moved-store-spec : {M : Type 1} → statement M
+moved-store-spec = tie.close (tie.spec moved-link-requires returns)

@@ -1,0 +1,3 @@
+pub mod Inserted
+pub mod Moved
+pub mod Published
