@@ -144,3 +144,19 @@ pub enum ReaderAnswer {
     Absent,
     Refused(u32),
 }
+
+// What the calls give back: the answer and the register.
+pub struct Reply {
+    pub answer: Acceptance,
+    pub register: Register,
+}
+
+pub struct WriterReply {
+    pub answer: WriterAnswer,
+    pub register: Register,
+}
+
+pub struct ReaderReply {
+    pub answer: ReaderAnswer,
+    pub register: Register,
+}

@@ -13,7 +13,7 @@ use Rattle.index.proofs.begin.Statement.{statement}
 use Rattle.index.proofs.begin.Tie as tie
 use Rattle.index.proofs.begin.Reads as reads
 use Rattle.index.proofs.begin.Lts as lts
-use Rattle.index.proofs.begin_refusal.Reads as begin-refusal-reads
+use Rattle.refusals.proofs.begin_refusal.Reads as begin-refusal-reads
 use Rattle.register.proofs.with_reader.Reads as with-reader-reads
 
 -- src/lib.rt:80:9

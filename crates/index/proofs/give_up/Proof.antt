@@ -13,7 +13,7 @@ use Rattle.index.proofs.give_up.Statement.{statement}
 use Rattle.index.proofs.give_up.Tie as tie
 use Rattle.index.proofs.give_up.Reads as reads
 use Rattle.index.proofs.give_up.Lts as lts
-use Rattle.index.proofs.reader_refusal.Reads as reader-refusal-reads
+use Rattle.refusals.proofs.reader_refusal.Reads as reader-refusal-reads
 use Rattle.queue.proofs.end_reading.Reads as end-reading-reads
 
 -- src/lib.rt:168:9

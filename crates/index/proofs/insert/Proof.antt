@@ -10,9 +10,9 @@ use Rattle.index.proofs.insert.Statement.{statement}
 use Rattle.index.proofs.insert.Tie as tie
 use Rattle.index.proofs.insert.Reads as reads
 use Rattle.index.proofs.insert.Lts as lts
-use Rattle.index.proofs.insert_at.Reads as insert-at-reads
-use Rattle.index.proofs.lent_refusal.Reads as lent-refusal-reads
-use Rattle.index.proofs.refused.Reads as refused-reads
+use Rattle.accepts.proofs.insert_at.Reads as insert-at-reads
+use Rattle.refusals.proofs.lent_refusal.Reads as lent-refusal-reads
+use Rattle.accepts.proofs.refused.Reads as refused-reads
 use Rattle.search.proofs.seek.Reads as seek-reads
 
 -- src/lib.rt:246:9

@@ -13,8 +13,8 @@ use Rattle.index.proofs.reader_turn.Statement.{statement}
 use Rattle.index.proofs.reader_turn.Tie as tie
 use Rattle.index.proofs.reader_turn.Reads as reads
 use Rattle.index.proofs.reader_turn.Lts as lts
-use Rattle.index.proofs.reader_refusal.Reads as reader-refusal-reads
-use Rattle.index.proofs.reader_step.Reads as reader-step-reads
+use Rattle.refusals.proofs.reader_refusal.Reads as reader-refusal-reads
+use Rattle.lookups.proofs.reader_step.Reads as reader-step-reads
 
 -- src/lib.rt:154:9
 reader-refusal-requires : tie.Need-reader-refusal-requires

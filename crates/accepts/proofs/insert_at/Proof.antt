@@ -11,11 +11,11 @@ use mathlib.Core.Path.{_≡_, refl, sym, ap, _∙_}
 use native.Mathlib.Omega.{arith}
 use borrow.Author.Tests.{eq-eqb, ne-eqb, lt-ltb, le-ltb, lt-leb, le-leb, not-true, not-false}
 use borrow.Author.Needs.{needs}
-use Rattle.index.proofs.insert_at.Statement.{statement}
-use Rattle.index.proofs.insert_at.Tie as tie
-use Rattle.index.proofs.insert_at.Reads as reads
-use Rattle.index.proofs.insert_at.Lts as lts
-use Rattle.index.proofs.refused.Reads as refused-reads
+use Rattle.accepts.proofs.insert_at.Statement.{statement}
+use Rattle.accepts.proofs.insert_at.Tie as tie
+use Rattle.accepts.proofs.insert_at.Reads as reads
+use Rattle.accepts.proofs.insert_at.Lts as lts
+use Rattle.accepts.proofs.refused.Reads as refused-reads
 use Rattle.plans.proofs.insert_plan.Reads as insert-plan-reads
 use Rattle.pool.proofs.nodes.Reads as nodes-reads
 use Rattle.register.proofs.with_write.Reads as with-write-reads

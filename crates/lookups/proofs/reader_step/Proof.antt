@@ -7,11 +7,11 @@ use mathlib.Core.Path.{_≡_, refl, sym, ap, _∙_}
 use native.Mathlib.Omega.{arith}
 use borrow.Author.Tests.{eq-eqb, ne-eqb, lt-ltb, le-ltb, lt-leb, le-leb, not-true, not-false}
 use borrow.Author.Needs.{needs}
-use Rattle.index.proofs.reader_step.Statement.{statement}
-use Rattle.index.proofs.reader_step.Tie as tie
-use Rattle.index.proofs.reader_step.Reads as reads
-use Rattle.index.proofs.reader_step.Lts as lts
-use Rattle.index.proofs.load.Reads as load-reads
+use Rattle.lookups.proofs.reader_step.Statement.{statement}
+use Rattle.lookups.proofs.reader_step.Tie as tie
+use Rattle.lookups.proofs.reader_step.Reads as reads
+use Rattle.lookups.proofs.reader_step.Lts as lts
+use Rattle.lookups.proofs.load.Reads as load-reads
 use Rattle.pool.proofs.word.Reads as word-reads
 use Rattle.queue.proofs.end_reading.Reads as end-reading-reads
 use Rattle.search.proofs.child_towards.Reads as child-towards-reads

@@ -2,10 +2,10 @@ use mathlib.Core.Path.{_≡_, refl, sym, ap, _∙_}
 use native.Mathlib.Omega.{arith}
 use borrow.Author.Tests.{eq-eqb, ne-eqb, lt-ltb, le-ltb, lt-leb, le-leb, not-true, not-false}
 use borrow.Author.Needs.{needs}
-use Rattle.index.proofs.load.Statement.{statement}
-use Rattle.index.proofs.load.Tie as tie
-use Rattle.index.proofs.load.Reads as reads
-use Rattle.index.proofs.load.Lts as lts
+use Rattle.lookups.proofs.load.Statement.{statement}
+use Rattle.lookups.proofs.load.Tie as tie
+use Rattle.lookups.proofs.load.Reads as reads
+use Rattle.lookups.proofs.load.Lts as lts
 use Rattle.queue.proofs.end_reading.Reads as end-reading-reads
 use Rattle.register.proofs.with_reader.Reads as with-reader-reads
 

@@ -7,11 +7,11 @@ use mathlib.Core.Path.{_≡_, refl, sym, ap, _∙_}
 use native.Mathlib.Omega.{arith}
 use borrow.Author.Tests.{eq-eqb, ne-eqb, lt-ltb, le-ltb, lt-leb, le-leb, not-true, not-false}
 use borrow.Author.Needs.{needs}
-use Rattle.index.proofs.reader_refusal.Statement.{statement}
-use Rattle.index.proofs.reader_refusal.Tie as tie
-use Rattle.index.proofs.reader_refusal.Reads as reads
-use Rattle.index.proofs.reader_refusal.Lts as lts
-use Rattle.index.proofs.lent_refusal.Reads as lent-refusal-reads
+use Rattle.refusals.proofs.reader_refusal.Statement.{statement}
+use Rattle.refusals.proofs.reader_refusal.Tie as tie
+use Rattle.refusals.proofs.reader_refusal.Reads as reads
+use Rattle.refusals.proofs.reader_refusal.Lts as lts
+use Rattle.refusals.proofs.lent_refusal.Reads as lent-refusal-reads
 
 -- src/lib.rt:44:9
 lent-refusal-requires : tie.Need-lent-refusal-requires

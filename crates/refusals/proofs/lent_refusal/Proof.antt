@@ -6,10 +6,10 @@ use mathlib.Core.Path.{_≡_, refl, sym, ap, _∙_}
 use native.Mathlib.Omega.{arith}
 use borrow.Author.Tests.{eq-eqb, ne-eqb, lt-ltb, le-ltb, lt-leb, le-leb, not-true, not-false}
 use borrow.Author.Needs.{needs}
-use Rattle.index.proofs.lent_refusal.Statement.{statement}
-use Rattle.index.proofs.lent_refusal.Tie as tie
-use Rattle.index.proofs.lent_refusal.Reads as reads
-use Rattle.index.proofs.lent_refusal.Lts as lts
+use Rattle.refusals.proofs.lent_refusal.Statement.{statement}
+use Rattle.refusals.proofs.lent_refusal.Tie as tie
+use Rattle.refusals.proofs.lent_refusal.Reads as reads
+use Rattle.refusals.proofs.lent_refusal.Lts as lts
 use Rattle.pool.proofs.length_right.Reads as length-right-reads
 use Rattle.pool.proofs.nodes.Reads as nodes-reads
 use Rattle.pool.proofs.pool_in_range.Reads as pool-in-range-reads

@@ -1,0 +1,51 @@
+// Insert and delete after the tests of the search: the last tests, and the plan as the write in hand.
+use types::Acceptance;
+use types::Link;
+use types::Register;
+use types::Reply;
+ghost use mathlib.Core.Path.{_≡_};
+ghost use mathlib.Core.Bool.{false};
+ghost use Prim.Native.Nat.{ℕ, _<_, _≤_};
+ghost use Rattle.types.specs.declared.Place.the-variants.{Empty};
+ghost use Rattle.spec.specs.Register.{state};
+ghost use Rattle.laws.specs.Tests.{lentNumber};
+ghost use Rattle.spec.specs.Calls.{refused, accepts, placeOf, writeInHand, insert};
+
+// nodes kept back from the keys, and free nodes that an insert asks for
+const RESERVE: u64 = 4;
+
+const FREE_FOR_INSERT: u32 = 3;
+
+pub fn refused(number: u32, register: Register) -> Reply
+    ensures { λ r. ⌜ (accepts (r .answer) ≡ refused number) × (r .register ≡ register) ⌝ }
+{
+    Reply {
+        answer: Acceptance::Refused(number),
+        register,
+    }
+}
+
+// an insert at the empty link l, after the tests of the search
+pub fn insert_at(pool: &[u32], reg: Register, k: u32, v: u32, l: Link) -> Reply
+    requires { ⌜ (lentNumber (state (now pool) reg) ≡ 0) × (writeInHand (state (now pool) reg) ≡ false) × (placeOf (state (now pool) reg) k ≡ Empty l) ⌝ }
+    ensures { λ r. ⌜ accepts (r .answer) ≡ insert (state (now (pool .entry)) reg) k v .answer ⌝ }
+    ensures { λ r. ⌜ state (now (pool .entry)) (r .register) ≡ insert (state (now (pool .entry)) reg) k v .after ⌝ }
+{
+    let top = pool::nodes(pool);
+    if top as u64 <= reg.held as u64 + RESERVE {
+        return refused(10, reg);
+    }
+    if reg.free < FREE_FOR_INSERT {
+        return refused(11, reg);
+    }
+    let plan = plans::insert_plan(pool, reg, k, v, l);
+    if plan.possible {} else {
+        return refused(12, reg);
+    }
+    let write = plan.write;
+    let register = register::with_write(reg, write);
+    Reply {
+        answer: Acceptance::Accepted,
+        register,
+    }
+}
