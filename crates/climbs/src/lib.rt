@@ -13,18 +13,8 @@ ghost use lib.ListN.{length};
 ghost use Rattle.types.specs.declared.Form.the-variants.{Diag, Zig};
 ghost use Rattle.types.specs.Side.{sameSide};
 ghost use Rattle.spec.specs.Pool.{paint, blackColour, redColour};
-ghost use Rattle.spec.specs.Plan.{rise, paintRise, redChild, borrow as borrowed, redSibling, sink, paintSink};
-ghost use Rattle.paths.specs.Upward.{linkOf, upward};
-ghost use Rattle.climbs.specs.Rises.{linkIn};
-
-// the i-th link of a path
-fn link_in(path: &[u64], i: u32) -> Link
-    requires { ⌜ i < length (now path) ⌝ }
-    ensures { λ r. ⌜ r ≡ linkIn (now (path .entry)) i ⌝ }
-{
-    let at = i as usize;
-    paths::link_of(path[at])
-}
+ghost use Rattle.spec.specs.Plan.{rise, paintRise, redChild, borrow as borrowed, redSibling, sink, paintSink, missing};
+ghost use Rattle.paths.specs.Upward.{upward};
 
 // a diag on the outer side, a zig on the inner one
 fn form_of(x: Side, y: Side) -> Form
@@ -59,7 +49,7 @@ pub fn rise(pool: &[u32], path: &[u64], c: u32, m: u32) -> Climb
             ending: Ending::Calm,
         };
     }
-    let x = link_in(path, c - 1);
+    let x = paths::link_in(path, c - 1);
     if pool::is_red(pool, register::owner(x)) {} else {
         return Climb {
             levels: m,
@@ -72,13 +62,13 @@ pub fn rise(pool: &[u32], path: &[u64], c: u32, m: u32) -> Climb
             ending: Ending::Missing,
         };
     }
-    let y = link_in(path, c - 2);
+    let y = paths::link_in(path, c - 2);
     let s = register::side_of(y);
     let aunt = pool::child(pool, pool::other(s), register::owner(y));
     if pool::is_red(pool, aunt) {
         return rise(pool, path, c - 2, m + 1);
     }
-    let link = link_in(path, c - 3);
+    let link = paths::link_in(path, c - 3);
     let form = form_of(register::side_of(x), s);
     Climb {
         levels: m,
@@ -111,8 +101,8 @@ pub fn paint_rise(pool: &mut [u32], path: &[u64], c: u32, m: u32)
     if c < 2 {
         return;
     }
-    let x = link_in(path, c - 1);
-    let y = link_in(path, c - 2);
+    let x = paths::link_in(path, c - 1);
+    let y = paths::link_in(path, c - 2);
     let aunt = pool::child(pool, pool::other(register::side_of(y)), register::owner(y));
     paint_level(pool, register::owner(x), aunt, register::owner(y));
     paint_rise(pool, path, c - 2, m - 1);
@@ -190,7 +180,7 @@ pub fn sink(pool: &[u32], path: &[u64], c: u32, m: u32, x: u32) -> Climb
             ending: Ending::Calm,
         };
     }
-    let l = link_in(path, c - 1);
+    let l = paths::link_in(path, c - 1);
     let z = pool::other(register::side_of(l));
     let parent = register::owner(l);
     let w = pool::child(pool, z, parent);
@@ -200,7 +190,7 @@ pub fn sink(pool: &[u32], path: &[u64], c: u32, m: u32, x: u32) -> Climb
             ending: Ending::Missing,
         };
     }
-    let above = link_in(path, c - 2);
+    let above = paths::link_in(path, c - 2);
     if pool::is_red(pool, w) {
         let ending = red_sibling(pool, above, z, w);
         return Climb { levels: m, ending };
@@ -226,8 +216,21 @@ pub fn paint_sink(pool: &mut [u32], path: &[u64], c: u32, m: u32)
     if c == 0 {
         return;
     }
-    let l = link_in(path, c - 1);
+    let l = paths::link_in(path, c - 1);
     let w = pool::child(pool, pool::other(register::side_of(l)), register::owner(l));
     pool::set_word(pool, w, pool::COLOUR, pool::RED);
     paint_sink(pool, path, c - 1, m - 1);
+}
+
+// whether a climb ended at a node that is not there
+pub fn missing(e: Ending) -> bool
+    ensures { λ r. ⌜ r ≡ missing e ⌝ }
+{
+    match e {
+        Ending::Calm => false,
+        Ending::Blacken => false,
+        Ending::Rotate(_) => false,
+        Ending::RotateTwice(_, _) => false,
+        Ending::Missing => true,
+    }
 }

@@ -1,5 +1,5 @@
 -- A path of links held in an array: the root's link first, each link as a number, and how many there are.
-use mathlib.Core.Path.{_≡_, refl}
+use mathlib.Core.Path.{_≡_, refl, sym, ap, _∙_}
 use mathlib.Core.List.{List, [], _∷_}
 use mathlib.Core.Bool.{true, false, cond}
 use mathlib.Core.Logic.{_≢_}
@@ -60,6 +60,36 @@ upward-push a i l h o =
 pub upward-none : (a : List ℕ) → upward a 0 ≡ []
 unfolding upward
 upward-none a = refl
+
+-- the i-th link of a path
+abbrev pub linkIn : List ℕ → ℕ → Link
+linkIn a i = linkOf (getD a i 0)
+
+pub upward-one : (a : List ℕ) (c b : ℕ) → c ≡ suc b → upward a c ≡ linkIn a b ∷ upward a b
+unfolding upward
+upward-one a zero b e = absurd (let z : ⊥ = omega arith in z)
+upward-one a (suc c) b e =
+    let i : c ≡ b = omega arith in
+    rw i
+
+pub upward-first : (a : List ℕ) (c : ℕ) → 1 ≤ c → upward a c ≡ linkIn a (c - 1) ∷ upward a (c - 1)
+upward-first a c h = upward-one a c (c - 1) (omega arith)
+
+pub upward-two : (a : List ℕ) (c : ℕ) → 2 ≤ c → upward a c ≡ linkIn a (c - 1) ∷ linkIn a (c - 2) ∷ upward a (c - 2)
+upward-two a c h = upward-first a c (omega arith) ∙ ap (linkIn a (c - 1) ∷_) (upward-one a (c - 1) (c - 2) (omega arith))
+
+pub upward-three : (a : List ℕ) (c : ℕ) → 3 ≤ c → upward a c ≡ linkIn a (c - 1) ∷ linkIn a (c - 2) ∷ linkIn a (c - 3) ∷ upward a (c - 3)
+upward-three a c h = upward-two a c (omega arith) ∙ ap (λ (l : List Link). linkIn a (c - 1) ∷ linkIn a (c - 2) ∷ l) (upward-one a (c - 2) (c - 3) (omega arith))
+
+pub upward-zero : (a : List ℕ) (c : ℕ) → c ≡ 0 → upward a c ≡ []
+unfolding upward
+upward-zero a zero e = refl
+upward-zero a (suc c) e = absurd (let z : ⊥ = omega arith in z)
+
+pub upward-length : (a : List ℕ) (c : ℕ) → length (upward a c) ≡ c
+unfolding upward
+upward-length a zero = refl
+upward-length a (suc c) = ap suc (upward-length a c)
 
 -- the trail and the leftmost path, one node at a time
 module _ (p : List ℕ) (k : ℕ) (t : Link) (l : Link) (n : ℕ) (up : List Link) where

@@ -18,7 +18,7 @@ ghost use Rattle.spec.specs.Search.{pathTo};
 ghost use Prim.Native.Nat.{ℕ, _<_, _≤_, _+_};
 ghost use lib.ListN.{length};
 ghost use Rattle.spec.specs.Register.{state, writeOf};
-ghost use Rattle.spec.specs.Plan.{store, rotationStores, endingStores, missing, climb, rise, insertClimb, insertPlan};
+ghost use Rattle.spec.specs.Plan.{store, rotationStores, endingStores, climb, rise, insertClimb, insertPlan};
 ghost use Rattle.plans.specs.Pushed.{pushed, pushAll};
 
 // what a write plans: whether all its steps find their nodes, and its stores as the write in hand
@@ -74,18 +74,6 @@ fn push_rotation(w: Write, t: Rotation) -> Write
     }
 }
 
-pub fn missing(e: Ending) -> bool
-    ensures { λ r. ⌜ r ≡ missing e ⌝ }
-{
-    match e {
-        Ending::Calm => false,
-        Ending::Blacken => false,
-        Ending::Rotate(_) => false,
-        Ending::RotateTwice(_, _) => false,
-        Ending::Missing => true,
-    }
-}
-
 // The climb after an insert of the key k at the link l.
 pub fn insert_climb(pool: &[u32], root: u32, k: u32, l: Link) -> Climb
     ensures { λ r. ⌜ r ≡ cond (isRed (now (pool .entry)) (owner l)) (rise (now (pool .entry)) 0 (pathTo (now (pool .entry)) root k l)) (climb 0 Calm) ⌝ }
@@ -96,8 +84,8 @@ pub fn insert_climb(pool: &[u32], root: u32, k: u32, l: Link) -> Climb
             ending: Ending::Calm,
         };
     }
-    let mut path: [u64; 65] = [0; 65];
-    let c = paths::trail(pool, k, l, Link::Root, root, &mut path, 0);
+    let mut path: [u64; paths::MOST_LINKS] = [0; paths::MOST_LINKS];
+    let c = paths::path_to(pool, root, k, l, &mut path);
     climbs::rise(pool, &path, c, 0)
 }
 
@@ -127,7 +115,7 @@ pub fn insert_plan(pool: &[u32], reg: Register, k: u32, v: u32, l: Link) -> Plan
     let ending = c.ending;
     let first = push(no_write(), l, Step::Insert(k, v));
     let write = push_ending(first, ending);
-    let gone = missing(ending);
+    let gone = climbs::missing(ending);
     Planned {
         possible: !gone,
         write,

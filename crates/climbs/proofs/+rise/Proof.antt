@@ -1,4 +1,5 @@
-use Rattle.climbs.specs.Rises.{linkIn, rise-none, rise-root, rise-calm, rise-top, rise-turn, rise-on}
+use Rattle.paths.specs.Upward.{linkIn}
+use Rattle.climbs.specs.Rises.{rise-none, rise-root, rise-calm, rise-top, rise-turn, rise-on}
 use Rattle.spec.specs.Pool.{isRed, child}
 use Rattle.types.specs.Side.{other, owner, sideOf}
 use mathlib.Core.Bool.{true, false}
@@ -13,7 +14,7 @@ use Rattle.climbs.proofs.rise.Reads as rise
 use Rattle.climbs.proofs.rise.Kinds as rise-kinds
 use Rattle.climbs.proofs.+rise.Lts-rise as rise-lts
 use Rattle.climbs.proofs.form_of.Reads as form-of-reads
-use Rattle.climbs.proofs.link_in.Reads as link-in-reads
+use Rattle.paths.proofs.link_in.Reads as link-in-reads
 use Rattle.pool.proofs.child.Reads as child-reads
 use Rattle.pool.proofs.is_red.Reads as is-red-reads
 use Rattle.pool.proofs.other.Reads as other-reads

@@ -1,5 +1,5 @@
 use Rattle.climbs.specs.Sinks.{sink-red, sink-none, sink-root, sink-missing, sink-sibling, sink-borrow, sink-on}
-use Rattle.climbs.specs.Rises.{linkIn}
+use Rattle.paths.specs.Upward.{linkIn}
 use Rattle.spec.specs.Plan.{redChild}
 use Rattle.spec.specs.Pool.{isRed, child}
 use Rattle.types.specs.Side.{other, owner, sideOf}
@@ -15,7 +15,7 @@ use Rattle.climbs.proofs.sink.Reads as sink
 use Rattle.climbs.proofs.sink.Kinds as sink-kinds
 use Rattle.climbs.proofs.+sink.Lts-sink as sink-lts
 use Rattle.climbs.proofs.borrow.Reads as borrow-reads
-use Rattle.climbs.proofs.link_in.Reads as link-in-reads
+use Rattle.paths.proofs.link_in.Reads as link-in-reads
 use Rattle.climbs.proofs.red_child.Reads as red-child-reads
 use Rattle.climbs.proofs.red_sibling.Reads as red-sibling-reads
 use Rattle.pool.proofs.child.Reads as child-reads
