@@ -36,10 +36,7 @@ pub fn loss_climb(pool: &[u32], n: u32, x: u32, path: &[u64], c: u32) -> Climb
     ensures { λ r. ⌜ r ≡ lossClimb (now (pool .entry)) n x (upward (now (path .entry)) c) ⌝ }
 {
     if pool::is_red(pool, n) {
-        return Climb {
-            levels: 0,
-            ending: Ending::Calm,
-        };
+        return climbs::climb(0, Ending::Calm);
     }
     climbs::sink(pool, path, c, 0, x)
 }

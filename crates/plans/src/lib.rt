@@ -94,10 +94,7 @@ pub fn insert_climb(pool: &[u32], root: u32, k: u32, l: Link) -> Climb
     ensures { λ r. ⌜ r ≡ cond (isRed (now (pool .entry)) (owner l)) (rise (now (pool .entry)) 0 (pathTo (now (pool .entry)) root k l)) (climb 0 Calm) ⌝ }
 {
     if pool::is_red(pool, register::owner(l)) {} else {
-        return Climb {
-            levels: 0,
-            ending: Ending::Calm,
-        };
+        return climbs::climb(0, Ending::Calm);
     }
     let mut path: [u64; paths::MOST_LINKS] = [0; paths::MOST_LINKS];
     let c = paths::path_to(pool, root, k, l, &mut path);

@@ -13,17 +13,9 @@ ghost use Rattle.types.specs.declared.Step.the-variants.{Unlink, Replace, Detac
 ghost use Rattle.spec.specs.Register.{state, setLink};
 ghost use Rattle.spec.specs.Free.{retire};
 ghost use Rattle.spec.specs.Plan.{paintLoss};
-ghost use Rattle.spec.specs.Turn.{stepFinds, oneLess, painted, calmly};
+ghost use Rattle.spec.specs.Turn.{stepFinds, oneLess, painted};
 ghost use Rattle.laws.specs.Turns.{turned, tried};
 ghost use Rattle.paths.specs.Upward.{upward};
-
-fn calmly(k: Climb) -> bool
-    ensures { λ r. ⌜ r ≡ calmly k ⌝ }
-{
-    let ending = k.ending;
-    let gone = climbs::missing(ending);
-    !gone
-}
 
 // a step that does not find its nodes
 fn missed(reg: Register) -> Turned
@@ -74,7 +66,7 @@ pub fn unlink(pool: &mut [u32], reg: Register, l: Link) -> Turned
     let key = pool::word(pool, b, pool::KEY);
     let c = paths::path_to(pool, reg.root, key, l, &mut path);
     let k = losses::loss_climb(pool, b, x, &path, c);
-    let found = (b != 0) & calmly(k);
+    let found = (b != 0) & climbs::calmly(k);
     if found {} else {
         return missed(reg);
     }
@@ -111,7 +103,7 @@ pub fn replace(pool: &mut [u32], reg: Register, l: Link) -> Turned
     let above = paths::path_to(pool, reg.root, key, l, &mut path);
     let c = paths::below_right(&mut path, b, above);
     let k = losses::loss_climb(pool, n, x, &path, c);
-    let found = (n != 0) & calmly(k);
+    let found = (n != 0) & climbs::calmly(k);
     if found {} else {
         return missed(reg);
     }
@@ -140,7 +132,7 @@ pub fn detach(pool: &mut [u32], reg: Register, l: Link, key: u32) -> Turned
     let n = register::node_at(pool, reg.root, link);
     let x = pool::child(pool, Side::R, n);
     let k = losses::loss_climb(pool, n, x, &path, c);
-    let found = (c != 0) & (n != 0) & calmly(k);
+    let found = (c != 0) & (n != 0) & climbs::calmly(k);
     if found {} else {
         return missed(reg);
     }

@@ -9,6 +9,7 @@ use Rattle.plans.proofs.insert_climb.Statement.{statement}
 use Rattle.plans.proofs.insert_climb.Tie as tie
 use Rattle.plans.proofs.insert_climb.Reads as reads
 use Rattle.plans.proofs.insert_climb.Lts as lts
+use Rattle.climbs.proofs.climb.Reads as climb-reads
 use Rattle.climbs.proofs.rise.Reads as rise-reads
 use Rattle.paths.proofs.path_to.Reads as path-to-reads
 use Rattle.pool.proofs.is_red.Reads as is-red-reads
@@ -23,22 +24,26 @@ is-red-requires : tie.Need-is-red-requires
 is-red-requires c κs = search needs
 
 -- src/lib.rt:97:9
-returns : tie.Need-returns
-returns c = let e : isRed (c .before .before .before .before .args .pool .now) (owner (c .before .before .before .before .args .l)) ≡ false = rw (← (c .before .before .owner .ensures), ← (c .before .is-red .ensures)) (c .if1 .left) in rw e
+climb-requires : tie.Need-climb-requires
+climb-requires c κs = search needs
 
--- src/lib.rt:103:46
+-- src/lib.rt:97:9
+returns : tie.Need-returns
+returns c = let e : isRed (c .before .before .before .before .before .args .pool .now) (owner (c .before .before .before .before .before .args .l)) ≡ false = rw (← (c .before .before .before .owner .ensures), ← (c .before .before .is-red .ensures)) (c .before .if1 .left) in rw (e, c .climb .ensures)
+
+-- src/lib.rt:100:46
 slice-aggregate-path-to : tie.Need-slice-aggregate-path-to
 slice-aggregate-path-to c = search needs
 
--- src/lib.rt:103:9
+-- src/lib.rt:100:9
 path-to-requires : tie.Need-path-to-requires
 path-to-requires c κs = search needs
 
--- src/lib.rt:104:24
+-- src/lib.rt:101:24
 slice-aggregate-rise : tie.Need-slice-aggregate-rise
 slice-aggregate-rise c = search needs
 
--- src/lib.rt:104:5
+-- src/lib.rt:101:5
 rise-requires : tie.Need-rise-requires
 rise-requires c κs = search needs
 
@@ -52,6 +57,7 @@ insert-climb-spec =
     (tie.spec
     owner-requires
     is-red-requires
+    climb-requires
     returns
     slice-aggregate-path-to
     path-to-requires

@@ -19,7 +19,7 @@ use Rattle.paths.proofs.successor_path.Reads as successor-path-reads
 use Rattle.pool.proofs.child.Reads as child-reads
 use Rattle.register.proofs.node_at.Reads as node-at-reads
 use Rattle.register.proofs.set_link.Reads as set-link-reads
-use Rattle.removals.proofs.calmly.Reads as calmly-reads
+use Rattle.climbs.proofs.calmly.Reads as calmly-reads
 use Rattle.removals.proofs.missed.Reads as missed-reads
 use Rattle.removals.proofs.settle.Reads as settle-reads
 

@@ -18,7 +18,7 @@ use Rattle.paths.proofs.path_to.Reads as path-to-reads
 use Rattle.pool.proofs.child.Reads as child-reads
 use Rattle.pool.proofs.word.Reads as word-reads
 use Rattle.register.proofs.node_at.Reads as node-at-reads
-use Rattle.removals.proofs.calmly.Reads as calmly-reads
+use Rattle.climbs.proofs.calmly.Reads as calmly-reads
 use Rattle.removals.proofs.missed.Reads as missed-reads
 use Rattle.removals.proofs.settle.Reads as settle-reads
 use Rattle.removals.proofs.store_successor.Reads as store-successor-reads
