@@ -13,17 +13,36 @@ ghost use lib.ListN.{length};
 ghost use Rattle.types.specs.declared.Form.the-variants.{Diag, Zig};
 ghost use Rattle.types.specs.Side.{sameSide};
 ghost use Rattle.spec.specs.Pool.{paint, blackColour, redColour};
-ghost use Rattle.spec.specs.Plan.{rise, paintRise, redChild, borrow as borrowed, redSibling, sink, paintSink};
-ghost use Rattle.paths.specs.Upward.{linkOf, upward};
-ghost use Rattle.climbs.specs.Rises.{linkIn};
+ghost use Rattle.spec.specs.Plan.{climb, rise, paintRise, redChild, borrow as borrowed, redSibling, sink, paintSink, missing};
+ghost use Rattle.spec.specs.Turn.{calmly};
+ghost use Rattle.paths.specs.Upward.{upward};
 
-// the i-th link of a path
-fn link_in(path: &[u64], i: u32) -> Link
-    requires { ⌜ i < length (now path) ⌝ }
-    ensures { λ r. ⌜ r ≡ linkIn (now (path .entry)) i ⌝ }
+pub fn climb(levels: u32, ending: Ending) -> Climb
+    ensures { λ r. ⌜ r ≡ climb levels ending ⌝ }
 {
-    let at = i as usize;
-    paths::link_of(path[at])
+    Climb { levels, ending }
+}
+
+// whether a climb ended at a node that is not there
+pub fn missing(e: Ending) -> bool
+    ensures { λ r. ⌜ r ≡ missing e ⌝ }
+{
+    match e {
+        Ending::Calm => false,
+        Ending::Blacken => false,
+        Ending::Rotate(_) => false,
+        Ending::RotateTwice(_, _) => false,
+        Ending::Missing => true,
+    }
+}
+
+// whether a climb found every node that it names
+pub fn calmly(k: Climb) -> bool
+    ensures { λ r. ⌜ r ≡ calmly k ⌝ }
+{
+    let ending = k.ending;
+    let gone = missing(ending);
+    !gone
 }
 
 // a diag on the outer side, a zig on the inner one
@@ -48,47 +67,33 @@ pub fn rise(pool: &[u32], path: &[u64], c: u32, m: u32) -> Climb
     ensures { λ r. ⌜ r ≡ rise (now (pool .entry)) m (upward (now (path .entry)) c) ⌝ }
 {
     if c == 0 {
-        return Climb {
-            levels: m,
-            ending: Ending::Missing,
-        };
+        return climb(m, Ending::Missing);
     }
     if c == 1 {
-        return Climb {
-            levels: m,
-            ending: Ending::Calm,
-        };
+        return climb(m, Ending::Calm);
     }
-    let x = link_in(path, c - 1);
+    let x = paths::link_in(path, c - 1);
     if pool::is_red(pool, register::owner(x)) {} else {
-        return Climb {
-            levels: m,
-            ending: Ending::Calm,
-        };
+        return climb(m, Ending::Calm);
     }
     if c == 2 {
-        return Climb {
-            levels: m,
-            ending: Ending::Missing,
-        };
+        return climb(m, Ending::Missing);
     }
-    let y = link_in(path, c - 2);
+    let y = paths::link_in(path, c - 2);
     let s = register::side_of(y);
     let aunt = pool::child(pool, pool::other(s), register::owner(y));
     if pool::is_red(pool, aunt) {
         return rise(pool, path, c - 2, m + 1);
     }
-    let link = link_in(path, c - 3);
+    let link = paths::link_in(path, c - 3);
     let form = form_of(register::side_of(x), s);
-    Climb {
-        levels: m,
-        ending: Ending::Rotate(Rotation {
-            link,
-            form,
-            side: s,
-            rule: Rule::Grow,
-        }),
-    }
+    let rotation = Rotation {
+        link,
+        form,
+        side: s,
+        rule: Rule::Grow,
+    };
+    climb(m, Ending::Rotate(rotation))
 }
 
 // the colours of one level: parent and aunt black, grandparent red
@@ -111,8 +116,8 @@ pub fn paint_rise(pool: &mut [u32], path: &[u64], c: u32, m: u32)
     if c < 2 {
         return;
     }
-    let x = link_in(path, c - 1);
-    let y = link_in(path, c - 2);
+    let x = paths::link_in(path, c - 1);
+    let y = paths::link_in(path, c - 2);
     let aunt = pool::child(pool, pool::other(register::side_of(y)), register::owner(y));
     paint_level(pool, register::owner(x), aunt, register::owner(y));
     paint_rise(pool, path, c - 2, m - 1);
@@ -173,44 +178,28 @@ pub fn sink(pool: &[u32], path: &[u64], c: u32, m: u32, x: u32) -> Climb
     ensures { λ r. ⌜ r ≡ sink (now (pool .entry)) m x (upward (now (path .entry)) c) ⌝ }
 {
     if pool::is_red(pool, x) {
-        return Climb {
-            levels: m,
-            ending: Ending::Blacken,
-        };
+        return climb(m, Ending::Blacken);
     }
     if c == 0 {
-        return Climb {
-            levels: m,
-            ending: Ending::Missing,
-        };
+        return climb(m, Ending::Missing);
     }
     if c == 1 {
-        return Climb {
-            levels: m,
-            ending: Ending::Calm,
-        };
+        return climb(m, Ending::Calm);
     }
-    let l = link_in(path, c - 1);
+    let l = paths::link_in(path, c - 1);
     let z = pool::other(register::side_of(l));
     let parent = register::owner(l);
     let w = pool::child(pool, z, parent);
     if w == 0 {
-        return Climb {
-            levels: m,
-            ending: Ending::Missing,
-        };
+        return climb(m, Ending::Missing);
     }
-    let above = link_in(path, c - 2);
+    let above = paths::link_in(path, c - 2);
     if pool::is_red(pool, w) {
-        let ending = red_sibling(pool, above, z, w);
-        return Climb { levels: m, ending };
+        return climb(m, red_sibling(pool, above, z, w));
     }
     if red_child(pool, w) {
         let rotation = borrow(pool, above, z, w);
-        return Climb {
-            levels: m,
-            ending: Ending::Rotate(rotation),
-        };
+        return climb(m, Ending::Rotate(rotation));
     }
     sink(pool, path, c - 1, m + 1, parent)
 }
@@ -226,7 +215,7 @@ pub fn paint_sink(pool: &mut [u32], path: &[u64], c: u32, m: u32)
     if c == 0 {
         return;
     }
-    let l = link_in(path, c - 1);
+    let l = paths::link_in(path, c - 1);
     let w = pool::child(pool, pool::other(register::side_of(l)), register::owner(l));
     pool::set_word(pool, w, pool::COLOUR, pool::RED);
     paint_sink(pool, path, c - 1, m - 1);

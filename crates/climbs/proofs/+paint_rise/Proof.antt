@@ -10,7 +10,7 @@ use borrow.Fn.PlainCycle.{Measures, is, falls, and}
 use Rattle.climbs.proofs.paint_rise.Reads as paint-rise
 use Rattle.climbs.proofs.paint_rise.Kinds as paint-rise-kinds
 use Rattle.climbs.proofs.+paint_rise.Lts-paint_rise as paint-rise-lts
-use Rattle.climbs.proofs.link_in.Reads as link-in-reads
+use Rattle.paths.proofs.link_in.Reads as link-in-reads
 use Rattle.climbs.proofs.paint_level.Reads as paint-level-reads
 use Rattle.pool.proofs.child.Reads as child-reads
 use Rattle.pool.proofs.other.Reads as other-reads

@@ -10,7 +10,7 @@ use borrow.Fn.PlainCycle.{Measures, is, falls, and}
 use Rattle.climbs.proofs.paint_sink.Reads as paint-sink
 use Rattle.climbs.proofs.paint_sink.Kinds as paint-sink-kinds
 use Rattle.climbs.proofs.+paint_sink.Lts-paint_sink as paint-sink-lts
-use Rattle.climbs.proofs.link_in.Reads as link-in-reads
+use Rattle.paths.proofs.link_in.Reads as link-in-reads
 use Rattle.pool.proofs.child.Reads as child-reads
 use Rattle.pool.proofs.other.Reads as other-reads
 use Rattle.pool.proofs.set_word.Reads as set-word-reads

@@ -1,4 +1,5 @@
-use Rattle.climbs.specs.Rises.{linkIn, rise-none, rise-root, rise-calm, rise-top, rise-turn, rise-on}
+use Rattle.paths.specs.Upward.{linkIn}
+use Rattle.climbs.specs.Rises.{rise-none, rise-root, rise-calm, rise-top, rise-turn, rise-on}
 use Rattle.spec.specs.Pool.{isRed, child}
 use Rattle.types.specs.Side.{other, owner, sideOf}
 use mathlib.Core.Bool.{true, false}
@@ -12,8 +13,9 @@ use borrow.Fn.PlainCycle.{Measures, is, falls, and}
 use Rattle.climbs.proofs.rise.Reads as rise
 use Rattle.climbs.proofs.rise.Kinds as rise-kinds
 use Rattle.climbs.proofs.+rise.Lts-rise as rise-lts
+use Rattle.climbs.proofs.climb.Reads as climb-reads
 use Rattle.climbs.proofs.form_of.Reads as form-of-reads
-use Rattle.climbs.proofs.link_in.Reads as link-in-reads
+use Rattle.paths.proofs.link_in.Reads as link-in-reads
 use Rattle.pool.proofs.child.Reads as child-reads
 use Rattle.pool.proofs.is_red.Reads as is-red-reads
 use Rattle.pool.proofs.other.Reads as other-reads
@@ -31,8 +33,33 @@ rise-at t = and 2 rise-kinds.ps (is 2 rise-kinds.ps μ-rise t) rise.Pre
 abbrev rise-below : ℕ → In 2 rise-kinds.ps
 rise-below t = and 2 rise-kinds.ps (falls 2 rise-kinds.ps _<_ μ-rise t) rise.Pre
 
--- src/lib.rt:51:9
+-- src/lib.rt:70:9
+rise-climb-requires : (t : ℕ) → rise-lts.Need-climb-requires (
+  climb-reads.Asked,
+  climb-reads.Learnt,
+  link-in-reads.Asked,
+  link-in-reads.Learnt,
+  owner-reads.Asked,
+  owner-reads.Learnt,
+  is-red-reads.Asked,
+  is-red-reads.Learnt,
+  side-of-reads.Asked,
+  side-of-reads.Learnt,
+  other-reads.Asked,
+  other-reads.Learnt,
+  child-reads.Asked,
+  child-reads.Learnt,
+  rise-below t,
+  rise.Post,
+  form-of-reads.Asked,
+  form-of-reads.Learnt,
+) (rise-at t) rise.Post
+rise-climb-requires t c κs = search needs
+
+-- src/lib.rt:70:9
 rise-returns : (t : ℕ) → rise-lts.Need-returns (
+  climb-reads.Asked,
+  climb-reads.Learnt,
   link-in-reads.Asked,
   link-in-reads.Learnt,
   owner-reads.Asked,
@@ -50,10 +77,35 @@ rise-returns : (t : ℕ) → rise-lts.Need-returns (
   form-of-reads.Asked,
   form-of-reads.Learnt,
 ) (rise-at t) rise.Post
-rise-returns t c = let a = c .before .before .before .args in sym (rise-none (a .pool .now) (a .m) (a .path .now) (a .c) (c .if1 .taken))
+rise-returns t c = let a = c .before .before .before .before .args in c .climb .ensures ∙ sym (rise-none (a .pool .now) (a .m) (a .path .now) (a .c) (c .before .if1 .taken))
 
--- src/lib.rt:57:9
+-- src/lib.rt:73:9
+rise-climb-requires-2 : (t : ℕ) → rise-lts.Need-climb-requires-2 (
+  climb-reads.Asked,
+  climb-reads.Learnt,
+  link-in-reads.Asked,
+  link-in-reads.Learnt,
+  owner-reads.Asked,
+  owner-reads.Learnt,
+  is-red-reads.Asked,
+  is-red-reads.Learnt,
+  side-of-reads.Asked,
+  side-of-reads.Learnt,
+  other-reads.Asked,
+  other-reads.Learnt,
+  child-reads.Asked,
+  child-reads.Learnt,
+  rise-below t,
+  rise.Post,
+  form-of-reads.Asked,
+  form-of-reads.Learnt,
+) (rise-at t) rise.Post
+rise-climb-requires-2 t c κs = search needs
+
+-- src/lib.rt:73:9
 rise-returns-2 : (t : ℕ) → rise-lts.Need-returns-2 (
+  climb-reads.Asked,
+  climb-reads.Learnt,
   link-in-reads.Asked,
   link-in-reads.Learnt,
   owner-reads.Asked,
@@ -71,10 +123,12 @@ rise-returns-2 : (t : ℕ) → rise-lts.Need-returns-2 (
   form-of-reads.Asked,
   form-of-reads.Learnt,
 ) (rise-at t) rise.Post
-rise-returns-2 t c = let a = c .before .before .before .before .args in sym (rise-root (a .pool .now) (a .m) (a .path .now) (a .c) (c .if2 .taken))
+rise-returns-2 t c = let a = c .before .before .before .before .before .args in c .climb2 .ensures ∙ sym (rise-root (a .pool .now) (a .m) (a .path .now) (a .c) (c .before .if2 .taken))
 
--- src/lib.rt:62:27
+-- src/lib.rt:75:34
 rise-sub-link-in : (t : ℕ) → rise-lts.Need-sub-link-in (
+  climb-reads.Asked,
+  climb-reads.Learnt,
   link-in-reads.Asked,
   link-in-reads.Learnt,
   owner-reads.Asked,
@@ -94,8 +148,10 @@ rise-sub-link-in : (t : ℕ) → rise-lts.Need-sub-link-in (
 ) (rise-at t) rise.Post
 rise-sub-link-in t c = search needs
 
--- src/lib.rt:62:9
+-- src/lib.rt:75:9
 rise-link-in-requires : (t : ℕ) → rise-lts.Need-link-in-requires (
+  climb-reads.Asked,
+  climb-reads.Learnt,
   link-in-reads.Asked,
   link-in-reads.Learnt,
   owner-reads.Asked,
@@ -115,8 +171,10 @@ rise-link-in-requires : (t : ℕ) → rise-lts.Need-link-in-requires (
 ) (rise-at t) rise.Post
 rise-link-in-requires t c κs = search needs
 
--- src/lib.rt:63:27
+-- src/lib.rt:76:27
 rise-owner-requires : (t : ℕ) → rise-lts.Need-owner-requires (
+  climb-reads.Asked,
+  climb-reads.Learnt,
   link-in-reads.Asked,
   link-in-reads.Learnt,
   owner-reads.Asked,
@@ -136,8 +194,10 @@ rise-owner-requires : (t : ℕ) → rise-lts.Need-owner-requires (
 ) (rise-at t) rise.Post
 rise-owner-requires t c κs = search needs
 
--- src/lib.rt:63:8
+-- src/lib.rt:76:8
 rise-is-red-requires : (t : ℕ) → rise-lts.Need-is-red-requires (
+  climb-reads.Asked,
+  climb-reads.Learnt,
   link-in-reads.Asked,
   link-in-reads.Learnt,
   owner-reads.Asked,
@@ -157,8 +217,33 @@ rise-is-red-requires : (t : ℕ) → rise-lts.Need-is-red-requires (
 ) (rise-at t) rise.Post
 rise-is-red-requires t c κs = search needs
 
--- src/lib.rt:64:9
+-- src/lib.rt:77:9
+rise-climb-requires-3 : (t : ℕ) → rise-lts.Need-climb-requires-3 (
+  climb-reads.Asked,
+  climb-reads.Learnt,
+  link-in-reads.Asked,
+  link-in-reads.Learnt,
+  owner-reads.Asked,
+  owner-reads.Learnt,
+  is-red-reads.Asked,
+  is-red-reads.Learnt,
+  side-of-reads.Asked,
+  side-of-reads.Learnt,
+  other-reads.Asked,
+  other-reads.Learnt,
+  child-reads.Asked,
+  child-reads.Learnt,
+  rise-below t,
+  rise.Post,
+  form-of-reads.Asked,
+  form-of-reads.Learnt,
+) (rise-at t) rise.Post
+rise-climb-requires-3 t c κs = search needs
+
+-- src/lib.rt:77:9
 rise-returns-3 : (t : ℕ) → rise-lts.Need-returns-3 (
+  climb-reads.Asked,
+  climb-reads.Learnt,
   link-in-reads.Asked,
   link-in-reads.Learnt,
   owner-reads.Asked,
@@ -176,11 +261,36 @@ rise-returns-3 : (t : ℕ) → rise-lts.Need-returns-3 (
   form-of-reads.Asked,
   form-of-reads.Learnt,
 ) (rise-at t) rise.Post
-rise-returns-3 t c = let a = c .before .before .before .before .before .before .before .before .args in let f = c .before .before .before .before .before .if1 .left in let g = c .before .before .before .before .if2 .left in let e : isRed (a .pool .now) (owner (linkIn (a .path .now) (a .c - 1))) ≡ false = rw (← (c .before .before .before .link-in .ensures), ← (c .before .before .owner .ensures), ← (c .before .is-red .ensures)) (c .if3 .left) in
-    sym (rise-calm (a .pool .now) (a .m) (a .path .now) (a .c) (omega arith) e)
+rise-returns-3 t c = let a = c .before .before .before .before .before .before .before .before .before .args in let f = c .before .before .before .before .before .before .if1 .left in let g = c .before .before .before .before .before .if2 .left in let e : isRed (a .pool .now) (owner (linkIn (a .path .now) (a .c - 1))) ≡ false = rw (← (c .before .before .before .before .link-in .ensures), ← (c .before .before .before .owner .ensures), ← (c .before .before .is-red .ensures)) (c .before .if3 .left) in
+    c .climb3 .ensures ∙ sym (rise-calm (a .pool .now) (a .m) (a .path .now) (a .c) (omega arith) e)
 
--- src/lib.rt:70:9
+-- src/lib.rt:80:9
+rise-climb-requires-4 : (t : ℕ) → rise-lts.Need-climb-requires-4 (
+  climb-reads.Asked,
+  climb-reads.Learnt,
+  link-in-reads.Asked,
+  link-in-reads.Learnt,
+  owner-reads.Asked,
+  owner-reads.Learnt,
+  is-red-reads.Asked,
+  is-red-reads.Learnt,
+  side-of-reads.Asked,
+  side-of-reads.Learnt,
+  other-reads.Asked,
+  other-reads.Learnt,
+  child-reads.Asked,
+  child-reads.Learnt,
+  rise-below t,
+  rise.Post,
+  form-of-reads.Asked,
+  form-of-reads.Learnt,
+) (rise-at t) rise.Post
+rise-climb-requires-4 t c κs = search needs
+
+-- src/lib.rt:80:9
 rise-returns-4 : (t : ℕ) → rise-lts.Need-returns-4 (
+  climb-reads.Asked,
+  climb-reads.Learnt,
   link-in-reads.Asked,
   link-in-reads.Learnt,
   owner-reads.Asked,
@@ -198,11 +308,13 @@ rise-returns-4 : (t : ℕ) → rise-lts.Need-returns-4 (
   form-of-reads.Asked,
   form-of-reads.Learnt,
 ) (rise-at t) rise.Post
-rise-returns-4 t c = let a = c .before .before .before .before .before .before .before .before .before .args in let e : isRed (a .pool .now) (owner (linkIn (a .path .now) (a .c - 1))) ≡ true = rw (← (c .before .before .before .before .link-in .ensures), ← (c .before .before .before .owner .ensures), ← (c .before .before .is-red .ensures)) (c .before .if3 .taken) in
-    sym (rise-top (a .pool .now) (a .m) (a .path .now) (a .c) (c .if4 .taken) e)
+rise-returns-4 t c = let a = c .before .before .before .before .before .before .before .before .before .before .args in let e : isRed (a .pool .now) (owner (linkIn (a .path .now) (a .c - 1))) ≡ true = rw (← (c .before .before .before .before .before .link-in .ensures), ← (c .before .before .before .before .owner .ensures), ← (c .before .before .before .is-red .ensures)) (c .before .before .if3 .taken) in
+    c .climb4 .ensures ∙ sym (rise-top (a .pool .now) (a .m) (a .path .now) (a .c) (c .before .if4 .taken) e)
 
--- src/lib.rt:75:27
+-- src/lib.rt:82:34
 rise-sub-link-in-2 : (t : ℕ) → rise-lts.Need-sub-link-in-2 (
+  climb-reads.Asked,
+  climb-reads.Learnt,
   link-in-reads.Asked,
   link-in-reads.Learnt,
   owner-reads.Asked,
@@ -222,8 +334,10 @@ rise-sub-link-in-2 : (t : ℕ) → rise-lts.Need-sub-link-in-2 (
 ) (rise-at t) rise.Post
 rise-sub-link-in-2 t c = search needs
 
--- src/lib.rt:75:9
+-- src/lib.rt:82:9
 rise-link-in-requires-2 : (t : ℕ) → rise-lts.Need-link-in-requires-2 (
+  climb-reads.Asked,
+  climb-reads.Learnt,
   link-in-reads.Asked,
   link-in-reads.Learnt,
   owner-reads.Asked,
@@ -243,8 +357,10 @@ rise-link-in-requires-2 : (t : ℕ) → rise-lts.Need-link-in-requires-2 (
 ) (rise-at t) rise.Post
 rise-link-in-requires-2 t c κs = search needs
 
--- src/lib.rt:76:9
+-- src/lib.rt:83:9
 rise-side-of-requires : (t : ℕ) → rise-lts.Need-side-of-requires (
+  climb-reads.Asked,
+  climb-reads.Learnt,
   link-in-reads.Asked,
   link-in-reads.Learnt,
   owner-reads.Asked,
@@ -264,8 +380,10 @@ rise-side-of-requires : (t : ℕ) → rise-lts.Need-side-of-requires (
 ) (rise-at t) rise.Post
 rise-side-of-requires t c κs = search needs
 
--- src/lib.rt:77:34
+-- src/lib.rt:84:34
 rise-other-requires : (t : ℕ) → rise-lts.Need-other-requires (
+  climb-reads.Asked,
+  climb-reads.Learnt,
   link-in-reads.Asked,
   link-in-reads.Learnt,
   owner-reads.Asked,
@@ -285,8 +403,10 @@ rise-other-requires : (t : ℕ) → rise-lts.Need-other-requires (
 ) (rise-at t) rise.Post
 rise-other-requires t c κs = search needs
 
--- src/lib.rt:77:50
+-- src/lib.rt:84:50
 rise-owner-requires-2 : (t : ℕ) → rise-lts.Need-owner-requires-2 (
+  climb-reads.Asked,
+  climb-reads.Learnt,
   link-in-reads.Asked,
   link-in-reads.Learnt,
   owner-reads.Asked,
@@ -306,8 +426,10 @@ rise-owner-requires-2 : (t : ℕ) → rise-lts.Need-owner-requires-2 (
 ) (rise-at t) rise.Post
 rise-owner-requires-2 t c κs = search needs
 
--- src/lib.rt:77:9
+-- src/lib.rt:84:9
 rise-child-requires : (t : ℕ) → rise-lts.Need-child-requires (
+  climb-reads.Asked,
+  climb-reads.Learnt,
   link-in-reads.Asked,
   link-in-reads.Learnt,
   owner-reads.Asked,
@@ -327,8 +449,10 @@ rise-child-requires : (t : ℕ) → rise-lts.Need-child-requires (
 ) (rise-at t) rise.Post
 rise-child-requires t c κs = search needs
 
--- src/lib.rt:78:8
+-- src/lib.rt:85:8
 rise-is-red-requires-2 : (t : ℕ) → rise-lts.Need-is-red-requires-2 (
+  climb-reads.Asked,
+  climb-reads.Learnt,
   link-in-reads.Asked,
   link-in-reads.Learnt,
   owner-reads.Asked,
@@ -348,8 +472,10 @@ rise-is-red-requires-2 : (t : ℕ) → rise-lts.Need-is-red-requires-2 (
 ) (rise-at t) rise.Post
 rise-is-red-requires-2 t c κs = search needs
 
--- src/lib.rt:79:33
+-- src/lib.rt:86:33
 rise-sub-rise : (t : ℕ) → rise-lts.Need-sub-rise (
+  climb-reads.Asked,
+  climb-reads.Learnt,
   link-in-reads.Asked,
   link-in-reads.Learnt,
   owner-reads.Asked,
@@ -369,8 +495,10 @@ rise-sub-rise : (t : ℕ) → rise-lts.Need-sub-rise (
 ) (rise-at t) rise.Post
 rise-sub-rise t c = search needs
 
--- src/lib.rt:79:40
+-- src/lib.rt:86:40
 rise-add-rise : (t : ℕ) → rise-lts.Need-add-rise (
+  climb-reads.Asked,
+  climb-reads.Learnt,
   link-in-reads.Asked,
   link-in-reads.Learnt,
   owner-reads.Asked,
@@ -390,8 +518,10 @@ rise-add-rise : (t : ℕ) → rise-lts.Need-add-rise (
 ) (rise-at t) rise.Post
 rise-add-rise t c = search needs
 
--- src/lib.rt:79:9
+-- src/lib.rt:86:9
 rise-rise-requires : (t : ℕ) → rise-lts.Need-rise-requires (
+  climb-reads.Asked,
+  climb-reads.Learnt,
   link-in-reads.Asked,
   link-in-reads.Learnt,
   owner-reads.Asked,
@@ -411,8 +541,10 @@ rise-rise-requires : (t : ℕ) → rise-lts.Need-rise-requires (
 ) (rise-at t) rise.Post
 rise-rise-requires t c κs = search needs
 
--- src/lib.rt:79:9
+-- src/lib.rt:86:9
 rise-returns-5 : (t : ℕ) → rise-lts.Need-returns-5 (
+  climb-reads.Asked,
+  climb-reads.Learnt,
   link-in-reads.Asked,
   link-in-reads.Learnt,
   owner-reads.Asked,
@@ -434,8 +566,10 @@ rise-returns-5 t c = let a = c .before .before .before .before .before .before .
     let i : isRed (a .pool .now) (child (a .pool .now) (other (sideOf (linkIn (a .path .now) (a .c - 2)))) (owner (linkIn (a .path .now) (a .c - 2)))) ≡ true = rw (← (c .before .before .before .before .before .before .before .link-in2 .ensures), ← (c .before .before .before .before .before .before .side-of .ensures), ← (c .before .before .before .before .before .other .ensures), ← (c .before .before .before .before .owner2 .ensures), ← (c .before .before .before .child .ensures), ← (c .before .before .is-red2 .ensures)) (c .before .if5 .taken) in
     c .rise .ensures ∙ sym (rise-on (a .pool .now) (a .m) (a .path .now) (a .c) (omega arith) e i)
 
--- src/lib.rt:81:30
+-- src/lib.rt:88:37
 rise-sub-link-in-3 : (t : ℕ) → rise-lts.Need-sub-link-in-3 (
+  climb-reads.Asked,
+  climb-reads.Learnt,
   link-in-reads.Asked,
   link-in-reads.Learnt,
   owner-reads.Asked,
@@ -455,8 +589,10 @@ rise-sub-link-in-3 : (t : ℕ) → rise-lts.Need-sub-link-in-3 (
 ) (rise-at t) rise.Post
 rise-sub-link-in-3 t c = search needs
 
--- src/lib.rt:81:9
+-- src/lib.rt:88:9
 rise-link-in-requires-3 : (t : ℕ) → rise-lts.Need-link-in-requires-3 (
+  climb-reads.Asked,
+  climb-reads.Learnt,
   link-in-reads.Asked,
   link-in-reads.Learnt,
   owner-reads.Asked,
@@ -476,8 +612,10 @@ rise-link-in-requires-3 : (t : ℕ) → rise-lts.Need-link-in-requires-3 (
 ) (rise-at t) rise.Post
 rise-link-in-requires-3 t c κs = search needs
 
--- src/lib.rt:82:24
+-- src/lib.rt:89:24
 rise-side-of-requires-2 : (t : ℕ) → rise-lts.Need-side-of-requires-2 (
+  climb-reads.Asked,
+  climb-reads.Learnt,
   link-in-reads.Asked,
   link-in-reads.Learnt,
   owner-reads.Asked,
@@ -497,8 +635,10 @@ rise-side-of-requires-2 : (t : ℕ) → rise-lts.Need-side-of-requires-2 (
 ) (rise-at t) rise.Post
 rise-side-of-requires-2 t c κs = search needs
 
--- src/lib.rt:82:9
+-- src/lib.rt:89:9
 rise-form-of-requires : (t : ℕ) → rise-lts.Need-form-of-requires (
+  climb-reads.Asked,
+  climb-reads.Learnt,
   link-in-reads.Asked,
   link-in-reads.Learnt,
   owner-reads.Asked,
@@ -518,8 +658,10 @@ rise-form-of-requires : (t : ℕ) → rise-lts.Need-form-of-requires (
 ) (rise-at t) rise.Post
 rise-form-of-requires t c κs = search needs
 
--- src/lib.rt:46:1
-rise-returns-6 : (t : ℕ) → rise-lts.Need-returns-6 (
+-- src/lib.rt:96:5
+rise-climb-requires-5 : (t : ℕ) → rise-lts.Need-climb-requires-5 (
+  climb-reads.Asked,
+  climb-reads.Learnt,
   link-in-reads.Asked,
   link-in-reads.Learnt,
   owner-reads.Asked,
@@ -537,12 +679,37 @@ rise-returns-6 : (t : ℕ) → rise-lts.Need-returns-6 (
   form-of-reads.Asked,
   form-of-reads.Learnt,
 ) (rise-at t) rise.Post
-rise-returns-6 t c = let a = c .before .before .before .before .before .before .before .before .before .before .before .before .before .before .before .before .before .before .before .args in let f = c .before .before .before .before .before .before .before .before .before .before .before .before .before .before .before .before .if1 .left in let g = c .before .before .before .before .before .before .before .before .before .before .before .before .before .before .before .if2 .left in let h = c .before .before .before .before .before .before .before .before .before .before .if4 .left in let e : isRed (a .pool .now) (owner (linkIn (a .path .now) (a .c - 1))) ≡ true = rw (← (c .before .before .before .before .before .before .before .before .before .before .before .before .before .before .link-in .ensures), ← (c .before .before .before .before .before .before .before .before .before .before .before .before .before .owner .ensures), ← (c .before .before .before .before .before .before .before .before .before .before .before .before .is-red .ensures)) (c .before .before .before .before .before .before .before .before .before .before .before .if3 .taken) in
-    let i : isRed (a .pool .now) (child (a .pool .now) (other (sideOf (linkIn (a .path .now) (a .c - 2)))) (owner (linkIn (a .path .now) (a .c - 2)))) ≡ false = rw (← (c .before .before .before .before .before .before .before .before .before .link-in2 .ensures), ← (c .before .before .before .before .before .before .before .before .side-of .ensures), ← (c .before .before .before .before .before .before .before .other .ensures), ← (c .before .before .before .before .before .before .owner2 .ensures), ← (c .before .before .before .before .before .child .ensures), ← (c .before .before .before .before .is-red2 .ensures)) (c .before .before .before .if5 .left) in
-    rw (c .form-of .ensures, c .before .side-of2 .ensures, c .before .before .before .before .before .before .before .before .side-of .ensures, c .before .before .link-in3 .ensures, c .before .before .before .before .before .before .before .before .before .link-in2 .ensures, c .before .before .before .before .before .before .before .before .before .before .before .before .before .before .link-in .ensures) (sym (rise-turn (a .pool .now) (a .m) (a .path .now) (a .c) (omega arith) e i))
+rise-climb-requires-5 t c κs = search needs
+
+-- src/lib.rt:65:1
+rise-returns-6 : (t : ℕ) → rise-lts.Need-returns-6 (
+  climb-reads.Asked,
+  climb-reads.Learnt,
+  link-in-reads.Asked,
+  link-in-reads.Learnt,
+  owner-reads.Asked,
+  owner-reads.Learnt,
+  is-red-reads.Asked,
+  is-red-reads.Learnt,
+  side-of-reads.Asked,
+  side-of-reads.Learnt,
+  other-reads.Asked,
+  other-reads.Learnt,
+  child-reads.Asked,
+  child-reads.Learnt,
+  rise-below t,
+  rise.Post,
+  form-of-reads.Asked,
+  form-of-reads.Learnt,
+) (rise-at t) rise.Post
+rise-returns-6 t c = let a = c .before .before .before .before .before .before .before .before .before .before .before .before .before .before .before .before .before .before .before .before .args in let f = c .before .before .before .before .before .before .before .before .before .before .before .before .before .before .before .before .before .if1 .left in let g = c .before .before .before .before .before .before .before .before .before .before .before .before .before .before .before .before .if2 .left in let h = c .before .before .before .before .before .before .before .before .before .before .before .if4 .left in let e : isRed (a .pool .now) (owner (linkIn (a .path .now) (a .c - 1))) ≡ true = rw (← (c .before .before .before .before .before .before .before .before .before .before .before .before .before .before .before .link-in .ensures), ← (c .before .before .before .before .before .before .before .before .before .before .before .before .before .before .owner .ensures), ← (c .before .before .before .before .before .before .before .before .before .before .before .before .before .is-red .ensures)) (c .before .before .before .before .before .before .before .before .before .before .before .before .if3 .taken) in
+    let i : isRed (a .pool .now) (child (a .pool .now) (other (sideOf (linkIn (a .path .now) (a .c - 2)))) (owner (linkIn (a .path .now) (a .c - 2)))) ≡ false = rw (← (c .before .before .before .before .before .before .before .before .before .before .link-in2 .ensures), ← (c .before .before .before .before .before .before .before .before .before .side-of .ensures), ← (c .before .before .before .before .before .before .before .before .other .ensures), ← (c .before .before .before .before .before .before .before .owner2 .ensures), ← (c .before .before .before .before .before .before .child .ensures), ← (c .before .before .before .before .before .is-red2 .ensures)) (c .before .before .before .before .if5 .left) in
+    rw (c .climb5 .ensures, c .before .form-of .ensures, c .before .before .side-of2 .ensures, c .before .before .before .before .before .before .before .before .before .side-of .ensures, c .before .before .before .link-in3 .ensures, c .before .before .before .before .before .before .before .before .before .before .link-in2 .ensures, c .before .before .before .before .before .before .before .before .before .before .before .before .before .before .before .link-in .ensures) (sym (rise-turn (a .pool .now) (a .m) (a .path .now) (a .c) (omega arith) e i))
 
 pub +rise-spec : {M : Type 1} → statement M
 +rise-spec = close μ-rise λ t. rise-lts.spec (
+  climb-reads.Asked,
+  climb-reads.Learnt,
   link-in-reads.Asked,
   link-in-reads.Learnt,
   owner-reads.Asked,
@@ -562,13 +729,17 @@ pub +rise-spec : {M : Type 1} → statement M
 )
     (rise-at t)
     rise.Post
+    (rise-climb-requires t)
     (rise-returns t)
+    (rise-climb-requires-2 t)
     (rise-returns-2 t)
     (rise-sub-link-in t)
     (rise-link-in-requires t)
     (rise-owner-requires t)
     (rise-is-red-requires t)
+    (rise-climb-requires-3 t)
     (rise-returns-3 t)
+    (rise-climb-requires-4 t)
     (rise-returns-4 t)
     (rise-sub-link-in-2 t)
     (rise-link-in-requires-2 t)
@@ -585,4 +756,5 @@ pub +rise-spec : {M : Type 1} → statement M
     (rise-link-in-requires-3 t)
     (rise-side-of-requires-2 t)
     (rise-form-of-requires t)
+    (rise-climb-requires-5 t)
     (rise-returns-6 t)

@@ -1,5 +1,3 @@
-use Rattle.paths.specs.Upward.{upward-none}
-use Rattle.spec.specs.Search.{pathTo}
 use Rattle.spec.specs.Pool.{isRed}
 use Rattle.types.specs.Side.{owner}
 use mathlib.Core.Bool.{true, false}
@@ -11,42 +9,47 @@ use Rattle.plans.proofs.insert_climb.Statement.{statement}
 use Rattle.plans.proofs.insert_climb.Tie as tie
 use Rattle.plans.proofs.insert_climb.Reads as reads
 use Rattle.plans.proofs.insert_climb.Lts as lts
+use Rattle.climbs.proofs.climb.Reads as climb-reads
 use Rattle.climbs.proofs.rise.Reads as rise-reads
-use Rattle.paths.proofs.trail.Reads as trail-reads
+use Rattle.paths.proofs.path_to.Reads as path-to-reads
 use Rattle.pool.proofs.is_red.Reads as is-red-reads
 use Rattle.register.proofs.owner.Reads as owner-reads
 
--- src/lib.rt:92:27
+-- src/lib.rt:96:27
 owner-requires : tie.Need-owner-requires
 owner-requires c κs = search needs
 
--- src/lib.rt:92:8
+-- src/lib.rt:96:8
 is-red-requires : tie.Need-is-red-requires
 is-red-requires c κs = search needs
 
--- src/lib.rt:93:9
+-- src/lib.rt:97:9
+climb-requires : tie.Need-climb-requires
+climb-requires c κs = search needs
+
+-- src/lib.rt:97:9
 returns : tie.Need-returns
-returns c = let e : isRed (c .before .before .before .before .args .pool .now) (owner (c .before .before .before .before .args .l)) ≡ false = rw (← (c .before .before .owner .ensures), ← (c .before .is-red .ensures)) (c .if1 .left) in rw e
+returns c = let e : isRed (c .before .before .before .before .before .args .pool .now) (owner (c .before .before .before .before .before .args .l)) ≡ false = rw (← (c .before .before .before .owner .ensures), ← (c .before .before .is-red .ensures)) (c .before .if1 .left) in rw (e, c .climb .ensures)
 
--- src/lib.rt:99:56
-slice-aggregate-trail : tie.Need-slice-aggregate-trail
-slice-aggregate-trail c = search needs
+-- src/lib.rt:100:46
+slice-aggregate-path-to : tie.Need-slice-aggregate-path-to
+slice-aggregate-path-to c = search needs
 
--- src/lib.rt:99:9
-trail-requires : tie.Need-trail-requires
-trail-requires c κs = search needs
+-- src/lib.rt:100:9
+path-to-requires : tie.Need-path-to-requires
+path-to-requires c κs = search needs
 
--- src/lib.rt:100:24
+-- src/lib.rt:101:24
 slice-aggregate-rise : tie.Need-slice-aggregate-rise
 slice-aggregate-rise c = search needs
 
--- src/lib.rt:100:5
+-- src/lib.rt:101:5
 rise-requires : tie.Need-rise-requires
 rise-requires c κs = search needs
 
--- src/lib.rt:89:1
+-- src/lib.rt:93:1
 returns-2 : tie.Need-returns-2
-returns-2 c = let e : isRed (c .before .before .before .before .before .before .before .before .before .args .pool .now) (owner (c .before .before .before .before .before .before .before .before .before .args .l)) ≡ true = rw (← (c .before .before .before .before .before .before .before .owner .ensures), ← (c .before .before .before .before .before .before .is-red .ensures)) (c .before .before .before .before .before .if1 .taken) in rw (e, c .rise .ensures, c .before .before .before .trail .ensures .0, upward-none)
+returns-2 c = let e : isRed (c .before .before .before .before .before .before .before .before .before .args .pool .now) (owner (c .before .before .before .before .before .before .before .before .before .args .l)) ≡ true = rw (← (c .before .before .before .before .before .before .before .owner .ensures), ← (c .before .before .before .before .before .before .is-red .ensures)) (c .before .before .before .before .before .if1 .taken) in rw (e, c .rise .ensures, c .before .before .before .path-to .ensures .0)
 
 pub insert-climb-spec : {M : Type 1} → statement M
 insert-climb-spec =
@@ -54,9 +57,10 @@ insert-climb-spec =
     (tie.spec
     owner-requires
     is-red-requires
+    climb-requires
     returns
-    slice-aggregate-trail
-    trail-requires
+    slice-aggregate-path-to
+    path-to-requires
     slice-aggregate-rise
     rise-requires
     returns-2)

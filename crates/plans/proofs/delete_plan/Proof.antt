@@ -1,0 +1,85 @@
+use Rattle.plans.specs.Deletes.{delete-two, delete-one}
+use Rattle.spec.specs.Plan.{twoChildren}
+use Rattle.spec.specs.Register.{state}
+use mathlib.Core.Bool.{true, false}
+use mathlib.Core.Path.{_≡_, refl, sym, ap, _∙_}
+use native.Mathlib.Omega.{arith}
+use borrow.Author.Tests.{eq-eqb, ne-eqb, lt-ltb, le-ltb, lt-leb, le-leb, not-true, not-false}
+use borrow.Author.Needs.{needs}
+use Rattle.plans.proofs.delete_plan.Statement.{statement}
+use Rattle.plans.proofs.delete_plan.Tie as tie
+use Rattle.plans.proofs.delete_plan.Reads as reads
+use Rattle.plans.proofs.delete_plan.Lts as lts
+use Rattle.losses.proofs.two_children.Reads as two-children-reads
+use Rattle.paths.proofs.path_to.Reads as path-to-reads
+use Rattle.paths.proofs.successor_path.Reads as successor-path-reads
+use Rattle.plans.proofs.successor_plan.Reads as successor-plan-reads
+use Rattle.plans.proofs.unlink_plan.Reads as unlink-plan-reads
+use Rattle.pool.proofs.word.Reads as word-reads
+
+-- src/lib.rt:189:9
+word-requires : tie.Need-word-requires
+word-requires c κs = search needs
+
+-- src/lib.rt:190:52
+slice-aggregate-path-to : tie.Need-slice-aggregate-path-to
+slice-aggregate-path-to c = search needs
+
+-- src/lib.rt:190:9
+path-to-requires : tie.Need-path-to-requires
+path-to-requires c κs = search needs
+
+-- src/lib.rt:191:8
+two-children-requires : tie.Need-two-children-requires
+two-children-requires c κs = search needs
+
+-- src/lib.rt:192:48
+slice-aggregate-successor-path : tie.Need-slice-aggregate-successor-path
+slice-aggregate-successor-path c = search needs
+
+-- src/lib.rt:192:13
+successor-path-requires : tie.Need-successor-path-requires
+successor-path-requires c κs = search needs
+
+-- src/lib.rt:193:48
+slice-aggregate-successor-plan : tie.Need-slice-aggregate-successor-plan
+slice-aggregate-successor-plan c = search needs
+
+-- src/lib.rt:193:9
+successor-plan-requires : tie.Need-successor-plan-requires
+successor-plan-requires c κs = search needs
+
+-- src/lib.rt:193:9
+returns : tie.Need-returns
+returns c = let a = c .before .before .before .before .before .before .before .before .before .before .before .before .args in let e : twoChildren (a .pool .now) (a .b) ≡ true = sym (c .before .before .before .before .before .before .two-children .ensures) ∙ c .before .before .before .before .before .if1 .taken in
+    rw (delete-two (state (a .pool .now) (a .reg)) (a .l) (a .b) e, ← (c .before .before .before .before .before .before .before .before .before .before .word .ensures), ← (c .before .before .before .before .before .before .before .before .path-to .ensures .0), ← (c .before .before .before .successor-path .ensures .0)) (c .successor-plan .ensures)
+
+-- src/lib.rt:195:34
+slice-aggregate-unlink-plan : tie.Need-slice-aggregate-unlink-plan
+slice-aggregate-unlink-plan c = search needs
+
+-- src/lib.rt:195:5
+unlink-plan-requires : tie.Need-unlink-plan-requires
+unlink-plan-requires c κs = search needs
+
+-- src/lib.rt:184:1
+returns-2 : tie.Need-returns-2
+returns-2 c = let a = c .before .before .before .before .before .before .before .before .before .args in let e : twoChildren (a .pool .now) (a .b) ≡ false = sym (c .before .before .before .two-children .ensures) ∙ c .before .before .if1 .left in
+    rw (delete-one (state (a .pool .now) (a .reg)) (a .l) (a .b) e, ← (c .before .before .before .before .before .before .before .word .ensures), ← (c .before .before .before .before .before .path-to .ensures .0)) (c .unlink-plan .ensures)
+
+pub delete-plan-spec : {M : Type 1} → statement M
+delete-plan-spec =
+    tie.close
+    (tie.spec
+    word-requires
+    slice-aggregate-path-to
+    path-to-requires
+    two-children-requires
+    slice-aggregate-successor-path
+    successor-path-requires
+    slice-aggregate-successor-plan
+    successor-plan-requires
+    returns
+    slice-aggregate-unlink-plan
+    unlink-plan-requires
+    returns-2)

@@ -1,0 +1,30 @@
+use Rattle.spec.specs.Register.{writeOf}
+use Rattle.spec.specs.Plan.{store}
+use Rattle.plans.specs.Pushed.{push-write}
+use mathlib.Core.List.{[], _∷_}
+use mathlib.Core.Path.{_≡_, refl, sym, ap, _∙_}
+use native.Mathlib.Omega.{arith}
+use borrow.Author.Tests.{eq-eqb, ne-eqb, lt-ltb, le-ltb, lt-leb, le-leb, not-true, not-false}
+use borrow.Author.Needs.{needs}
+use Rattle.plans.proofs.one_store.Statement.{statement}
+use Rattle.plans.proofs.one_store.Tie as tie
+use Rattle.plans.proofs.one_store.Reads as reads
+use Rattle.plans.proofs.one_store.Lts as lts
+use Rattle.plans.proofs.no_write.Reads as no-write-reads
+use Rattle.plans.proofs.push.Reads as push-reads
+
+-- src/lib.rt:61:10
+no-write-requires : tie.Need-no-write-requires
+no-write-requires c κs = search needs
+
+-- src/lib.rt:61:5
+push-requires : tie.Need-push-requires
+unfolding writeOf
+push-requires c κs = rw (c .no-write .ensures) (omega arith)
+
+-- src/lib.rt:58:1
+returns : tie.Need-returns
+returns c = rw (c .push .ensures, c .before .no-write .ensures) (push-write [] (store (c .before .before .args .l) (c .before .before .args .s) ∷ []) (omega arith))
+
+pub one-store-spec : {M : Type 1} → statement M
+one-store-spec = tie.close (tie.spec no-write-requires push-requires returns)

@@ -1,0 +1,119 @@
+use Rattle.plans.specs.Pushed.{push-write, loss-short}
+use Rattle.plans.specs.Deletes.{nextNode, nextLoss, successor-near, successor-far}
+use Rattle.spec.specs.Plan.{store, endingStores}
+use Rattle.spec.specs.Pool.{word, child, keyWord}
+use Rattle.spec.specs.Register.{writeOf, state}
+use Rattle.paths.specs.Upward.{upward, upward-zero, upward-some}
+use Rattle.types.specs.declared.Side.the-variants.{L, R}
+use Rattle.types.specs.declared.Step.the-variants.{Adopt, Replace, Publish, Detach}
+use mathlib.Core.List.{[], _∷_}
+use mathlib.Core.Path.{_≡_, refl, sym, ap, _∙_}
+use native.Mathlib.Omega.{arith}
+use borrow.Author.Tests.{eq-eqb, ne-eqb, lt-ltb, le-ltb, lt-leb, le-leb, not-true, not-false}
+use borrow.Author.Needs.{needs}
+use Rattle.plans.proofs.successor_plan.Statement.{statement}
+use Rattle.plans.proofs.successor_plan.Tie as tie
+use Rattle.plans.proofs.successor_plan.Reads as reads
+use Rattle.plans.proofs.successor_plan.Lts as lts
+use Rattle.losses.proofs.loss_climb.Reads as loss-climb-reads
+use Rattle.paths.proofs.nearest.Reads as nearest-reads
+use Rattle.plans.proofs.no_write.Reads as no-write-reads
+use Rattle.plans.proofs.plan.Reads as plan-reads
+use Rattle.plans.proofs.two_stores.Reads as two-stores-reads
+use Rattle.pool.proofs.child.Reads as child-reads
+use Rattle.pool.proofs.word.Reads as word-reads
+use Rattle.register.proofs.node_at.Reads as node-at-reads
+
+-- src/lib.rt:169:20
+no-write-requires : tie.Need-no-write-requires
+no-write-requires c κs = search needs
+
+-- src/lib.rt:167:9
+returns : tie.Need-returns
+returns c = rw (upward-zero (c .before .before .before .before .args .path .now) (c .before .before .before .before .args .c) (c .before .if1 .taken)) (refl, c .no-write .ensures)
+
+-- src/lib.rt:172:47
+nearest-requires : tie.Need-nearest-requires
+nearest-requires c κs = search needs
+
+-- src/lib.rt:172:9
+node-at-requires : tie.Need-node-at-requires
+node-at-requires c κs = search needs
+
+-- src/lib.rt:173:41
+child-requires : tie.Need-child-requires
+child-requires c κs = search needs
+
+-- src/lib.rt:173:9
+loss-climb-requires : tie.Need-loss-climb-requires
+loss-climb-requires c κs = search needs
+
+-- src/lib.rt:175:9
+child-requires-2 : tie.Need-child-requires-2
+child-requires-2 c κs = search needs
+
+-- src/lib.rt:176:8
+child-requires-3 : tie.Need-child-requires-3
+child-requires-3 c κs = search needs
+
+-- src/lib.rt:177:21
+two-stores-requires : tie.Need-two-stores-requires
+two-stores-requires c κs = search needs
+
+-- src/lib.rt:177:9
+plan-requires : tie.Need-plan-requires
+unfolding writeOf
+plan-requires c κs = let a = c .before .before .before .before .before .before .before .before .before .before .before .args in rw (c .two-stores .ensures, c .before .before .before .before .loss-climb .ensures) (omega (arith, loss-short (a .pool .now) (c .before .before .before .before .before .before .node-at .result) (c .before .before .before .before .before .child .result) (upward (a .path .now) (a .c))))
+
+-- src/lib.rt:177:9
+returns-2 : tie.Need-returns-2
+returns-2 c = let a = c .before .before .before .before .before .before .before .before .before .before .before .before .args in let p = a .pool .now in let st = state p (a .reg) in let path = upward (a .path .now) (a .c) in
+    let n : c .before .before .before .before .before .before .before .node-at .result ≡ nextNode st path = rw (c .before .before .before .before .before .before .before .node-at .ensures, c .before .before .before .before .before .before .before .before .nearest .ensures) in
+    let i : c .before .before .before .before .before .loss-climb .result .ending ≡ nextLoss st path = rw (c .before .before .before .before .before .loss-climb .ensures, c .before .before .before .before .before .before .child .ensures, n) in
+    let z : child p L (child p R (a .b)) ≡ 0 = rw (← (c .before .before .before .before .child2 .ensures), ← (c .before .before .before .child3 .ensures)) (c .before .before .if2 .taken) in
+    let h = loss-short p (nextNode st path) (child p R (nextNode st path)) path in
+    rw (successor-near st (a .l) (a .b) path (upward-some (a .path .now) (a .c) (c .before .before .before .before .before .before .before .before .before .if1 .left)) z)
+    (rw (c .plan .ensures .0, i), rw (c .plan .ensures .1, c .before .two-stores .ensures, i) (push-write (store (a .l) Adopt ∷ store (a .l) Replace ∷ []) (endingStores (nextLoss st path)) (omega arith)))
+
+-- src/lib.rt:179:9
+word-requires : tie.Need-word-requires
+word-requires c κs = search needs
+
+-- src/lib.rt:180:10
+two-stores-requires-2 : tie.Need-two-stores-requires-2
+two-stores-requires-2 c κs = search needs
+
+-- src/lib.rt:180:5
+plan-requires-2 : tie.Need-plan-requires-2
+unfolding writeOf
+plan-requires-2 c κs = let a = c .before .before .before .before .before .before .before .before .before .before .before .before .args in rw (c .two-stores2 .ensures, c .before .before .before .before .before .loss-climb .ensures) (omega (arith, loss-short (a .pool .now) (c .before .before .before .before .before .before .before .node-at .result) (c .before .before .before .before .before .before .child .result) (upward (a .path .now) (a .c))))
+
+-- src/lib.rt:161:1
+returns-3 : tie.Need-returns-3
+returns-3 c = let a = c .before .before .before .before .before .before .before .before .before .before .before .before .before .args in let p = a .pool .now in let st = state p (a .reg) in let path = upward (a .path .now) (a .c) in
+    let n : c .before .before .before .before .before .before .before .before .node-at .result ≡ nextNode st path = rw (c .before .before .before .before .before .before .before .before .node-at .ensures, c .before .before .before .before .before .before .before .before .before .nearest .ensures) in
+    let i : c .before .before .before .before .before .before .loss-climb .result .ending ≡ nextLoss st path = rw (c .before .before .before .before .before .before .loss-climb .ensures, c .before .before .before .before .before .before .before .child .ensures, n) in
+    let z : child p L (child p R (a .b)) ≡ 0 → ⊥ = rw (← (c .before .before .before .before .before .child2 .ensures), ← (c .before .before .before .before .child3 .ensures)) (c .before .before .before .if2 .left) in
+    let h = loss-short p (nextNode st path) (child p R (nextNode st path)) path in
+    rw (successor-far st (a .l) (a .b) path (upward-some (a .path .now) (a .c) (c .before .before .before .before .before .before .before .before .before .before .if1 .left)) z)
+    (rw (c .plan2 .ensures .0, i), rw (c .plan2 .ensures .1, c .before .two-stores2 .ensures, c .before .before .word .ensures, n, i) (push-write (store (a .l) (Publish (nextNode st path)) ∷ store (a .l) (Detach (word p (a .b) keyWord)) ∷ []) (endingStores (nextLoss st path)) (omega arith)))
+
+pub successor-plan-spec : {M : Type 1} → statement M
+successor-plan-spec =
+    tie.close
+    (tie.spec
+    no-write-requires
+    returns
+    nearest-requires
+    node-at-requires
+    child-requires
+    loss-climb-requires
+    child-requires-2
+    child-requires-3
+    two-stores-requires
+    plan-requires
+    returns-2
+    word-requires
+    two-stores-requires-2
+    plan-requires-2
+    returns-3)

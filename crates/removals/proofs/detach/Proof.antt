@@ -1,0 +1,135 @@
+use Rattle.removals.specs.Removals.{step-missed, reached-some}
+use Rattle.laws.specs.Turns.{tried-made}
+use Rattle.types.specs.declared.Step.the-variants.{Detach}
+use Rattle.spec.specs.Register.{state}
+use Rattle.spec.specs.Turn.{stepFinds, stepMade, detachStore}
+use mathlib.Core.Bool.{true, false}
+use mathlib.Core.Path.{_≡_, refl, sym, ap, _∙_}
+use native.Mathlib.Omega.{arith}
+use borrow.Author.Tests.{eq-eqb, ne-eqb, lt-ltb, le-ltb, lt-leb, le-leb, not-true, not-false}
+use borrow.Author.Needs.{needs}
+use Rattle.removals.proofs.detach.Statement.{statement}
+use Rattle.removals.proofs.detach.Tie as tie
+use Rattle.removals.proofs.detach.Reads as reads
+use Rattle.removals.proofs.detach.Lts as lts
+use Rattle.losses.proofs.loss_climb.Reads as loss-climb-reads
+use Rattle.paths.proofs.nearest.Reads as nearest-reads
+use Rattle.paths.proofs.path_to.Reads as path-to-reads
+use Rattle.paths.proofs.successor_path.Reads as successor-path-reads
+use Rattle.pool.proofs.child.Reads as child-reads
+use Rattle.register.proofs.node_at.Reads as node-at-reads
+use Rattle.register.proofs.set_link.Reads as set-link-reads
+use Rattle.climbs.proofs.calmly.Reads as calmly-reads
+use Rattle.removals.proofs.missed.Reads as missed-reads
+use Rattle.removals.proofs.settle.Reads as settle-reads
+
+-- src/lib.rt:135:9
+node-at-requires : tie.Need-node-at-requires
+node-at-requires c κs = search needs
+
+-- src/lib.rt:137:56
+slice-aggregate-path-to : tie.Need-slice-aggregate-path-to
+slice-aggregate-path-to c = search needs
+
+-- src/lib.rt:137:9
+path-to-requires : tie.Need-path-to-requires
+path-to-requires c κs = search needs
+
+-- src/lib.rt:138:44
+slice-aggregate-successor-path : tie.Need-slice-aggregate-successor-path
+slice-aggregate-successor-path c = search needs
+
+-- src/lib.rt:138:9
+successor-path-requires : tie.Need-successor-path-requires
+successor-path-requires c κs = search needs
+
+-- src/lib.rt:139:31
+slice-aggregate-nearest : tie.Need-slice-aggregate-nearest
+slice-aggregate-nearest c = search needs
+
+-- src/lib.rt:139:9
+nearest-requires : tie.Need-nearest-requires
+nearest-requires c κs = search needs
+
+-- src/lib.rt:140:9
+node-at-requires-2 : tie.Need-node-at-requires-2
+node-at-requires-2 c κs = search needs
+
+-- src/lib.rt:141:9
+child-requires : tie.Need-child-requires
+child-requires c κs = search needs
+
+-- src/lib.rt:142:44
+slice-aggregate-loss-climb : tie.Need-slice-aggregate-loss-climb
+slice-aggregate-loss-climb c = search needs
+
+-- src/lib.rt:142:9
+loss-climb-requires : tie.Need-loss-climb-requires
+loss-climb-requires c κs = search needs
+
+-- src/lib.rt:143:39
+calmly-requires : tie.Need-calmly-requires
+calmly-requires c κs = search needs
+
+-- src/lib.rt:145:9
+missed-requires : tie.Need-missed-requires
+missed-requires c κs = search needs
+
+-- src/lib.rt:145:9
+same-length : tie.Need-same-length
+same-length c = search needs
+
+-- src/lib.rt:145:9
+returns : tie.Need-returns
+unfolding stepFinds
+returns c = let a = c .before .before .before .before .before .before .before .before .before .before .before .before .before .before .before .before .before .before .before .before .before .before .before .args in let st = state (a .pool .now) (a .reg) in
+    let f : stepFinds st (a .l) (Detach (a .key)) ≡ false = rw (← (c .before .before .before .before .before .before .before .before .before .before .before .before .before .before .before .before .before .before .before .before .node-at .ensures), ← (c .before .before .before .before .before .before .before .before .before .before .before .before .before .before .before .before .before .path-to .ensures .0), ← (c .before .before .before .before .before .before .before .before .before .before .before .before .before .successor-path .ensures .0), reached-some, ← (c .before .before .before .before .before .before .before .before .before .before .nearest .ensures), ← (c .before .before .before .before .before .before .before .before .node-at2 .ensures), ← (c .before .before .before .before .before .before .child .ensures), ← (c .before .before .before .loss-climb .ensures), ← (c .before .before .calmly .ensures)) (c .before .if1 .left) in
+    rw (c .missed .ensures) (step-missed st (a .l) (Detach (a .key)) f)
+
+-- src/lib.rt:147:9
+set-link-requires : tie.Need-set-link-requires
+set-link-requires c κs = search needs
+
+-- src/lib.rt:148:47
+slice-aggregate-settle : tie.Need-slice-aggregate-settle
+slice-aggregate-settle c = search needs
+
+-- src/lib.rt:148:9
+settle-requires : tie.Need-settle-requires
+settle-requires c κs = (omega (arith, c .before .before .before .before .before .before .before .before .before .before .before .before .before .before .before .before .before .before .before .before .before .before .before .before .before .before .before .before .pre, c .before .before .before .before .set-link .kept .0), omega (arith, c .before .before .before .before .before .before .before .before .before .before .before .before .before .before .before .before .before .before .successor-path .ensures .1, c .before .before .before .before .before .before .before .before .before .before .before .before .before .before .before .before .before .before .successor-path .kept .1 .1 .0, c .before .before .before .before .before .before .before .before .before .before .before .before .before .before .before .before .before .before .before .before .before .before .path-to .kept .1 .1 .1 .1 .0))
+
+-- src/lib.rt:130:1
+same-length-2 : tie.Need-same-length-2
+same-length-2 c = search needs
+
+-- src/lib.rt:130:1
+returns-2 : tie.Need-returns-2
+unfolding stepFinds stepMade detachStore
+returns-2 c = let a = c .before .before .before .before .before .before .before .before .before .before .before .before .before .before .before .before .before .before .before .before .before .before .before .before .before .before .before .before .before .before .before .args in let st = state (a .pool .now) (a .reg) in
+    let f : stepFinds st (a .l) (Detach (a .key)) ≡ true = rw (← (c .before .before .before .before .before .before .before .before .before .before .before .before .before .before .before .before .before .before .before .before .before .before .before .before .before .before .before .before .node-at .ensures), ← (c .before .before .before .before .before .before .before .before .before .before .before .before .before .before .before .before .before .before .before .before .before .before .before .before .before .path-to .ensures .0), ← (c .before .before .before .before .before .before .before .before .before .before .before .before .before .before .before .before .before .before .before .before .before .successor-path .ensures .0), reached-some, ← (c .before .before .before .before .before .before .before .before .before .before .before .before .before .before .before .before .before .before .nearest .ensures), ← (c .before .before .before .before .before .before .before .before .before .before .before .before .before .before .before .before .node-at2 .ensures), ← (c .before .before .before .before .before .before .before .before .before .before .before .before .before .before .child .ensures), ← (c .before .before .before .before .before .before .before .before .before .before .before .loss-climb .ensures), ← (c .before .before .before .before .before .before .before .before .before .before .calmly .ensures)) (c .before .before .before .before .before .before .before .before .before .if1 .taken) in
+    (c .before .before .before .before .before .before .before .before .before .if1 .taken ∙ sym f, rw (tried-made st (a .l) (Detach (a .key)) f, c .before .before .settle .ensures, c .before .before .before .before .before .before .before .set-link .ensures .0, c .before .before .before .before .before .before .before .set-link .ensures .1, c .before .before .before .before .before .before .before .before .before .before .before .loss-climb .ensures, c .before .before .before .before .before .before .before .before .before .before .before .before .before .before .child .ensures, c .before .before .before .before .before .before .before .before .before .before .before .before .before .before .before .before .node-at2 .ensures, c .before .before .before .before .before .before .before .before .before .before .before .before .before .before .before .before .before .before .nearest .ensures, c .before .before .before .before .before .before .before .before .before .before .before .before .before .before .before .before .before .before .before .before .before .successor-path .ensures .0, c .before .before .before .before .before .before .before .before .before .before .before .before .before .before .before .before .before .before .before .before .before .before .before .before .before .path-to .ensures .0, c .before .before .before .before .before .before .before .before .before .before .before .before .before .before .before .before .before .before .before .before .before .before .before .before .before .before .before .before .node-at .ensures))
+
+pub detach-spec : {M : Type 1} → statement M
+detach-spec =
+    tie.close
+    (tie.spec
+    node-at-requires
+    slice-aggregate-path-to
+    path-to-requires
+    slice-aggregate-successor-path
+    successor-path-requires
+    slice-aggregate-nearest
+    nearest-requires
+    node-at-requires-2
+    child-requires
+    slice-aggregate-loss-climb
+    loss-climb-requires
+    calmly-requires
+    missed-requires
+    same-length
+    returns
+    set-link-requires
+    slice-aggregate-settle
+    settle-requires
+    same-length-2
+    returns-2)

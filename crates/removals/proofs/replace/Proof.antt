@@ -1,0 +1,135 @@
+use Rattle.removals.specs.Removals.{step-missed}
+use Rattle.laws.specs.Turns.{tried-made}
+use Rattle.types.specs.declared.Step.the-variants.{Replace}
+use Rattle.spec.specs.Register.{state}
+use Rattle.spec.specs.Turn.{stepFinds, stepMade, replaceStore}
+use mathlib.Core.Bool.{true, false}
+use mathlib.Core.Path.{_≡_, refl, sym, ap, _∙_}
+use native.Mathlib.Omega.{arith}
+use borrow.Author.Tests.{eq-eqb, ne-eqb, lt-ltb, le-ltb, lt-leb, le-leb, not-true, not-false}
+use borrow.Author.Needs.{needs}
+use Rattle.removals.proofs.replace.Statement.{statement}
+use Rattle.removals.proofs.replace.Tie as tie
+use Rattle.removals.proofs.replace.Reads as reads
+use Rattle.removals.proofs.replace.Lts as lts
+use Rattle.losses.proofs.loss_climb.Reads as loss-climb-reads
+use Rattle.paths.proofs.below_right.Reads as below-right-reads
+use Rattle.paths.proofs.path_to.Reads as path-to-reads
+use Rattle.pool.proofs.child.Reads as child-reads
+use Rattle.pool.proofs.word.Reads as word-reads
+use Rattle.register.proofs.node_at.Reads as node-at-reads
+use Rattle.climbs.proofs.calmly.Reads as calmly-reads
+use Rattle.removals.proofs.missed.Reads as missed-reads
+use Rattle.removals.proofs.settle.Reads as settle-reads
+use Rattle.removals.proofs.store_successor.Reads as store-successor-reads
+
+-- src/lib.rt:106:9
+node-at-requires : tie.Need-node-at-requires
+node-at-requires c κs = search needs
+
+-- src/lib.rt:107:9
+child-requires : tie.Need-child-requires
+child-requires c κs = search needs
+
+-- src/lib.rt:108:9
+child-requires-2 : tie.Need-child-requires-2
+child-requires-2 c κs = search needs
+
+-- src/lib.rt:110:9
+word-requires : tie.Need-word-requires
+word-requires c κs = search needs
+
+-- src/lib.rt:111:56
+slice-aggregate-path-to : tie.Need-slice-aggregate-path-to
+slice-aggregate-path-to c = search needs
+
+-- src/lib.rt:111:9
+path-to-requires : tie.Need-path-to-requires
+path-to-requires c κs = search needs
+
+-- src/lib.rt:112:32
+slice-aggregate-below-right : tie.Need-slice-aggregate-below-right
+slice-aggregate-below-right c = search needs
+
+-- src/lib.rt:112:9
+below-right-requires : tie.Need-below-right-requires
+below-right-requires c κs = search needs
+
+-- src/lib.rt:113:44
+slice-aggregate-loss-climb : tie.Need-slice-aggregate-loss-climb
+slice-aggregate-loss-climb c = search needs
+
+-- src/lib.rt:113:9
+loss-climb-requires : tie.Need-loss-climb-requires
+loss-climb-requires c κs = search needs
+
+-- src/lib.rt:114:28
+calmly-requires : tie.Need-calmly-requires
+calmly-requires c κs = search needs
+
+-- src/lib.rt:116:9
+missed-requires : tie.Need-missed-requires
+missed-requires c κs = search needs
+
+-- src/lib.rt:116:9
+same-length : tie.Need-same-length
+same-length c = search needs
+
+-- src/lib.rt:116:9
+returns : tie.Need-returns
+unfolding stepFinds
+returns c = let a = c .before .before .before .before .before .before .before .before .before .before .before .before .before .before .before .before .before .before .before .before .before .before .args in let st = state (a .pool .now) (a .reg) in
+    let f : stepFinds st (a .l) Replace ≡ false = rw (← (c .before .before .before .before .before .before .before .before .before .before .before .before .before .before .before .before .before .before .before .node-at .ensures), ← (c .before .before .before .before .before .before .before .before .before .before .before .before .before .before .before .before .before .child .ensures), ← (c .before .before .before .before .before .before .before .before .before .before .before .before .before .before .before .child2 .ensures), ← (c .before .before .before .before .before .before .before .before .before .before .before .before .before .word .ensures), ← (c .before .before .before .before .before .before .before .before .before .before .path-to .ensures .0), ← (c .before .before .before .before .before .before .before .below-right .ensures .0), ← (c .before .before .before .loss-climb .ensures), ← (c .before .before .calmly .ensures)) (c .before .if1 .left) in
+    rw (c .missed .ensures) (step-missed st (a .l) Replace f)
+
+-- src/lib.rt:118:9
+word-requires-2 : tie.Need-word-requires-2
+word-requires-2 c κs = search needs
+
+-- src/lib.rt:119:9
+store-successor-requires : tie.Need-store-successor-requires
+store-successor-requires c κs = search needs
+
+-- src/lib.rt:120:45
+slice-aggregate-settle : tie.Need-slice-aggregate-settle
+slice-aggregate-settle c = search needs
+
+-- src/lib.rt:120:9
+settle-requires : tie.Need-settle-requires
+settle-requires c κs = (omega (arith, c .before .before .before .before .before .before .before .before .before .before .before .before .before .before .before .before .before .before .before .before .before .before .before .before .before .before .before .before .before .pre, c .before .before .before .before .store-successor .kept .0), search needs)
+
+-- src/lib.rt:101:1
+same-length-2 : tie.Need-same-length-2
+same-length-2 c = search needs
+
+-- src/lib.rt:101:1
+returns-2 : tie.Need-returns-2
+unfolding stepFinds stepMade replaceStore
+returns-2 c = let a = c .before .before .before .before .before .before .before .before .before .before .before .before .before .before .before .before .before .before .before .before .before .before .before .before .before .before .before .before .before .before .before .before .args in let st = state (a .pool .now) (a .reg) in
+    let f : stepFinds st (a .l) Replace ≡ true = rw (← (c .before .before .before .before .before .before .before .before .before .before .before .before .before .before .before .before .before .before .before .before .before .before .before .before .before .before .before .before .before .node-at .ensures), ← (c .before .before .before .before .before .before .before .before .before .before .before .before .before .before .before .before .before .before .before .before .before .before .before .before .before .before .before .child .ensures), ← (c .before .before .before .before .before .before .before .before .before .before .before .before .before .before .before .before .before .before .before .before .before .before .before .before .before .child2 .ensures), ← (c .before .before .before .before .before .before .before .before .before .before .before .before .before .before .before .before .before .before .before .before .before .before .before .word .ensures), ← (c .before .before .before .before .before .before .before .before .before .before .before .before .before .before .before .before .before .before .before .before .path-to .ensures .0), ← (c .before .before .before .before .before .before .before .before .before .before .before .before .before .before .before .before .before .below-right .ensures .0), ← (c .before .before .before .before .before .before .before .before .before .before .before .before .before .loss-climb .ensures), ← (c .before .before .before .before .before .before .before .before .before .before .before .before .calmly .ensures)) (c .before .before .before .before .before .before .before .before .before .before .before .if1 .taken) in
+    (c .before .before .before .before .before .before .before .before .before .before .before .if1 .taken ∙ sym f, rw (tried-made st (a .l) Replace f, c .before .before .settle .ensures, c .before .before .before .before .before .before .before .store-successor .ensures, c .before .before .before .before .before .before .before .before .before .word2 .ensures, c .before .before .before .before .before .before .before .before .before .before .before .before .before .loss-climb .ensures, c .before .before .before .before .before .before .before .before .before .before .before .before .before .before .before .before .before .below-right .ensures .0, c .before .before .before .before .before .before .before .before .before .before .before .before .before .before .before .before .before .before .before .before .path-to .ensures .0, c .before .before .before .before .before .before .before .before .before .before .before .before .before .before .before .before .before .before .before .before .before .before .before .word .ensures, c .before .before .before .before .before .before .before .before .before .before .before .before .before .before .before .before .before .before .before .before .before .before .before .before .before .child2 .ensures, c .before .before .before .before .before .before .before .before .before .before .before .before .before .before .before .before .before .before .before .before .before .before .before .before .before .before .before .child .ensures, c .before .before .before .before .before .before .before .before .before .before .before .before .before .before .before .before .before .before .before .before .before .before .before .before .before .before .before .before .before .node-at .ensures))
+
+pub replace-spec : {M : Type 1} → statement M
+replace-spec =
+    tie.close
+    (tie.spec
+    node-at-requires
+    child-requires
+    child-requires-2
+    word-requires
+    slice-aggregate-path-to
+    path-to-requires
+    slice-aggregate-below-right
+    below-right-requires
+    slice-aggregate-loss-climb
+    loss-climb-requires
+    calmly-requires
+    missed-requires
+    same-length
+    returns
+    word-requires-2
+    store-successor-requires
+    slice-aggregate-settle
+    settle-requires
+    same-length-2
+    returns-2)

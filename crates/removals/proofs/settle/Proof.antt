@@ -1,0 +1,31 @@
+use Rattle.spec.specs.Plan.{paintLoss}
+use mathlib.Core.Path.{_≡_, refl, sym, ap, _∙_}
+use native.Mathlib.Omega.{arith}
+use borrow.Author.Tests.{eq-eqb, ne-eqb, lt-ltb, le-ltb, lt-leb, le-leb, not-true, not-false}
+use borrow.Author.Needs.{needs}
+use Rattle.removals.proofs.settle.Statement.{statement}
+use Rattle.removals.proofs.settle.Tie as tie
+use Rattle.removals.proofs.settle.Reads as reads
+use Rattle.removals.proofs.settle.Lts as lts
+use Rattle.losses.proofs.paint_loss.Reads as paint-loss-reads
+use Rattle.queue.proofs.retire.Reads as retire-reads
+
+-- src/lib.rt:53:5
+paint-loss-requires : tie.Need-paint-loss-requires
+paint-loss-requires c κs = search needs
+
+-- src/lib.rt:54:5
+retire-requires : tie.Need-retire-requires
+retire-requires c κs = search needs
+
+-- src/lib.rt:41:1
+same-length : tie.Need-same-length
+same-length c = search needs
+
+-- src/lib.rt:41:1
+returns : tie.Need-returns
+unfolding paintLoss
+returns c = rw (c .before .before .retire .ensures .0, c .before .before .retire .ensures .1, c .before .before .before .before .before .before .paint-loss .ensures (c .before .before .before .before .before .before .before .before .before .before .args .reg) refl)
+
+pub settle-spec : {M : Type 1} → statement M
+settle-spec = tie.close (tie.spec paint-loss-requires retire-requires same-length returns)

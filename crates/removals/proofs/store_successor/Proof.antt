@@ -1,0 +1,32 @@
+use Rattle.spec.specs.Register.{state, State}
+use Rattle.spec.specs.Turn.{painted}
+use mathlib.Core.Path.{_≡_, refl, sym, ap, _∙_}
+use native.Mathlib.Omega.{arith}
+use borrow.Author.Tests.{eq-eqb, ne-eqb, lt-ltb, le-ltb, lt-leb, le-leb, not-true, not-false}
+use borrow.Author.Needs.{needs}
+use Rattle.removals.proofs.store_successor.Statement.{statement}
+use Rattle.removals.proofs.store_successor.Tie as tie
+use Rattle.removals.proofs.store_successor.Reads as reads
+use Rattle.removals.proofs.store_successor.Lts as lts
+use Rattle.pool.proofs.set_word.Reads as set-word-reads
+use Rattle.removals.proofs.store_less.Reads as store-less-reads
+
+-- src/lib.rt:95:9
+store-less-requires : tie.Need-store-less-requires
+store-less-requires c κs = search needs
+
+-- src/lib.rt:96:5
+set-word-requires : tie.Need-set-word-requires
+set-word-requires c κs = search needs
+
+-- src/lib.rt:92:1
+same-length : tie.Need-same-length
+same-length c = search needs
+
+-- src/lib.rt:92:1
+returns : tie.Need-returns
+returns c = rw (c .before .before .set-word .ensures) (ap (λ (st : State). painted st (c .before .before .before .before .before .before .before .before .before .args .n) (c .before .before .before .before .before .before .before .before .before .args .colour)) (c .before .before .before .before .before .before .store-less .ensures))
+
+pub store-successor-spec : {M : Type 1} → statement M
+store-successor-spec =
+    tie.close (tie.spec store-less-requires set-word-requires same-length returns)

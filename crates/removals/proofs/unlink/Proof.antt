@@ -1,0 +1,114 @@
+use Rattle.removals.specs.Removals.{step-missed}
+use Rattle.laws.specs.Turns.{tried-made}
+use Rattle.types.specs.declared.Step.the-variants.{Unlink}
+use Rattle.spec.specs.Register.{state}
+use Rattle.spec.specs.Turn.{stepFinds, stepMade, unlinkStore}
+use mathlib.Core.Bool.{true, false}
+use mathlib.Core.Path.{_≡_, refl, sym, ap, _∙_}
+use native.Mathlib.Omega.{arith}
+use borrow.Author.Tests.{eq-eqb, ne-eqb, lt-ltb, le-ltb, lt-leb, le-leb, not-true, not-false}
+use borrow.Author.Needs.{needs}
+use Rattle.removals.proofs.unlink.Statement.{statement}
+use Rattle.removals.proofs.unlink.Tie as tie
+use Rattle.removals.proofs.unlink.Reads as reads
+use Rattle.removals.proofs.unlink.Lts as lts
+use Rattle.losses.proofs.loss_climb.Reads as loss-climb-reads
+use Rattle.losses.proofs.only_child.Reads as only-child-reads
+use Rattle.paths.proofs.path_to.Reads as path-to-reads
+use Rattle.pool.proofs.word.Reads as word-reads
+use Rattle.register.proofs.node_at.Reads as node-at-reads
+use Rattle.climbs.proofs.calmly.Reads as calmly-reads
+use Rattle.removals.proofs.missed.Reads as missed-reads
+use Rattle.removals.proofs.settle.Reads as settle-reads
+use Rattle.removals.proofs.store_less.Reads as store-less-reads
+
+-- src/lib.rt:71:9
+node-at-requires : tie.Need-node-at-requires
+node-at-requires c κs = search needs
+
+-- src/lib.rt:72:9
+only-child-requires : tie.Need-only-child-requires
+only-child-requires c κs = search needs
+
+-- src/lib.rt:74:9
+word-requires : tie.Need-word-requires
+word-requires c κs = search needs
+
+-- src/lib.rt:75:52
+slice-aggregate-path-to : tie.Need-slice-aggregate-path-to
+slice-aggregate-path-to c = search needs
+
+-- src/lib.rt:75:9
+path-to-requires : tie.Need-path-to-requires
+path-to-requires c κs = search needs
+
+-- src/lib.rt:76:44
+slice-aggregate-loss-climb : tie.Need-slice-aggregate-loss-climb
+slice-aggregate-loss-climb c = search needs
+
+-- src/lib.rt:76:9
+loss-climb-requires : tie.Need-loss-climb-requires
+loss-climb-requires c κs = search needs
+
+-- src/lib.rt:77:28
+calmly-requires : tie.Need-calmly-requires
+calmly-requires c κs = search needs
+
+-- src/lib.rt:79:9
+missed-requires : tie.Need-missed-requires
+missed-requires c κs = search needs
+
+-- src/lib.rt:79:9
+same-length : tie.Need-same-length
+same-length c = search needs
+
+-- src/lib.rt:79:9
+returns : tie.Need-returns
+unfolding stepFinds
+returns c = let a = c .before .before .before .before .before .before .before .before .before .before .before .before .before .before .before .before .before .args in let st = state (a .pool .now) (a .reg) in
+    let f : stepFinds st (a .l) Unlink ≡ false = rw (← (c .before .before .before .before .before .before .before .before .before .before .before .before .before .before .node-at .ensures), ← (c .before .before .before .before .before .before .before .before .before .before .before .before .only-child .ensures), ← (c .before .before .before .before .before .before .before .before .before .before .word .ensures), ← (c .before .before .before .before .before .before .before .path-to .ensures .0), ← (c .before .before .before .loss-climb .ensures), ← (c .before .before .calmly .ensures)) (c .before .if1 .left) in
+    rw (c .missed .ensures) (step-missed st (a .l) Unlink f)
+
+-- src/lib.rt:81:9
+store-less-requires : tie.Need-store-less-requires
+store-less-requires c κs = search needs
+
+-- src/lib.rt:82:45
+slice-aggregate-settle : tie.Need-slice-aggregate-settle
+slice-aggregate-settle c = search needs
+
+-- src/lib.rt:82:9
+settle-requires : tie.Need-settle-requires
+settle-requires c κs = (omega (arith, c .before .before .before .before .before .before .before .before .before .before .before .before .before .before .before .before .before .before .before .before .before .before .pre, c .before .before .before .before .store-less .kept .0), search needs)
+
+-- src/lib.rt:66:1
+same-length-2 : tie.Need-same-length-2
+same-length-2 c = search needs
+
+-- src/lib.rt:66:1
+returns-2 : tie.Need-returns-2
+unfolding stepFinds stepMade unlinkStore
+returns-2 c = let a = c .before .before .before .before .before .before .before .before .before .before .before .before .before .before .before .before .before .before .before .before .before .before .before .before .before .args in let st = state (a .pool .now) (a .reg) in
+    let f : stepFinds st (a .l) Unlink ≡ true = rw (← (c .before .before .before .before .before .before .before .before .before .before .before .before .before .before .before .before .before .before .before .before .before .before .node-at .ensures), ← (c .before .before .before .before .before .before .before .before .before .before .before .before .before .before .before .before .before .before .before .before .only-child .ensures), ← (c .before .before .before .before .before .before .before .before .before .before .before .before .before .before .before .before .before .before .word .ensures), ← (c .before .before .before .before .before .before .before .before .before .before .before .before .before .before .before .path-to .ensures .0), ← (c .before .before .before .before .before .before .before .before .before .before .before .loss-climb .ensures), ← (c .before .before .before .before .before .before .before .before .before .before .calmly .ensures)) (c .before .before .before .before .before .before .before .before .before .if1 .taken) in
+    (c .before .before .before .before .before .before .before .before .before .if1 .taken ∙ sym f, rw (tried-made st (a .l) Unlink f, c .before .before .settle .ensures, c .before .before .before .before .before .before .before .store-less .ensures, c .before .before .before .before .before .before .before .before .before .before .before .loss-climb .ensures, c .before .before .before .before .before .before .before .before .before .before .before .before .before .before .before .path-to .ensures .0, c .before .before .before .before .before .before .before .before .before .before .before .before .before .before .before .before .before .before .word .ensures, c .before .before .before .before .before .before .before .before .before .before .before .before .before .before .before .before .before .before .before .before .only-child .ensures, c .before .before .before .before .before .before .before .before .before .before .before .before .before .before .before .before .before .before .before .before .before .before .node-at .ensures))
+
+pub unlink-spec : {M : Type 1} → statement M
+unlink-spec =
+    tie.close
+    (tie.spec
+    node-at-requires
+    only-child-requires
+    word-requires
+    slice-aggregate-path-to
+    path-to-requires
+    slice-aggregate-loss-climb
+    loss-climb-requires
+    calmly-requires
+    missed-requires
+    same-length
+    returns
+    store-less-requires
+    slice-aggregate-settle
+    settle-requires
+    same-length-2
+    returns-2)
