@@ -22,15 +22,15 @@ abbrev pub turned : List ℕ → Turned → Made
 turned p t = made (state p (t .register)) (t .link) (t .node)
 
 -- The answer of a step that misses a node, and of one that finds all.
-abbrev pub Missed : Turned → Register → Type 0
-Missed t r = (t .found ≡ false) × (t .link ≡ Root) × (t .node ≡ 0) × (t .register ≡ r)
+abbrev pub missedBy : Register → Turned
+missedBy r = record { found = false; link = Root; node = 0; register = r }
 
 module _ (st : State) (l : Link) (x : Step) where
   abbrev pub Tells : List ℕ → Turned → Type 0
   Tells p t = (t .found ≡ stepFinds st l x) × (turned p t ≡ tried st l x)
 
-  pub tells-missed : (t : Turned) → stepFinds st l x ≡ false → Missed t (st .register) → Tells (st .pool) t
-  tells-missed t e m = (m .0 ∙ sym e, rw (e, m .1, m .2, m .3))
+  pub tells-missed : (t : Turned) → stepFinds st l x ≡ false → t ≡ missedBy (st .register) → Tells (st .pool) t
+  tells-missed t e m = rw (m, e) (refl, refl)
 
   pub tells-made : (p : List ℕ) (t : Turned) → stepFinds st l x ≡ true → t .found ≡ true → turned p t ≡ stepMade st l x → Tells p t
   tells-made p t e f m = (f ∙ sym e, m ∙ rw e)

@@ -5,6 +5,7 @@ use types::Register;
 use types::Side;
 use types::Step;
 use types::Store;
+use types::Turned;
 use types::Write;
 ghost use mathlib.Core.Path.{_≡_};
 ghost use Prim.Native.Nat.{ℕ, _<_, _≤_, _+_, _*_};
@@ -13,6 +14,7 @@ ghost use Rattle.types.specs.Side.{linkAt, owner, sideOf, sameSide};
 ghost use Rattle.spec.specs.Register.{state, withRoot, withQueue, withHeld, withReader, withAwaited, withWrite, countUp, countDown, nodeAt, setLink, hasSlot, putSlot, dropSlot, readingSlots, nodeNumber, linkInRange, stepInRange, isRoot, isVacant, mostStores, storeInRange, readerInRange, registerInRange};
 ghost use Rattle.spec.specs.Pool.{slots};
 ghost use Rattle.base.specs.Walk.{allIn};
+ghost use Rattle.laws.specs.Turns.{missedBy};
 
 pub const SLOTS: u32 = 8;
 
@@ -146,6 +148,18 @@ pub fn set_link(pool: &mut [u32], reg: Register, l: Link, v: u32) -> Register
             pool::set_word(pool, n, pool::RIGHT, v);
             reg
         }
+    }
+}
+
+// the answer of a step that names a node where there is none
+pub fn missed(register: Register) -> Turned
+    ensures { λ r. ⌜ r ≡ missedBy register ⌝ }
+{
+    Turned {
+        found: false,
+        link: Link::Root,
+        node: 0,
+        register,
     }
 }
 

@@ -5,10 +5,8 @@ use types::Register;
 use types::Side;
 use types::Turned;
 ghost use mathlib.Core.Path.{_≡_};
-ghost use mathlib.Core.Bool.{false};
 ghost use Prim.Native.Nat.{ℕ, _<_, _≤_};
 ghost use lib.ListN.{length};
-ghost use Rattle.types.specs.declared.Link.the-variants.{Root};
 ghost use Rattle.types.specs.declared.Step.the-variants.{Unlink, Replace, Detach};
 ghost use Rattle.spec.specs.Register.{state, setLink};
 ghost use Rattle.spec.specs.Free.{retire};
@@ -16,18 +14,6 @@ ghost use Rattle.spec.specs.Plan.{paintLoss};
 ghost use Rattle.spec.specs.Turn.{stepFinds, oneLess, painted};
 ghost use Rattle.laws.specs.Turns.{turned, tried};
 ghost use Rattle.paths.specs.Upward.{upward};
-
-// a step that does not find its nodes
-fn missed(reg: Register) -> Turned
-    ensures { λ r. ⌜ r ≡ record { found = false; link = Root; node = 0; register = reg } ⌝ }
-{
-    Turned {
-        found: false,
-        link: Link::Root,
-        node: 0,
-        register: reg,
-    }
-}
 
 // The colours of a climb along a path of c links, where x came; then n is retired.
 fn settle(
@@ -68,7 +54,7 @@ pub fn unlink(pool: &mut [u32], reg: Register, l: Link) -> Turned
     let k = losses::loss_climb(pool, b, x, &path, c);
     let found = (b != 0) & climbs::calmly(k);
     if found {} else {
-        return missed(reg);
+        return register::missed(reg);
     }
     let less = store_less(pool, reg, l, x);
     let register = settle(pool, less, k, x, &path, c, b);
@@ -105,7 +91,7 @@ pub fn replace(pool: &mut [u32], reg: Register, l: Link) -> Turned
     let k = losses::loss_climb(pool, n, x, &path, c);
     let found = (n != 0) & climbs::calmly(k);
     if found {} else {
-        return missed(reg);
+        return register::missed(reg);
     }
     let colour = pool::word(pool, b, pool::COLOUR);
     let less = store_successor(pool, reg, l, n, colour);
@@ -134,7 +120,7 @@ pub fn detach(pool: &mut [u32], reg: Register, l: Link, key: u32) -> Turned
     let k = losses::loss_climb(pool, n, x, &path, c);
     let found = (c != 0) & (n != 0) & climbs::calmly(k);
     if found {} else {
-        return missed(reg);
+        return register::missed(reg);
     }
     let stored = register::set_link(pool, reg, link, x);
     let register = settle(pool, stored, k, x, &path, c, n);

@@ -6,28 +6,15 @@ use types::Rule;
 use types::Side;
 use types::Turned;
 ghost use mathlib.Core.Path.{_≡_};
-ghost use mathlib.Core.Bool.{true, false};
+ghost use mathlib.Core.Bool.{true};
 ghost use Prim.Native.Nat.{ℕ, _<_};
 ghost use lib.ListN.{length};
-ghost use Rattle.types.specs.declared.Link.the-variants.{Root};
 ghost use Rattle.types.specs.declared.Step.the-variants.{DiagLower, DiagRaise, ZigLowerA, ZigLowerC, ZigRaise};
 ghost use Rattle.spec.specs.Pool.{paint, blackColour};
 ghost use Rattle.spec.specs.Register.{state, setLink};
 ghost use Rattle.spec.specs.Turn.{made, painted, copyNode, copyColour, risenColour, underCopy, endDiag, endDiagFinds, endZig, stepFinds};
 ghost use Rattle.types.specs.declared.Register.{Register};
 ghost use Rattle.laws.specs.Turns.{turned, tried};
-
-// the step names a node where there is none
-pub fn missed(register: Register) -> Turned
-    ensures { λ r. ⌜ (r .found ≡ false) × (r .link ≡ Root) × (r .node ≡ 0) × (r .register ≡ register) ⌝ }
-{
-    Turned {
-        found: false,
-        link: Link::Root,
-        node: 0,
-        register,
-    }
-}
 
 // The link l := a copy of node n, which has x on the side s and y on the other side.
 pub fn hang_copy(
@@ -85,10 +72,10 @@ pub fn diag_lower(pool: &mut [u32], reg: Register, l: Link, s: Side, rule: Rule)
     let c = register::node_at(pool, reg.root, l);
     let b = pool::child(pool, s, c);
     if b == 0 {
-        return missed(reg);
+        return register::missed(reg);
     }
     if reg.first == 0 {
-        return missed(reg);
+        return register::missed(reg);
     }
     let z = pool::other(s);
     let x = pool::child(pool, z, b);
@@ -104,10 +91,10 @@ pub fn zig_lower_a(pool: &mut [u32], reg: Register, l: Link, s: Side, rule: Rule
     let a = pool::child(pool, s, register::node_at(pool, reg.root, l));
     let b = pool::child(pool, pool::other(s), a);
     if b == 0 {
-        return missed(reg);
+        return register::missed(reg);
     }
     if reg.first == 0 {
-        return missed(reg);
+        return register::missed(reg);
     }
     let x = pool::child(pool, s, a);
     let y = pool::child(pool, s, b);
@@ -123,10 +110,10 @@ pub fn zig_lower_c(pool: &mut [u32], reg: Register, l: Link, s: Side, rule: Rule
     let c = register::node_at(pool, reg.root, l);
     let b = pool::child(pool, z, pool::child(pool, s, c));
     if b == 0 {
-        return missed(reg);
+        return register::missed(reg);
     }
     if reg.first == 0 {
-        return missed(reg);
+        return register::missed(reg);
     }
     let x = pool::child(pool, z, b);
     let y = pool::child(pool, z, c);
@@ -191,10 +178,10 @@ pub fn diag_raise(pool: &mut [u32], reg: Register, l: Link, s: Side, rule: Rule)
     let c = register::node_at(pool, reg.root, l);
     let b = pool::child(pool, s, c);
     if b == 0 {
-        return missed(reg);
+        return register::missed(reg);
     }
     if end_diag_finds(pool, rule, s, b) {} else {
-        return missed(reg);
+        return register::missed(reg);
     }
     let colour = risen_colour(pool, rule, c);
     let risen = raise(pool, reg, l, b, colour);
@@ -229,7 +216,7 @@ pub fn zig_raise(pool: &mut [u32], reg: Register, l: Link, s: Side, rule: Rule) 
     let a = pool::child(pool, s, c);
     let b = pool::child(pool, pool::other(s), a);
     if b == 0 {
-        return missed(reg);
+        return register::missed(reg);
     }
     let colour = risen_colour(pool, rule, c);
     let risen = raise(pool, reg, l, b, colour);

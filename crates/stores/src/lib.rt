@@ -70,12 +70,12 @@ fn insert_climbing(pool: &mut [u32], reg: Register, l: Link, k: u32, v: u32) -> 
     ensures { λ r. ⌜ r .found ≡ stepFinds (state (now (pool .entry)) reg) l (Insert k v) ⌝ }
     ensures { λ r. ⌜ turned (now (pool .exit)) r ≡ tried (state (now (pool .entry)) reg) l (Insert k v) ⌝ }
 {
-    let mut path: [u64; 65] = [0; 65];
-    let c = paths::trail(pool, k, l, Link::Root, reg.root, &mut path, 0);
+    let mut path: [u64; paths::MOST_LINKS] = [0; paths::MOST_LINKS];
+    let c = paths::path_to(pool, reg.root, k, l, &mut path);
     let climb = climbs::rise(pool, &path, c, 0);
     let ending = climb.ending;
-    if plans::missing(ending) {
-        return rotations::missed(reg);
+    if climbs::missing(ending) {
+        return register::missed(reg);
     }
     let first = reg.first;
     let register = link_new(pool, reg, l, k, v);
@@ -96,7 +96,7 @@ pub fn insert(pool: &mut [u32], reg: Register, l: Link, k: u32, v: u32) -> Turne
     ensures { λ r. ⌜ turned (now (pool .exit)) r ≡ tried (state (now (pool .entry)) reg) l (Insert k v) ⌝ }
 {
     if reg.first == 0 {
-        return rotations::missed(reg);
+        return register::missed(reg);
     }
     if pool::is_red(pool, register::owner(l)) {
         return insert_climbing(pool, reg, l, k, v);
@@ -112,7 +112,7 @@ pub fn adopt(pool: &mut [u32], reg: Register, l: Link) -> Turned
     let b = register::node_at(pool, reg.root, l);
     let c = pool::child(pool, Side::R, b);
     if c == 0 {
-        return rotations::missed(reg);
+        return register::missed(reg);
     }
     let x = pool::child(pool, Side::L, b);
     let link = Link::Left(c);
@@ -178,11 +178,11 @@ pub fn publish(pool: &mut [u32], reg: Register, l: Link, c: u32) -> Turned
 {
     let b = register::node_at(pool, reg.root, l);
     if b == 0 {
-        return rotations::missed(reg);
+        return register::missed(reg);
     }
     let first = reg.first;
     if first == 0 {
-        return rotations::missed(reg);
+        return register::missed(reg);
     }
     let x = pool::child(pool, Side::L, b);
     let y = pool::child(pool, Side::R, b);

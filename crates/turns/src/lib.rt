@@ -8,34 +8,9 @@ use types::Write;
 ghost use mathlib.Core.Path.{_≡_};
 ghost use Prim.Native.Nat.{ℕ, _<_};
 ghost use lib.ListN.{length};
-ghost use Rattle.types.specs.declared.Step.the-variants.{Unlink, Replace, Detach};
 ghost use Rattle.spec.specs.Register.{state, lessFirst};
 ghost use Rattle.spec.specs.Turn.{stepFinds};
 ghost use Rattle.laws.specs.Turns.{turned, tried};
-
-fn unlink(pool: &mut [u32], reg: Register, l: Link) -> Turned
-    requires { ⌜ length (now pool) < 8192 ⌝ }
-    ensures { λ r. ⌜ r .found ≡ stepFinds (state (now (pool .entry)) reg) l Unlink ⌝ }
-    ensures { λ r. ⌜ turned (now (pool .exit)) r ≡ tried (state (now (pool .entry)) reg) l Unlink ⌝ }
-{
-    rotations::missed(reg)
-}
-
-fn replace(pool: &mut [u32], reg: Register, l: Link) -> Turned
-    requires { ⌜ length (now pool) < 8192 ⌝ }
-    ensures { λ r. ⌜ r .found ≡ stepFinds (state (now (pool .entry)) reg) l Replace ⌝ }
-    ensures { λ r. ⌜ turned (now (pool .exit)) r ≡ tried (state (now (pool .entry)) reg) l Replace ⌝ }
-{
-    rotations::missed(reg)
-}
-
-fn detach(pool: &mut [u32], reg: Register, l: Link, k: u32) -> Turned
-    requires { ⌜ length (now pool) < 8192 ⌝ }
-    ensures { λ r. ⌜ r .found ≡ stepFinds (state (now (pool .entry)) reg) l (Detach k) ⌝ }
-    ensures { λ r. ⌜ turned (now (pool .exit)) r ≡ tried (state (now (pool .entry)) reg) l (Detach k) ⌝ }
-{
-    rotations::missed(reg)
-}
 
 // Tries the step x at the link l.
 pub fn try_step(pool: &mut [u32], reg: Register, l: Link, x: Step) -> Turned
@@ -44,18 +19,18 @@ pub fn try_step(pool: &mut [u32], reg: Register, l: Link, x: Step) -> Turned
     ensures { λ r. ⌜ turned (now (pool .exit)) r ≡ tried (state (now (pool .entry)) reg) l x ⌝ }
 {
     match x {
-        Step::Vacant => rotations::missed(reg),
+        Step::Vacant => register::missed(reg),
         Step::Insert(k, v) => stores::insert(pool, reg, l, k, v),
         Step::DiagLower(s, rule) => rotations::diag_lower(pool, reg, l, s, rule),
         Step::DiagRaise(s, rule) => rotations::diag_raise(pool, reg, l, s, rule),
         Step::ZigLowerA(s, rule) => rotations::zig_lower_a(pool, reg, l, s, rule),
         Step::ZigLowerC(s, rule) => rotations::zig_lower_c(pool, reg, l, s, rule),
         Step::ZigRaise(s, rule) => rotations::zig_raise(pool, reg, l, s, rule),
-        Step::Unlink => unlink(pool, reg, l),
+        Step::Unlink => removals::unlink(pool, reg, l),
         Step::Adopt => stores::adopt(pool, reg, l),
-        Step::Replace => replace(pool, reg, l),
+        Step::Replace => removals::replace(pool, reg, l),
         Step::Publish(c) => stores::publish(pool, reg, l, c),
-        Step::Detach(k) => detach(pool, reg, l, k),
+        Step::Detach(k) => removals::detach(pool, reg, l, k),
     }
 }
 

@@ -1,4 +1,5 @@
-use Rattle.removals.specs.Removals.{step-missed, reached-some}
+use Rattle.removals.specs.Removals.{reached-some}
+use Rattle.laws.specs.Turns.{tells-missed}
 use Rattle.laws.specs.Turns.{tried-made}
 use Rattle.types.specs.declared.Step.the-variants.{Detach}
 use Rattle.spec.specs.Register.{state}
@@ -20,7 +21,7 @@ use Rattle.pool.proofs.child.Reads as child-reads
 use Rattle.register.proofs.node_at.Reads as node-at-reads
 use Rattle.register.proofs.set_link.Reads as set-link-reads
 use Rattle.climbs.proofs.calmly.Reads as calmly-reads
-use Rattle.removals.proofs.missed.Reads as missed-reads
+use Rattle.register.proofs.missed.Reads as missed-reads
 use Rattle.removals.proofs.settle.Reads as settle-reads
 
 -- src/lib.rt:135:9
@@ -84,7 +85,7 @@ returns : tie.Need-returns
 unfolding stepFinds
 returns c = let a = c .before .before .before .before .before .before .before .before .before .before .before .before .before .before .before .before .before .before .before .before .before .before .before .args in let st = state (a .pool .now) (a .reg) in
     let f : stepFinds st (a .l) (Detach (a .key)) ≡ false = rw (← (c .before .before .before .before .before .before .before .before .before .before .before .before .before .before .before .before .before .before .before .before .node-at .ensures), ← (c .before .before .before .before .before .before .before .before .before .before .before .before .before .before .before .before .before .path-to .ensures .0), ← (c .before .before .before .before .before .before .before .before .before .before .before .before .before .successor-path .ensures .0), reached-some, ← (c .before .before .before .before .before .before .before .before .before .before .nearest .ensures), ← (c .before .before .before .before .before .before .before .before .node-at2 .ensures), ← (c .before .before .before .before .before .before .child .ensures), ← (c .before .before .before .loss-climb .ensures), ← (c .before .before .calmly .ensures)) (c .before .if1 .left) in
-    rw (c .missed .ensures) (step-missed st (a .l) (Detach (a .key)) f)
+    tells-missed st (a .l) (Detach (a .key)) (c .missed .result) f (c .missed .ensures)
 
 -- src/lib.rt:147:9
 set-link-requires : tie.Need-set-link-requires

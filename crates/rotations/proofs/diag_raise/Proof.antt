@@ -19,7 +19,7 @@ use Rattle.queue.proofs.retire.Reads as retire-reads
 use Rattle.register.proofs.node_at.Reads as node-at-reads
 use Rattle.rotations.proofs.end_diag.Reads as end-diag-reads
 use Rattle.rotations.proofs.end_diag_finds.Reads as end-diag-finds-reads
-use Rattle.rotations.proofs.missed.Reads as missed-reads
+use Rattle.register.proofs.missed.Reads as missed-reads
 use Rattle.rotations.proofs.raise.Reads as raise-reads
 use Rattle.rotations.proofs.risen_colour.Reads as risen-colour-reads
 

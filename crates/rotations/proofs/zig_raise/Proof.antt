@@ -19,7 +19,7 @@ use Rattle.pool.proofs.other.Reads as other-reads
 use Rattle.queue.proofs.retire_two.Reads as retire-two-reads
 use Rattle.register.proofs.node_at.Reads as node-at-reads
 use Rattle.rotations.proofs.end_zig.Reads as end-zig-reads
-use Rattle.rotations.proofs.missed.Reads as missed-reads
+use Rattle.register.proofs.missed.Reads as missed-reads
 use Rattle.rotations.proofs.raise.Reads as raise-reads
 use Rattle.rotations.proofs.risen_colour.Reads as risen-colour-reads
 

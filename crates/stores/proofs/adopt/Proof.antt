@@ -15,7 +15,7 @@ use Rattle.stores.proofs.adopt.Lts as lts
 use Rattle.pool.proofs.child.Reads as child-reads
 use Rattle.register.proofs.node_at.Reads as node-at-reads
 use Rattle.register.proofs.set_link.Reads as set-link-reads
-use Rattle.rotations.proofs.missed.Reads as missed-reads
+use Rattle.register.proofs.missed.Reads as missed-reads
 
 -- src/lib.rt:111:9
 node-at-requires : tie.Need-node-at-requires

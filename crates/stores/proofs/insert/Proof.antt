@@ -15,7 +15,7 @@ use Rattle.stores.proofs.insert.Reads as reads
 use Rattle.stores.proofs.insert.Lts as lts
 use Rattle.pool.proofs.is_red.Reads as is-red-reads
 use Rattle.register.proofs.owner.Reads as owner-reads
-use Rattle.rotations.proofs.missed.Reads as missed-reads
+use Rattle.register.proofs.missed.Reads as missed-reads
 use Rattle.stores.proofs.insert_calm.Reads as insert-calm-reads
 use Rattle.stores.proofs.insert_climbing.Reads as insert-climbing-reads
 

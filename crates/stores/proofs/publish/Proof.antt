@@ -16,7 +16,7 @@ use Rattle.pool.proofs.word.Reads as word-reads
 use Rattle.queue.proofs.retire.Reads as retire-reads
 use Rattle.register.proofs.node_at.Reads as node-at-reads
 use Rattle.rotations.proofs.hang_copy.Reads as hang-copy-reads
-use Rattle.rotations.proofs.missed.Reads as missed-reads
+use Rattle.register.proofs.missed.Reads as missed-reads
 use Rattle.stores.proofs.await_readers.Reads as await-readers-reads
 
 -- src/lib.rt:179:9
