@@ -11,7 +11,7 @@ use Rattle.types.specs.declared.Ending.{Ending}
 use Rattle.spec.specs.Pool.{word, child, keyWord}
 use Rattle.spec.specs.Register.{State, linkNode}
 use Rattle.spec.specs.Search.{pathTo}
-use Rattle.spec.specs.Plan.{Plan, plan, store, lossClimb, nearest, twoChildren, successorPath, successorPlan, unlinkPlan, deletePlan}
+use Rattle.spec.specs.Plan.{plan, store, lossClimb, nearest, twoChildren, successorPath, successorPlan, unlinkPlan, deletePlan}
 
 -- C, and how the climb after its loss ends
 abbrev pub nextNode : State → List Link → ℕ

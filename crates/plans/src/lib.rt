@@ -19,7 +19,7 @@ ghost use Rattle.spec.specs.Search.{pathTo};
 ghost use Prim.Native.Nat.{ℕ, _<_, _≤_, _+_};
 ghost use lib.ListN.{length};
 ghost use Rattle.spec.specs.Register.{state, writeOf};
-ghost use Rattle.spec.specs.Plan.{store, rotationStores, endingStores, missing, climb, rise, insertClimb, insertPlan, unlinkPlan, successorPlan, deletePlan};
+ghost use Rattle.spec.specs.Plan.{store, rotationStores, endingStores, missing, climb, rise, insertPlan, unlinkPlan, successorPlan, deletePlan};
 ghost use Rattle.paths.specs.Upward.{upward};
 ghost use Rattle.plans.specs.Pushed.{pushed, pushAll};
 

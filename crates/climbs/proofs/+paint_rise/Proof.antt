@@ -30,7 +30,7 @@ abbrev paint-rise-below : ℕ → In 2 paint-rise-kinds.ps
 paint-rise-below t =
     and 2 paint-rise-kinds.ps (falls 2 paint-rise-kinds.ps _<_ μ-paint-rise t) paint-rise.Pre
 
--- src/lib.rt:109:9
+-- src/lib.rt:114:9
 paint-rise-returns : (t : ℕ) → paint-rise-lts.Need-returns (
   link-in-reads.Asked,
   link-in-reads.Learnt,
@@ -49,7 +49,7 @@ paint-rise-returns : (t : ℕ) → paint-rise-lts.Need-returns (
 ) (paint-rise-at t) paint-rise.Post
 paint-rise-returns t c = let a = c .before .before .before .args in sym (paint-rise-done (a .m) (upward (a .path .now) (a .c)) (a .pool .now) (c .if1 .taken))
 
--- src/lib.rt:112:9
+-- src/lib.rt:117:9
 paint-rise-returns-2 : (t : ℕ) → paint-rise-lts.Need-returns-2 (
   link-in-reads.Asked,
   link-in-reads.Learnt,
@@ -68,7 +68,7 @@ paint-rise-returns-2 : (t : ℕ) → paint-rise-lts.Need-returns-2 (
 ) (paint-rise-at t) paint-rise.Post
 paint-rise-returns-2 t c = let a = c .before .before .before .before .args in sym (paint-rise-out (a .m) (a .pool .now) (a .path .now) (a .c) (c .if2 .taken))
 
--- src/lib.rt:114:27
+-- src/lib.rt:119:34
 paint-rise-sub-link-in : (t : ℕ) → paint-rise-lts.Need-sub-link-in (
   link-in-reads.Asked,
   link-in-reads.Learnt,
@@ -87,7 +87,7 @@ paint-rise-sub-link-in : (t : ℕ) → paint-rise-lts.Need-sub-link-in (
 ) (paint-rise-at t) paint-rise.Post
 paint-rise-sub-link-in t c = search needs
 
--- src/lib.rt:114:9
+-- src/lib.rt:119:9
 paint-rise-link-in-requires : (t : ℕ) → paint-rise-lts.Need-link-in-requires (
   link-in-reads.Asked,
   link-in-reads.Learnt,
@@ -106,7 +106,7 @@ paint-rise-link-in-requires : (t : ℕ) → paint-rise-lts.Need-link-in-requires
 ) (paint-rise-at t) paint-rise.Post
 paint-rise-link-in-requires t c κs = search needs
 
--- src/lib.rt:115:9
+-- src/lib.rt:120:9
 paint-rise-link-in-requires-2 : (t : ℕ) → paint-rise-lts.Need-link-in-requires-2 (
   link-in-reads.Asked,
   link-in-reads.Learnt,
@@ -125,7 +125,7 @@ paint-rise-link-in-requires-2 : (t : ℕ) → paint-rise-lts.Need-link-in-requir
 ) (paint-rise-at t) paint-rise.Post
 paint-rise-link-in-requires-2 t c κs = search needs
 
--- src/lib.rt:116:46
+-- src/lib.rt:121:46
 paint-rise-side-of-requires : (t : ℕ) → paint-rise-lts.Need-side-of-requires (
   link-in-reads.Asked,
   link-in-reads.Learnt,
@@ -144,7 +144,7 @@ paint-rise-side-of-requires : (t : ℕ) → paint-rise-lts.Need-side-of-requires
 ) (paint-rise-at t) paint-rise.Post
 paint-rise-side-of-requires t c κs = search needs
 
--- src/lib.rt:116:34
+-- src/lib.rt:121:34
 paint-rise-other-requires : (t : ℕ) → paint-rise-lts.Need-other-requires (
   link-in-reads.Asked,
   link-in-reads.Learnt,
@@ -163,7 +163,7 @@ paint-rise-other-requires : (t : ℕ) → paint-rise-lts.Need-other-requires (
 ) (paint-rise-at t) paint-rise.Post
 paint-rise-other-requires t c κs = search needs
 
--- src/lib.rt:116:69
+-- src/lib.rt:121:69
 paint-rise-owner-requires : (t : ℕ) → paint-rise-lts.Need-owner-requires (
   link-in-reads.Asked,
   link-in-reads.Learnt,
@@ -182,7 +182,7 @@ paint-rise-owner-requires : (t : ℕ) → paint-rise-lts.Need-owner-requires (
 ) (paint-rise-at t) paint-rise.Post
 paint-rise-owner-requires t c κs = search needs
 
--- src/lib.rt:116:9
+-- src/lib.rt:121:9
 paint-rise-child-requires : (t : ℕ) → paint-rise-lts.Need-child-requires (
   link-in-reads.Asked,
   link-in-reads.Learnt,
@@ -201,7 +201,7 @@ paint-rise-child-requires : (t : ℕ) → paint-rise-lts.Need-child-requires (
 ) (paint-rise-at t) paint-rise.Post
 paint-rise-child-requires t c κs = search needs
 
--- src/lib.rt:117:23
+-- src/lib.rt:122:23
 paint-rise-owner-requires-2 : (t : ℕ) → paint-rise-lts.Need-owner-requires-2 (
   link-in-reads.Asked,
   link-in-reads.Learnt,
@@ -220,7 +220,7 @@ paint-rise-owner-requires-2 : (t : ℕ) → paint-rise-lts.Need-owner-requires-2
 ) (paint-rise-at t) paint-rise.Post
 paint-rise-owner-requires-2 t c κs = search needs
 
--- src/lib.rt:117:49
+-- src/lib.rt:122:49
 paint-rise-owner-requires-3 : (t : ℕ) → paint-rise-lts.Need-owner-requires-3 (
   link-in-reads.Asked,
   link-in-reads.Learnt,
@@ -239,7 +239,7 @@ paint-rise-owner-requires-3 : (t : ℕ) → paint-rise-lts.Need-owner-requires-3
 ) (paint-rise-at t) paint-rise.Post
 paint-rise-owner-requires-3 t c κs = search needs
 
--- src/lib.rt:117:5
+-- src/lib.rt:122:5
 paint-rise-paint-level-requires : (t : ℕ) → paint-rise-lts.Need-paint-level-requires (
   link-in-reads.Asked,
   link-in-reads.Learnt,
@@ -258,7 +258,7 @@ paint-rise-paint-level-requires : (t : ℕ) → paint-rise-lts.Need-paint-level-
 ) (paint-rise-at t) paint-rise.Post
 paint-rise-paint-level-requires t c κs = search needs
 
--- src/lib.rt:118:35
+-- src/lib.rt:123:35
 paint-rise-sub-paint-rise : (t : ℕ) → paint-rise-lts.Need-sub-paint-rise (
   link-in-reads.Asked,
   link-in-reads.Learnt,
@@ -277,7 +277,7 @@ paint-rise-sub-paint-rise : (t : ℕ) → paint-rise-lts.Need-sub-paint-rise (
 ) (paint-rise-at t) paint-rise.Post
 paint-rise-sub-paint-rise t c = search needs
 
--- src/lib.rt:118:5
+-- src/lib.rt:123:5
 paint-rise-paint-rise-requires : (t : ℕ) → paint-rise-lts.Need-paint-rise-requires (
   link-in-reads.Asked,
   link-in-reads.Learnt,
@@ -296,7 +296,7 @@ paint-rise-paint-rise-requires : (t : ℕ) → paint-rise-lts.Need-paint-rise-re
 ) (paint-rise-at t) paint-rise.Post
 paint-rise-paint-rise-requires t c κs = search needs
 
--- src/lib.rt:104:1
+-- src/lib.rt:109:1
 paint-rise-same-length : (t : ℕ) → paint-rise-lts.Need-same-length (
   link-in-reads.Asked,
   link-in-reads.Learnt,
@@ -315,7 +315,7 @@ paint-rise-same-length : (t : ℕ) → paint-rise-lts.Need-same-length (
 ) (paint-rise-at t) paint-rise.Post
 paint-rise-same-length t c = search needs
 
--- src/lib.rt:104:1
+-- src/lib.rt:109:1
 paint-rise-returns-3 : (t : ℕ) → paint-rise-lts.Need-returns-3 (
   link-in-reads.Asked,
   link-in-reads.Learnt,

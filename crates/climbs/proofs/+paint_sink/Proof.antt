@@ -30,7 +30,7 @@ abbrev paint-sink-below : ℕ → In 2 paint-sink-kinds.ps
 paint-sink-below t =
     and 2 paint-sink-kinds.ps (falls 2 paint-sink-kinds.ps _<_ μ-paint-sink t) paint-sink.Pre
 
--- src/lib.rt:223:9
+-- src/lib.rt:213:9
 paint-sink-returns : (t : ℕ) → paint-sink-lts.Need-returns (
   link-in-reads.Asked,
   link-in-reads.Learnt,
@@ -49,7 +49,7 @@ paint-sink-returns : (t : ℕ) → paint-sink-lts.Need-returns (
 ) (paint-sink-at t) paint-sink.Post
 paint-sink-returns t c = let a = c .before .before .before .args in sym (paint-sink-done (a .m) (upward (a .path .now) (a .c)) (a .pool .now) (c .if1 .taken))
 
--- src/lib.rt:226:9
+-- src/lib.rt:216:9
 paint-sink-returns-2 : (t : ℕ) → paint-sink-lts.Need-returns-2 (
   link-in-reads.Asked,
   link-in-reads.Learnt,
@@ -68,7 +68,7 @@ paint-sink-returns-2 : (t : ℕ) → paint-sink-lts.Need-returns-2 (
 ) (paint-sink-at t) paint-sink.Post
 paint-sink-returns-2 t c = let a = c .before .before .before .before .args in sym (paint-sink-out (a .m) (a .pool .now) (a .path .now) (a .c) (c .if2 .taken))
 
--- src/lib.rt:228:27
+-- src/lib.rt:218:34
 paint-sink-sub-link-in : (t : ℕ) → paint-sink-lts.Need-sub-link-in (
   link-in-reads.Asked,
   link-in-reads.Learnt,
@@ -87,7 +87,7 @@ paint-sink-sub-link-in : (t : ℕ) → paint-sink-lts.Need-sub-link-in (
 ) (paint-sink-at t) paint-sink.Post
 paint-sink-sub-link-in t c = search needs
 
--- src/lib.rt:228:9
+-- src/lib.rt:218:9
 paint-sink-link-in-requires : (t : ℕ) → paint-sink-lts.Need-link-in-requires (
   link-in-reads.Asked,
   link-in-reads.Learnt,
@@ -106,7 +106,7 @@ paint-sink-link-in-requires : (t : ℕ) → paint-sink-lts.Need-link-in-requires
 ) (paint-sink-at t) paint-sink.Post
 paint-sink-link-in-requires t c κs = search needs
 
--- src/lib.rt:229:43
+-- src/lib.rt:219:43
 paint-sink-side-of-requires : (t : ℕ) → paint-sink-lts.Need-side-of-requires (
   link-in-reads.Asked,
   link-in-reads.Learnt,
@@ -125,7 +125,7 @@ paint-sink-side-of-requires : (t : ℕ) → paint-sink-lts.Need-side-of-requires
 ) (paint-sink-at t) paint-sink.Post
 paint-sink-side-of-requires t c κs = search needs
 
--- src/lib.rt:229:31
+-- src/lib.rt:219:31
 paint-sink-other-requires : (t : ℕ) → paint-sink-lts.Need-other-requires (
   link-in-reads.Asked,
   link-in-reads.Learnt,
@@ -144,7 +144,7 @@ paint-sink-other-requires : (t : ℕ) → paint-sink-lts.Need-other-requires (
 ) (paint-sink-at t) paint-sink.Post
 paint-sink-other-requires t c κs = search needs
 
--- src/lib.rt:229:66
+-- src/lib.rt:219:66
 paint-sink-owner-requires : (t : ℕ) → paint-sink-lts.Need-owner-requires (
   link-in-reads.Asked,
   link-in-reads.Learnt,
@@ -163,7 +163,7 @@ paint-sink-owner-requires : (t : ℕ) → paint-sink-lts.Need-owner-requires (
 ) (paint-sink-at t) paint-sink.Post
 paint-sink-owner-requires t c κs = search needs
 
--- src/lib.rt:229:9
+-- src/lib.rt:219:9
 paint-sink-child-requires : (t : ℕ) → paint-sink-lts.Need-child-requires (
   link-in-reads.Asked,
   link-in-reads.Learnt,
@@ -182,7 +182,7 @@ paint-sink-child-requires : (t : ℕ) → paint-sink-lts.Need-child-requires (
 ) (paint-sink-at t) paint-sink.Post
 paint-sink-child-requires t c κs = search needs
 
--- src/lib.rt:230:5
+-- src/lib.rt:220:5
 paint-sink-set-word-requires : (t : ℕ) → paint-sink-lts.Need-set-word-requires (
   link-in-reads.Asked,
   link-in-reads.Learnt,
@@ -201,7 +201,7 @@ paint-sink-set-word-requires : (t : ℕ) → paint-sink-lts.Need-set-word-requir
 ) (paint-sink-at t) paint-sink.Post
 paint-sink-set-word-requires t c κs = search needs
 
--- src/lib.rt:231:28
+-- src/lib.rt:221:28
 paint-sink-sub-paint-sink : (t : ℕ) → paint-sink-lts.Need-sub-paint-sink (
   link-in-reads.Asked,
   link-in-reads.Learnt,
@@ -220,7 +220,7 @@ paint-sink-sub-paint-sink : (t : ℕ) → paint-sink-lts.Need-sub-paint-sink (
 ) (paint-sink-at t) paint-sink.Post
 paint-sink-sub-paint-sink t c = search needs
 
--- src/lib.rt:231:35
+-- src/lib.rt:221:35
 paint-sink-sub-paint-sink-2 : (t : ℕ) → paint-sink-lts.Need-sub-paint-sink-2 (
   link-in-reads.Asked,
   link-in-reads.Learnt,
@@ -239,7 +239,7 @@ paint-sink-sub-paint-sink-2 : (t : ℕ) → paint-sink-lts.Need-sub-paint-sink-2
 ) (paint-sink-at t) paint-sink.Post
 paint-sink-sub-paint-sink-2 t c = search needs
 
--- src/lib.rt:231:5
+-- src/lib.rt:221:5
 paint-sink-paint-sink-requires : (t : ℕ) → paint-sink-lts.Need-paint-sink-requires (
   link-in-reads.Asked,
   link-in-reads.Learnt,
@@ -258,7 +258,7 @@ paint-sink-paint-sink-requires : (t : ℕ) → paint-sink-lts.Need-paint-sink-re
 ) (paint-sink-at t) paint-sink.Post
 paint-sink-paint-sink-requires t c κs = search needs
 
--- src/lib.rt:218:1
+-- src/lib.rt:208:1
 paint-sink-same-length : (t : ℕ) → paint-sink-lts.Need-same-length (
   link-in-reads.Asked,
   link-in-reads.Learnt,
@@ -277,7 +277,7 @@ paint-sink-same-length : (t : ℕ) → paint-sink-lts.Need-same-length (
 ) (paint-sink-at t) paint-sink.Post
 paint-sink-same-length t c = search needs
 
--- src/lib.rt:218:1
+-- src/lib.rt:208:1
 paint-sink-returns-3 : (t : ℕ) → paint-sink-lts.Need-returns-3 (
   link-in-reads.Asked,
   link-in-reads.Learnt,

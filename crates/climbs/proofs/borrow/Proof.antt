@@ -10,19 +10,19 @@ use Rattle.climbs.proofs.form_if.Reads as form-if-reads
 use Rattle.pool.proofs.child.Reads as child-reads
 use Rattle.pool.proofs.is_red.Reads as is-red-reads
 
--- src/lib.rt:138:43
+-- src/lib.rt:144:43
 child-requires : tie.Need-child-requires
 child-requires c κs = search needs
 
--- src/lib.rt:138:24
+-- src/lib.rt:144:24
 is-red-requires : tie.Need-is-red-requires
 is-red-requires c κs = search needs
 
--- src/lib.rt:138:9
+-- src/lib.rt:144:9
 form-if-requires : tie.Need-form-if-requires
 form-if-requires c κs = search needs
 
--- src/lib.rt:135:1
+-- src/lib.rt:141:1
 returns : tie.Need-returns
 returns c = rw (c .form-if .ensures, c .before .is-red .ensures, c .before .before .child .ensures)
 

@@ -8,23 +8,23 @@ use Rattle.climbs.proofs.paint_level.Reads as reads
 use Rattle.climbs.proofs.paint_level.Lts as lts
 use Rattle.pool.proofs.set_word.Reads as set-word-reads
 
--- src/lib.rt:98:5
+-- src/lib.rt:103:5
 set-word-requires : tie.Need-set-word-requires
 set-word-requires c κs = search needs
 
--- src/lib.rt:99:5
+-- src/lib.rt:104:5
 set-word-requires-2 : tie.Need-set-word-requires-2
 set-word-requires-2 c κs = search needs
 
--- src/lib.rt:100:5
+-- src/lib.rt:105:5
 set-word-requires-3 : tie.Need-set-word-requires-3
 set-word-requires-3 c κs = search needs
 
--- src/lib.rt:95:1
+-- src/lib.rt:100:1
 same-length : tie.Need-same-length
 same-length c = search needs
 
--- src/lib.rt:95:1
+-- src/lib.rt:100:1
 returns : tie.Need-returns
 returns c = rw (c .before .before .set-word3 .ensures, c .before .before .before .before .before .before .set-word2 .ensures, c .before .before .before .before .before .before .before .before .before .before .set-word .ensures)
 

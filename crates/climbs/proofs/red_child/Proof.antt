@@ -9,23 +9,23 @@ use Rattle.climbs.proofs.red_child.Lts as lts
 use Rattle.pool.proofs.child.Reads as child-reads
 use Rattle.pool.proofs.is_red.Reads as is-red-reads
 
--- src/lib.rt:125:24
+-- src/lib.rt:130:24
 child-requires : tie.Need-child-requires
 child-requires c κs = search needs
 
--- src/lib.rt:125:5
+-- src/lib.rt:130:5
 is-red-requires : tie.Need-is-red-requires
 is-red-requires c κs = search needs
 
--- src/lib.rt:125:76
+-- src/lib.rt:131:30
 child-requires-2 : tie.Need-child-requires-2
 child-requires-2 c κs = search needs
 
--- src/lib.rt:125:57
+-- src/lib.rt:131:11
 is-red-requires-2 : tie.Need-is-red-requires-2
 is-red-requires-2 c κs = search needs
 
--- src/lib.rt:122:1
+-- src/lib.rt:127:1
 returns : tie.Need-returns
 returns c = rw (c .before .before .is-red .ensures, c .is-red2 .ensures, c .before .before .before .child .ensures, c .before .child2 .ensures)
 

@@ -17,39 +17,39 @@ use Rattle.pool.proofs.child.Reads as child-reads
 use Rattle.pool.proofs.other.Reads as other-reads
 use Rattle.register.proofs.link_at.Reads as link-at-reads
 
--- src/lib.rt:151:9
+-- src/lib.rt:157:9
 other-requires : tie.Need-other-requires
 other-requires c κs = search needs
 
--- src/lib.rt:152:9
+-- src/lib.rt:158:9
 child-requires : tie.Need-child-requires
 child-requires c κs = search needs
 
--- src/lib.rt:154:9
+-- src/lib.rt:160:9
 returns : tie.Need-returns
 unfolding redSibling
 returns c = let a = c .before .before .before .before .args in let e : child (a .pool .now) (other (a .z)) (a .w) ≡ 0 = rw (← (c .before .before .other .ensures), ← (c .before .child .ensures)) (c .if1 .taken) in rw (eq-eqb _ _ e)
 
--- src/lib.rt:162:8
+-- src/lib.rt:168:8
 red-child-requires : tie.Need-red-child-requires
 red-child-requires c κs = search needs
 
--- src/lib.rt:163:35
+-- src/lib.rt:169:35
 link-at-requires : tie.Need-link-at-requires
 link-at-requires c κs = search needs
 
--- src/lib.rt:163:13
+-- src/lib.rt:169:13
 borrow-requires : tie.Need-borrow-requires
 borrow-requires c κs = search needs
 
--- src/lib.rt:164:9
+-- src/lib.rt:170:9
 returns-2 : tie.Need-returns-2
 unfolding redSibling
 returns-2 c = let a = c .before .before .before .before .before .before .before .before .args in let e : (child (a .pool .now) (other (a .z)) (a .w) ≡ 0) → ⊥ = rw (← (c .before .before .before .before .before .before .other .ensures), ← (c .before .before .before .before .before .child .ensures)) (c .before .before .before .before .if1 .left) in
     let f : redChild (a .pool .now) (child (a .pool .now) (other (a .z)) (a .w)) ≡ true = rw (← (c .before .before .before .before .before .before .other .ensures), ← (c .before .before .before .before .before .child .ensures), ← (c .before .before .before .red-child .ensures)) (c .before .before .if2 .taken) in
     rw (ne-eqb _ _ e, f, c .borrow .ensures, c .before .link-at .ensures, c .before .before .before .before .before .child .ensures, c .before .before .before .before .before .before .other .ensures)
 
--- src/lib.rt:148:1
+-- src/lib.rt:154:1
 returns-3 : tie.Need-returns-3
 unfolding redSibling
 returns-3 c = let a = c .before .before .before .before .before .before .args in let e : (child (a .pool .now) (other (a .z)) (a .w) ≡ 0) → ⊥ = rw (← (c .before .before .before .before .other .ensures), ← (c .before .before .before .child .ensures)) (c .before .before .if1 .left) in

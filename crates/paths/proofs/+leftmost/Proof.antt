@@ -26,7 +26,7 @@ abbrev leftmost-below : ℕ → In 2 leftmost-kinds.ps
 leftmost-below t =
     and 2 leftmost-kinds.ps (falls 2 leftmost-kinds.ps _<_ μ-leftmost t) leftmost.Pre
 
--- src/lib.rt:87:9
+-- src/lib.rt:121:9
 leftmost-returns : (t : ℕ) → leftmost-lts.Need-returns (
   child-reads.Asked,
   child-reads.Learnt,
@@ -37,7 +37,7 @@ leftmost-returns : (t : ℕ) → leftmost-lts.Need-returns (
 ) (leftmost-at t) leftmost.Post
 leftmost-returns t c = let a = c .before .before .before .args in (upward-none _ ∙ sym (leftmost-deep (a .pool .now) (a .n) (upward (a .path .now) (a .c)) (65 - a .c) (let h = c .if1 .taken in omega arith)), omega arith)
 
--- src/lib.rt:89:9
+-- src/lib.rt:123:9
 leftmost-child-requires : (t : ℕ) → leftmost-lts.Need-child-requires (
   child-reads.Asked,
   child-reads.Learnt,
@@ -48,7 +48,7 @@ leftmost-child-requires : (t : ℕ) → leftmost-lts.Need-child-requires (
 ) (leftmost-at t) leftmost.Post
 leftmost-child-requires t c κs = search needs
 
--- src/lib.rt:91:9
+-- src/lib.rt:125:9
 leftmost-returns-2 : (t : ℕ) → leftmost-lts.Need-returns-2 (
   child-reads.Asked,
   child-reads.Learnt,
@@ -59,7 +59,7 @@ leftmost-returns-2 : (t : ℕ) → leftmost-lts.Need-returns-2 (
 ) (leftmost-at t) leftmost.Post
 leftmost-returns-2 t c = let a = c .before .before .before .before .before .args in let h = c .before .before .if1 .left in (sym (leftmost-here (a .pool .now) (a .n) (upward (a .path .now) (a .c)) (65 - a .c) (omega (arith, c .before .before .before .before .before .pre)) (sym (c .before .child .ensures) ∙ c .if2 .taken)), omega (arith, c .before .before .before .before .before .pre))
 
--- src/lib.rt:94:15
+-- src/lib.rt:128:15
 leftmost-code-of-requires : (t : ℕ) → leftmost-lts.Need-code-of-requires (
   child-reads.Asked,
   child-reads.Learnt,
@@ -70,7 +70,7 @@ leftmost-code-of-requires : (t : ℕ) → leftmost-lts.Need-code-of-requires (
 ) (leftmost-at t) leftmost.Post
 leftmost-code-of-requires t c κs = search needs
 
--- src/lib.rt:94:5
+-- src/lib.rt:128:5
 leftmost-mul-path : (t : ℕ) → leftmost-lts.Need-mul-path (
   child-reads.Asked,
   child-reads.Learnt,
@@ -81,7 +81,7 @@ leftmost-mul-path : (t : ℕ) → leftmost-lts.Need-mul-path (
 ) (leftmost-at t) leftmost.Post
 leftmost-mul-path t c = search needs
 
--- src/lib.rt:94:5
+-- src/lib.rt:128:5
 leftmost-slice-write-path : (t : ℕ) → leftmost-lts.Need-slice-write-path (
   child-reads.Asked,
   child-reads.Learnt,
@@ -92,7 +92,7 @@ leftmost-slice-write-path : (t : ℕ) → leftmost-lts.Need-slice-write-path (
 ) (leftmost-at t) leftmost.Post
 leftmost-slice-write-path t c = search needs
 
--- src/lib.rt:95:32
+-- src/lib.rt:129:32
 leftmost-add-leftmost : (t : ℕ) → leftmost-lts.Need-add-leftmost (
   child-reads.Asked,
   child-reads.Learnt,
@@ -103,7 +103,7 @@ leftmost-add-leftmost : (t : ℕ) → leftmost-lts.Need-add-leftmost (
 ) (leftmost-at t) leftmost.Post
 leftmost-add-leftmost t c = search needs
 
--- src/lib.rt:95:5
+-- src/lib.rt:129:5
 leftmost-leftmost-requires : (t : ℕ) → leftmost-lts.Need-leftmost-requires (
   child-reads.Asked,
   child-reads.Learnt,
@@ -114,7 +114,7 @@ leftmost-leftmost-requires : (t : ℕ) → leftmost-lts.Need-leftmost-requires (
 ) (leftmost-at t) leftmost.Post
 leftmost-leftmost-requires t c κs = let a = c .before .before .before .before .before .before .before .args in let h = c .before .before .before .before .if1 .left in (omega (arith, c .before .before .before .before .before .before .before .pre), (omega (arith, c .before .before .before .before .before .before .before .pre), length-set (a .path .now) (a .c) (c .before .code-of .result) ∙ c .before .before .before .before .before .before .before .pre .1 .1))
 
--- src/lib.rt:81:1
+-- src/lib.rt:115:1
 leftmost-same-length : (t : ℕ) → leftmost-lts.Need-same-length (
   child-reads.Asked,
   child-reads.Learnt,
@@ -125,7 +125,7 @@ leftmost-same-length : (t : ℕ) → leftmost-lts.Need-same-length (
 ) (leftmost-at t) leftmost.Post
 leftmost-same-length t c = let a = c .before .before .before .before .before .before .before .before .before .before .args in omega (arith, c .before .before .leftmost .kept .1 .1 .0, length-set (a .path .now) (a .c) (c .before .before .before .before .code-of .result))
 
--- src/lib.rt:81:1
+-- src/lib.rt:115:1
 leftmost-returns-3 : (t : ℕ) → leftmost-lts.Need-returns-3 (
   child-reads.Asked,
   child-reads.Learnt,

@@ -7,51 +7,51 @@ use Rattle.paths.proofs.code_of.Tie as tie
 use Rattle.paths.proofs.code_of.Reads as reads
 use Rattle.paths.proofs.code_of.Lts as lts
 
--- src/lib.rt:16:23
+-- src/lib.rt:19:23
 enum-told : tie.Need-enum-told
 enum-told c = search needs
 
--- src/lib.rt:17:20
+-- src/lib.rt:20:20
 enum-known-l : tie.Need-enum-known-l
 enum-known-l c = search needs
 
--- src/lib.rt:17:26
+-- src/lib.rt:20:26
 cast-result : tie.Need-cast-result
 cast-result c = search needs
 
--- src/lib.rt:17:26
+-- src/lib.rt:20:26
 mul-result : tie.Need-mul-result
 mul-result c = search needs
 
--- src/lib.rt:17:26
+-- src/lib.rt:20:26
 add-result : tie.Need-add-result
 add-result c = search needs
 
--- src/lib.rt:18:21
+-- src/lib.rt:21:21
 enum-known-l-2 : tie.Need-enum-known-l-2
 enum-known-l-2 c = search needs
 
--- src/lib.rt:18:27
+-- src/lib.rt:21:27
 cast-result-2 : tie.Need-cast-result-2
 cast-result-2 c = search needs
 
--- src/lib.rt:18:27
+-- src/lib.rt:21:27
 mul-result-2 : tie.Need-mul-result-2
 mul-result-2 c = search needs
 
--- src/lib.rt:18:27
+-- src/lib.rt:21:27
 add-result-2 : tie.Need-add-result-2
 add-result-2 c = search needs
 
--- src/lib.rt:12:1
+-- src/lib.rt:15:1
 returns : tie.Need-returns
 returns c = search needs
 
--- src/lib.rt:12:1
+-- src/lib.rt:15:1
 returns-2 : tie.Need-returns-2
 returns-2 c = rw (c .before .l .given .1)
 
--- src/lib.rt:12:1
+-- src/lib.rt:15:1
 returns-3 : tie.Need-returns-3
 returns-3 c = rw (c .before .l2 .given .1)
 

@@ -8,21 +8,21 @@ use Rattle.paths.proofs.link_of.Tie as tie
 use Rattle.paths.proofs.link_of.Reads as reads
 use Rattle.paths.proofs.link_of.Lts as lts
 
--- src/lib.rt:25:13
+-- src/lib.rt:28:13
 cast-n : tie.Need-cast-n
 cast-n c = search needs
 
--- src/lib.rt:28:9
+-- src/lib.rt:31:9
 returns : tie.Need-returns
 unfolding linkOf
 returns c = simp (eq-eqb _ _ (c .if1 .taken))
 
--- src/lib.rt:22:1
+-- src/lib.rt:25:1
 returns-2 : tie.Need-returns-2
 unfolding linkOf
 returns-2 c = simp (ne-eqb _ _ (c .before .if1 .left), eq-eqb _ _ (c .if2 .taken))
 
--- src/lib.rt:22:1
+-- src/lib.rt:25:1
 returns-3 : tie.Need-returns-3
 unfolding linkOf
 returns-3 c = simp (ne-eqb _ _ (c .before .if1 .left), ne-eqb _ _ (c .if2 .left))
