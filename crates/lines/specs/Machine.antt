@@ -1,12 +1,12 @@
 -- A line is read a byte at a time. Theorem `reads`: what has been read when all its bytes are taken is the command that they are.
-use Prim.Native.Nat.{ℕ, zero, _+_, _*_, _-_, _<_, _≤_}
+use Prim.Native.Nat.{ℕ, _+_, _*_, _-_, _<_, _≤_}
 use Prim.Native.Char.{code}
-use mathlib.Core.Path.{_≡_, refl, sym, ap, _∙_}
+use mathlib.Core.Path.{_≡_, refl, _∙_}
 use mathlib.Core.Bool.{Bool, true, false, cond, _&&_, and-false}
 use mathlib.Core.List.{List, [], _∷_, map}
 use mathlib.Core.Option.{Option, none, some}
 use native.Mathlib.Omega.{arith}
-use lib.Dec.{eqb, leb, ltb, lit<}
+use lib.Dec.{eqb, ltb, lit<}
 use borrow.Author.Tests.{lt-ltb, le-ltb, ltb-true, ltb-false}
 use Rattle.base.specs.Walk.{cond-both}
 use Rattle.lines.specs.declared.Command.{Command}
@@ -16,7 +16,7 @@ use Rattle.lines.specs.declared.Field.the-variants.{Empty, Number, Wrong
 use Rattle.lines.specs.declared.Reading.{Reading}
 use Rattle.lines.specs.declared.Reading.the-variants.{Fresh, Letter, One, Two, Ill}
 use Rattle.lines.specs.Ascii.{tab}
-use Rattle.lines.specs.Commands.{firstField, otherFields, isDigit, allDigits, valueAfter, limit, numberOf, withNone, withOne, withTwo, ofNumbers, ofFields, commandOf}
+use Rattle.lines.specs.Commands.{firstField, otherFields, isDigit, allDigits, valueAfter, limit, numberOf, ofNumbers, ofFields, commandOf}
 
 -- a number after one digit more
 unfoldable pub withDigit : ℕ → ℕ → Field

@@ -1,6 +1,3 @@
-use mathlib.Core.Path.{_≡_, refl, sym, ap, _∙_}
-use native.Mathlib.Omega.{arith}
-use borrow.Author.Tests.{eq-eqb, ne-eqb, lt-ltb, le-ltb, lt-leb, le-leb, not-true, not-false}
 use borrow.Author.Needs.{needs}
 use Rattle.lines.proofs.byte_taken.Statement.{statement}
 use Rattle.lines.proofs.byte_taken.Tie as tie
@@ -8,51 +5,39 @@ use Rattle.lines.proofs.byte_taken.Reads as reads
 use Rattle.lines.proofs.byte_taken.Lts as lts
 use Rattle.lines.proofs.field_taken.Reads as field-taken-reads
 
--- src/lib.rt:84:27
 enum-told : tie.Need-enum-told
 enum-told c = search needs
 
--- src/lib.rt:85:31
 enum-told-2 : tie.Need-enum-told-2
 enum-told-2 c = search needs
 
--- src/lib.rt:86:22
 enum-known-r : tie.Need-enum-known-r
 enum-known-r c = search needs
 
--- src/lib.rt:86:47
 field-taken-requires : tie.Need-field-taken-requires
 field-taken-requires c κs = search needs
 
--- src/lib.rt:87:22
 enum-known-r-2 : tie.Need-enum-known-r-2
 enum-known-r-2 c = search needs
 
--- src/lib.rt:87:53
 field-taken-requires-2 : tie.Need-field-taken-requires-2
 field-taken-requires-2 c κs = search needs
 
--- src/lib.rt:88:25
 enum-told-3 : tie.Need-enum-told-3
 enum-told-3 c = search needs
 
--- src/lib.rt:80:1
 returns : tie.Need-returns
 returns c = rw (c .enum-told .given .1)
 
--- src/lib.rt:80:1
 returns-2 : tie.Need-returns-2
 returns-2 c = search needs
 
--- src/lib.rt:80:1
 returns-3 : tie.Need-returns-3
 returns-3 c = rw (c .before .before .r .given .1, c .field-taken .ensures)
 
--- src/lib.rt:80:1
 returns-4 : tie.Need-returns-4
 returns-4 c = rw (c .before .before .r2 .given .1, c .field-taken2 .ensures)
 
--- src/lib.rt:80:1
 returns-5 : tie.Need-returns-5
 returns-5 c = search needs
 

@@ -1,8 +1,6 @@
 use Rattle.lines.specs.Commands.{isDigit}
 use Rattle.lines.specs.Machine.{fieldTaken}
-use mathlib.Core.Path.{_≡_, refl, sym, ap, _∙_}
-use native.Mathlib.Omega.{arith}
-use borrow.Author.Tests.{eq-eqb, ne-eqb, lt-ltb, le-ltb, lt-leb, le-leb, not-true, not-false}
+use borrow.Author.Tests.{lt-leb, le-leb}
 use borrow.Author.Needs.{needs}
 use Rattle.lines.proofs.field_taken.Statement.{statement}
 use Rattle.lines.proofs.field_taken.Tie as tie
@@ -10,47 +8,37 @@ use Rattle.lines.proofs.field_taken.Reads as reads
 use Rattle.lines.proofs.field_taken.Lts as lts
 use Rattle.lines.proofs.with_digit.Reads as with-digit-reads
 
--- src/lib.rt:58:9
 returns : tie.Need-returns
 unfolding fieldTaken isDigit
 returns c = rw (lt-leb _ _ (c .if1 .taken))
 
--- src/lib.rt:61:9
 returns-2 : tie.Need-returns-2
 unfolding fieldTaken isDigit
 returns-2 c = rw (le-leb _ _ (c .before .if1 .left), lt-leb _ _ (c .if2 .taken))
 
--- src/lib.rt:64:25
 enum-told : tie.Need-enum-told
 enum-told c = search needs
 
--- src/lib.rt:64:25
 with-digit-requires : tie.Need-with-digit-requires
 with-digit-requires c κs = search needs
 
--- src/lib.rt:65:23
 enum-known-f : tie.Need-enum-known-f
 enum-known-f c = search needs
 
--- src/lib.rt:65:29
 with-digit-requires-2 : tie.Need-with-digit-requires-2
 with-digit-requires-2 c κs = search needs
 
--- src/lib.rt:66:25
 enum-told-2 : tie.Need-enum-told-2
 enum-told-2 c = search needs
 
--- src/lib.rt:54:1
 returns-3 : tie.Need-returns-3
 unfolding fieldTaken isDigit
 returns-3 c = rw (le-leb _ _ (c .before .before .before .before .if1 .left), le-leb _ _ (c .before .before .before .if2 .left), c .before .enum-told .given .1) (c .with-digit .ensures)
 
--- src/lib.rt:54:1
 returns-4 : tie.Need-returns-4
 unfolding fieldTaken isDigit
 returns-4 c = rw (le-leb _ _ (c .before .before .before .before .before .if1 .left), le-leb _ _ (c .before .before .before .before .if2 .left), c .before .before .f .given .1) (c .with-digit2 .ensures)
 
--- src/lib.rt:54:1
 returns-5 : tie.Need-returns-5
 unfolding fieldTaken isDigit
 returns-5 c = rw (le-leb _ _ (c .before .before .before .if1 .left), le-leb _ _ (c .before .before .if2 .left), c .enum-told2 .given .1)

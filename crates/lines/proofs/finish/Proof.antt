@@ -1,6 +1,3 @@
-use mathlib.Core.Path.{_≡_, refl, sym, ap, _∙_}
-use native.Mathlib.Omega.{arith}
-use borrow.Author.Tests.{eq-eqb, ne-eqb, lt-ltb, le-ltb, lt-leb, le-leb, not-true, not-false}
 use borrow.Author.Needs.{needs}
 use Rattle.lines.proofs.finish.Statement.{statement}
 use Rattle.lines.proofs.finish.Tie as tie
@@ -10,55 +7,42 @@ use Rattle.lines.proofs.one_read.Reads as one-read-reads
 use Rattle.lines.proofs.two_read.Reads as two-read-reads
 use Rattle.lines.proofs.with_none.Reads as with-none-reads
 
--- src/lib.rt:183:27
 enum-told : tie.Need-enum-told
 enum-told c = search needs
 
--- src/lib.rt:184:25
 enum-known-r : tie.Need-enum-known-r
 enum-known-r c = search needs
 
--- src/lib.rt:184:31
 with-none-requires : tie.Need-with-none-requires
 with-none-requires c κs = search needs
 
--- src/lib.rt:185:22
 enum-known-r-2 : tie.Need-enum-known-r-2
 enum-known-r-2 c = search needs
 
--- src/lib.rt:185:31
 one-read-requires : tie.Need-one-read-requires
 one-read-requires c κs = search needs
 
--- src/lib.rt:186:22
 enum-known-r-3 : tie.Need-enum-known-r-3
 enum-known-r-3 c = search needs
 
--- src/lib.rt:186:34
 two-read-requires : tie.Need-two-read-requires
 two-read-requires c κs = search needs
 
--- src/lib.rt:187:25
 enum-told-2 : tie.Need-enum-told-2
 enum-told-2 c = search needs
 
--- src/lib.rt:179:1
 returns : tie.Need-returns
 returns c = rw (c .enum-told .given .1)
 
--- src/lib.rt:179:1
 returns-2 : tie.Need-returns-2
 returns-2 c = rw (c .before .before .r .given .1) (c .with-none .ensures)
 
--- src/lib.rt:179:1
 returns-3 : tie.Need-returns-3
 returns-3 c = rw (c .before .before .r2 .given .1) (c .one-read .ensures)
 
--- src/lib.rt:179:1
 returns-4 : tie.Need-returns-4
 returns-4 c = rw (c .before .before .r3 .given .1) (c .two-read .ensures)
 
--- src/lib.rt:179:1
 returns-5 : tie.Need-returns-5
 returns-5 c = rw (c .enum-told2 .given .1)
 

@@ -1,6 +1,3 @@
-use mathlib.Core.Path.{_≡_, refl, sym, ap, _∙_}
-use native.Mathlib.Omega.{arith}
-use borrow.Author.Tests.{eq-eqb, ne-eqb, lt-ltb, le-ltb, lt-leb, le-leb, not-true, not-false}
 use borrow.Author.Needs.{needs}
 use Rattle.lines.proofs.one_read.Statement.{statement}
 use Rattle.lines.proofs.one_read.Tie as tie
@@ -8,31 +5,24 @@ use Rattle.lines.proofs.one_read.Reads as reads
 use Rattle.lines.proofs.one_read.Lts as lts
 use Rattle.lines.proofs.with_one.Reads as with-one-reads
 
--- src/lib.rt:159:25
 enum-told : tie.Need-enum-told
 enum-told c = search needs
 
--- src/lib.rt:160:23
 enum-known-f : tie.Need-enum-known-f
 enum-known-f c = search needs
 
--- src/lib.rt:160:29
 with-one-requires : tie.Need-with-one-requires
 with-one-requires c κs = search needs
 
--- src/lib.rt:161:25
 enum-told-2 : tie.Need-enum-told-2
 enum-told-2 c = search needs
 
--- src/lib.rt:155:1
 returns : tie.Need-returns
 returns c = rw (c .enum-told .given .1)
 
--- src/lib.rt:155:1
 returns-2 : tie.Need-returns-2
 returns-2 c = rw (c .before .before .f .given .1) (c .with-one .ensures)
 
--- src/lib.rt:155:1
 returns-3 : tie.Need-returns-3
 returns-3 c = rw (c .enum-told2 .given .1)
 

@@ -1,7 +1,5 @@
 use Rattle.lines.specs.Machine.{taken}
-use mathlib.Core.Path.{_≡_, refl, sym, ap, _∙_}
-use native.Mathlib.Omega.{arith}
-use borrow.Author.Tests.{eq-eqb, ne-eqb, lt-ltb, le-ltb, lt-leb, le-leb, not-true, not-false}
+use borrow.Author.Tests.{eq-eqb, ne-eqb}
 use borrow.Author.Needs.{needs}
 use Rattle.lines.proofs.take.Statement.{statement}
 use Rattle.lines.proofs.take.Tie as tie
@@ -10,20 +8,16 @@ use Rattle.lines.proofs.take.Lts as lts
 use Rattle.lines.proofs.byte_taken.Reads as byte-taken-reads
 use Rattle.lines.proofs.tab_taken.Reads as tab-taken-reads
 
--- src/lib.rt:104:9
 tab-taken-requires : tie.Need-tab-taken-requires
 tab-taken-requires c κs = search needs
 
--- src/lib.rt:104:9
 returns : tie.Need-returns
 unfolding taken
 returns c = rw (eq-eqb _ _ (c .before .if1 .taken)) (c .tab-taken .ensures)
 
--- src/lib.rt:106:5
 byte-taken-requires : tie.Need-byte-taken-requires
 byte-taken-requires c κs = search needs
 
--- src/lib.rt:100:1
 returns-2 : tie.Need-returns-2
 unfolding taken
 returns-2 c = rw (ne-eqb _ _ (c .before .if1 .left)) (c .byte-taken .ensures)

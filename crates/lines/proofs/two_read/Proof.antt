@@ -1,6 +1,3 @@
-use mathlib.Core.Path.{_≡_, refl, sym, ap, _∙_}
-use native.Mathlib.Omega.{arith}
-use borrow.Author.Tests.{eq-eqb, ne-eqb, lt-ltb, le-ltb, lt-leb, le-leb, not-true, not-false}
 use borrow.Author.Needs.{needs}
 use Rattle.lines.proofs.two_read.Statement.{statement}
 use Rattle.lines.proofs.two_read.Tie as tie
@@ -8,51 +5,39 @@ use Rattle.lines.proofs.two_read.Reads as reads
 use Rattle.lines.proofs.two_read.Lts as lts
 use Rattle.lines.proofs.with_two.Reads as with-two-reads
 
--- src/lib.rt:169:25
 enum-told : tie.Need-enum-told
 enum-told c = search needs
 
--- src/lib.rt:170:23
 enum-known-f : tie.Need-enum-known-f
 enum-known-f c = search needs
 
--- src/lib.rt:171:29
 enum-told-2 : tie.Need-enum-told-2
 enum-told-2 c = search needs
 
--- src/lib.rt:172:27
 enum-known-g : tie.Need-enum-known-g
 enum-known-g c = search needs
 
--- src/lib.rt:172:33
 with-two-requires : tie.Need-with-two-requires
 with-two-requires c κs = search needs
 
--- src/lib.rt:173:29
 enum-told-3 : tie.Need-enum-told-3
 enum-told-3 c = search needs
 
--- src/lib.rt:175:25
 enum-told-4 : tie.Need-enum-told-4
 enum-told-4 c = search needs
 
--- src/lib.rt:165:1
 returns : tie.Need-returns
 returns c = rw (c .enum-told .given .1)
 
--- src/lib.rt:165:1
 returns-2 : tie.Need-returns-2
 returns-2 c = rw (c .before .before .before .f .given .1, c .enum-told2 .given .1)
 
--- src/lib.rt:165:1
 returns-3 : tie.Need-returns-3
 returns-3 c = rw (c .before .before .before .before .before .f .given .1, c .before .before .g .given .1) (c .with-two .ensures)
 
--- src/lib.rt:165:1
 returns-4 : tie.Need-returns-4
 returns-4 c = rw (c .before .before .before .f .given .1, c .enum-told3 .given .1)
 
--- src/lib.rt:165:1
 returns-5 : tie.Need-returns-5
 returns-5 c = rw (c .enum-told4 .given .1)
 

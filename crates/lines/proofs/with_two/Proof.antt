@@ -1,24 +1,18 @@
 use Rattle.lines.specs.Commands.{withTwo}
-use mathlib.Core.Path.{_≡_, refl, sym, ap, _∙_}
-use native.Mathlib.Omega.{arith}
-use borrow.Author.Tests.{eq-eqb, ne-eqb, lt-ltb, le-ltb, lt-leb, le-leb, not-true, not-false}
-use borrow.Author.Needs.{needs}
+use borrow.Author.Tests.{eq-eqb, ne-eqb}
 use Rattle.lines.proofs.with_two.Statement.{statement}
 use Rattle.lines.proofs.with_two.Tie as tie
 use Rattle.lines.proofs.with_two.Reads as reads
 use Rattle.lines.proofs.with_two.Lts as lts
 
--- src/lib.rt:143:9
 returns : tie.Need-returns
 unfolding withTwo
 returns c = simp (eq-eqb _ _ (c .if1 .taken))
 
--- src/lib.rt:146:9
 returns-2 : tie.Need-returns-2
 unfolding withTwo
 returns-2 c = simp (ne-eqb _ _ (c .before .if1 .left), eq-eqb _ _ (c .if2 .taken))
 
--- src/lib.rt:139:1
 returns-3 : tie.Need-returns-3
 unfolding withTwo
 returns-3 c = simp (ne-eqb _ _ (c .before .if1 .left), ne-eqb _ _ (c .if2 .left))
