@@ -6,15 +6,17 @@ use types::Reply;
 ghost use mathlib.Core.Path.{_≡_};
 ghost use mathlib.Core.Bool.{false};
 ghost use Prim.Native.Nat.{ℕ, _<_, _≤_};
-ghost use Rattle.types.specs.declared.Place.the-variants.{Empty};
+ghost use Rattle.types.specs.declared.Place.the-variants.{Held, Empty};
 ghost use Rattle.spec.specs.Register.{state};
 ghost use Rattle.laws.specs.Tests.{lentNumber};
-ghost use Rattle.spec.specs.Calls.{refused, accepts, placeOf, writeInHand, insert};
+ghost use Rattle.spec.specs.Calls.{refused, accepts, placeOf, writeInHand, insert, delete};
 
-// nodes kept back from the keys, and free nodes that an insert asks for
+// nodes kept back from the keys, and free nodes that an insert and a delete ask for
 const RESERVE: u64 = 4;
 
 const FREE_FOR_INSERT: u32 = 3;
+
+const FREE_FOR_DELETE: u32 = 4;
 
 pub fn refused(number: u32, register: Register) -> Reply
     ensures { λ r. ⌜ (accepts (r .answer) ≡ refused number) × (r .register ≡ register) ⌝ }
@@ -39,6 +41,27 @@ pub fn insert_at(pool: &[u32], reg: Register, k: u32, v: u32, l: Link) -> Reply
         return refused(11, reg);
     }
     let plan = plans::insert_plan(pool, reg, k, v, l);
+    if plan.possible {} else {
+        return refused(12, reg);
+    }
+    let write = plan.write;
+    let register = register::with_write(reg, write);
+    Reply {
+        answer: Acceptance::Accepted,
+        register,
+    }
+}
+
+// a delete of node n, which the link l holds, after the tests of the search
+pub fn delete_at(pool: &[u32], reg: Register, k: u32, l: Link, n: u32) -> Reply
+    requires { ⌜ (lentNumber (state (now pool) reg) ≡ 0) × (writeInHand (state (now pool) reg) ≡ false) × (placeOf (state (now pool) reg) k ≡ Held l n) ⌝ }
+    ensures { λ r. ⌜ accepts (r .answer) ≡ delete (state (now (pool .entry)) reg) k .answer ⌝ }
+    ensures { λ r. ⌜ state (now (pool .entry)) (r .register) ≡ delete (state (now (pool .entry)) reg) k .after ⌝ }
+{
+    if reg.free < FREE_FOR_DELETE {
+        return refused(11, reg);
+    }
+    let plan = plans::delete_plan(pool, reg, l, n);
     if plan.possible {} else {
         return refused(12, reg);
     }

@@ -8,9 +8,11 @@ use types::ReaderAnswer;
 use types::ReaderReply;
 use types::Register;
 use types::Reply;
+use types::WriterAnswer;
+use types::WriterReply;
 ghost use mathlib.Core.Path.{_≡_};
 ghost use Rattle.spec.specs.Register.{state};
-ghost use Rattle.spec.specs.Calls.{accepts, readerSays, setUp, insert, begin, readerTurn, giveUp};
+ghost use Rattle.spec.specs.Calls.{accepts, writerSays, readerSays, setUp, insert, delete, writerTurn, begin, readerTurn, giveUp};
 
 // the most nodes of a path
 const PATH_BOUND: u32 = 64;
@@ -51,6 +53,47 @@ pub fn insert(pool: &[u32], reg: Register, k: u32, v: u32) -> Reply
         Place::Empty(l) => accepts::insert_at(pool, reg, k, v, l),
         Place::TooDeep => accepts::refused(12, reg),
     }
+}
+
+pub fn delete(pool: &[u32], reg: Register, k: u32) -> Reply
+    ensures { λ r. ⌜ accepts (r .answer) ≡ delete (state (now (pool .entry)) reg) k .answer ⌝ }
+    ensures { λ r. ⌜ state (now (pool .entry)) (r .register) ≡ delete (state (now (pool .entry)) reg) k .after ⌝ }
+{
+    let why = refusals::lent_refusal(pool, reg);
+    if why != 0 {
+        return accepts::refused(why, reg);
+    }
+    let hand = reg.write;
+    if hand.count != 0 {
+        return accepts::refused(6, reg);
+    }
+    let place = search::seek(pool, k, Link::Root, reg.root, PATH_BOUND);
+    match place {
+        Place::Held(l, n) => accepts::delete_at(pool, reg, k, l, n),
+        Place::Empty(_) => accepts::refused(9, reg),
+        Place::TooDeep => accepts::refused(12, reg),
+    }
+}
+
+pub fn writer_turn(pool: &mut [u32], reg: Register) -> WriterReply
+    ensures { λ r. ⌜ writerSays (r .answer) ≡ writerTurn (state (now (pool .entry)) reg) .answer ⌝ }
+    ensures { λ r. ⌜ state (now (pool .exit)) (r .register) ≡ writerTurn (state (now (pool .entry)) reg) .after ⌝ }
+{
+    let why = refusals::lent_refusal(pool, reg);
+    if why != 0 {
+        return turns::refused(why, reg);
+    }
+    let hand = reg.write;
+    if hand.count == 0 {
+        return turns::refused(7, reg);
+    }
+    if reg.awaited != 0 {
+        return WriterReply {
+            answer: WriterAnswer::Wait,
+            register: reg,
+        };
+    }
+    turns::make_first(pool, reg)
 }
 
 pub fn begin(pool: &[u32], reg: Register, s: u32, k: u32) -> Reply

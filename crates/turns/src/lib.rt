@@ -5,12 +5,18 @@ use types::Step;
 use types::Store;
 use types::Turned;
 use types::Write;
+use types::WriterAnswer;
+use types::WriterReply;
 ghost use mathlib.Core.Path.{_≡_};
+ghost use mathlib.Core.List.{List};
+ghost use mathlib.Core.Bool.{true};
 ghost use Prim.Native.Nat.{ℕ, _<_};
 ghost use lib.ListN.{length};
 ghost use Rattle.spec.specs.Register.{state, lessFirst};
 ghost use Rattle.spec.specs.Turn.{stepFinds};
+ghost use Rattle.spec.specs.Calls.{writerSays, refused, stored, writeInHand, writerTurn};
 ghost use Rattle.laws.specs.Turns.{turned, tried};
+ghost use Rattle.laws.specs.Tests.{lentNumber};
 
 // Tries the step x at the link l.
 pub fn try_step(pool: &mut [u32], reg: Register, l: Link, x: Step) -> Turned
@@ -51,4 +57,52 @@ pub fn less_first(w: Write) -> Write
     };
     r.count = register::count_down(w.count);
     r
+}
+
+// What a turn answers whose step was made: done if no store is left after it, more otherwise.
+pub fn stored(t: Turned) -> WriterReply
+    ensures { λ r. ⌜ ((p : List ℕ) → (writerSays (r .answer) ≡ stored (turned p t) .answer) × (state p (r .register) ≡ stored (turned p t) .after)) ⌝ }
+{
+    let link = t.link;
+    let node = t.node;
+    let reg = t.register;
+    let hand = reg.write;
+    let left = less_first(hand);
+    let register = register::with_write(reg, left);
+    if left.count == 0 {
+        return WriterReply {
+            answer: WriterAnswer::Done(link, node),
+            register,
+        };
+    }
+    WriterReply {
+        answer: WriterAnswer::More(link, node),
+        register,
+    }
+}
+
+pub fn refused(number: u32, register: Register) -> WriterReply
+    ensures { λ r. ⌜ (writerSays (r .answer) ≡ refused number) × (r .register ≡ register) ⌝ }
+{
+    WriterReply {
+        answer: WriterAnswer::Refused(number),
+        register,
+    }
+}
+
+// A turn with a write in hand and no awaited slot makes the first store.
+pub fn make_first(pool: &mut [u32], reg: Register) -> WriterReply
+    requires { ⌜ (lentNumber (state (now pool) reg) ≡ 0) × (writeInHand (state (now pool) reg) ≡ true) × (reg .awaited ≡ 0) ⌝ }
+    ensures { λ r. ⌜ writerSays (r .answer) ≡ writerTurn (state (now (pool .entry)) reg) .answer ⌝ }
+    ensures { λ r. ⌜ state (now (pool .exit)) (r .register) ≡ writerTurn (state (now (pool .entry)) reg) .after ⌝ }
+{
+    let hand = reg.write;
+    let x = hand.stores[0];
+    let link = x.link;
+    let step = x.step;
+    let t = try_step(pool, reg, link, step);
+    if t.found {
+        return stored(t);
+    }
+    refused(12, reg)
 }

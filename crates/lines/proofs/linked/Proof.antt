@@ -1,0 +1,33 @@
+use lib.ListN.{length-append}
+use Rattle.lines.specs.Decimal.{short-length}
+use Rattle.lines.specs.Put.{put-field}
+use Rattle.lines.specs.Text.{linkText}
+use native.Mathlib.Omega.{arith}
+use borrow.Author.Needs.{needs}
+use Rattle.lines.proofs.linked.Statement.{statement}
+use Rattle.lines.proofs.linked.Tie as tie
+use Rattle.lines.proofs.linked.Reads as reads
+use Rattle.lines.proofs.linked.Lts as lts
+use Rattle.lines.proofs.link_field.Reads as link-field-reads
+use Rattle.lines.proofs.number_field.Reads as number-field-reads
+use Rattle.lines.proofs.text_field.Reads as text-field-reads
+
+text-field-requires : tie.Need-text-field-requires
+text-field-requires c κs = search needs
+
+link-field-requires : tie.Need-link-field-requires
+link-field-requires c κs = omega (arith, simp length-append at (c .before .before .before .text-field .ensures .ends))
+
+number-field-requires : tie.Need-number-field-requires
+number-field-requires c κs = omega (arith, simp length-append at (c .before .before .before .before .before .before .before .text-field .ensures .ends), c .before .before .before .link-field .ensures .1, short-length (c .before .before .before .before .before .before .before .before .before .before .before .args .n) (search needs))
+
+same-length : tie.Need-same-length
+same-length c = search needs
+
+returns : tie.Need-returns
+returns c = put-field (c .before .before .before .before .before .before .before .before .before .before .before .before .before .before .args .word .now) (c .before .before .before .before .before .before .before .before .before .before .text-field .ensures) (put-field (linkText (c .before .before .before .before .before .before .before .before .before .before .before .before .before .before .args .l)) (c .before .before .before .before .before .before .link-field .ensures .0) (c .before .before .number-field .ensures))
+
+pub linked-spec : {M : Type 1} → statement M
+linked-spec =
+    tie.close
+    (tie.spec text-field-requires link-field-requires number-field-requires same-length returns)

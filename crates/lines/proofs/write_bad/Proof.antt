@@ -1,0 +1,48 @@
+use lib.ListN.{length-append}
+use Rattle.lines.specs.Ascii.{text}
+use Rattle.lines.specs.Decimal.{decimal, long-length}
+use Rattle.lines.specs.Put.{put-field}
+use Rattle.lines.specs.Text.{badLine}
+use native.Mathlib.Omega.{arith}
+use borrow.Author.Needs.{needs}
+use Rattle.lines.proofs.write_bad.Statement.{statement}
+use Rattle.lines.proofs.write_bad.Tie as tie
+use Rattle.lines.proofs.write_bad.Reads as reads
+use Rattle.lines.proofs.write_bad.Lts as lts
+use Rattle.lines.proofs.number_field.Reads as number-field-reads
+use Rattle.lines.proofs.plain.Reads as plain-reads
+use Rattle.lines.proofs.text_field.Reads as text-field-reads
+
+number-field-requires : tie.Need-number-field-requires
+number-field-requires c κs = omega (arith, long-length (c .before .before .args .number) (search needs))
+
+slice-aggregate-text-field : tie.Need-slice-aggregate-text-field
+slice-aggregate-text-field c = search needs
+
+text-field-requires : tie.Need-text-field-requires
+text-field-requires c κs = omega (arith, long-length (c .before .before .before .before .before .before .before .args .number) (search needs), simp length-append at (c .before .before .before .before .number-field .ensures .ends))
+
+slice-aggregate-plain : tie.Need-slice-aggregate-plain
+slice-aggregate-plain c = search needs
+
+plain-requires : tie.Need-plain-requires
+plain-requires c κs = omega (arith, long-length (c .before .before .before .before .before .before .before .before .before .before .before .before .args .number) (search needs), simp length-append at (c .before .before .before .before .before .before .before .before .before .number-field .ensures .ends), c .before .before .before .before .text-field .ensures .ends)
+
+same-length : tie.Need-same-length
+same-length c = search needs
+
+returns : tie.Need-returns
+unfolding badLine
+returns c = put-field (decimal (c .before .before .before .before .before .before .before .before .before .before .before .before .before .before .before .args .number)) (c .before .before .before .before .before .before .before .before .before .before .before .before .number-field .ensures) (put-field (text "-") (c .before .before .before .before .before .before .before .text-field .ensures) (c .before .before .plain .ensures))
+
+pub write-bad-spec : {M : Type 1} → statement M
+write-bad-spec =
+    tie.close
+    (tie.spec
+    number-field-requires
+    slice-aggregate-text-field
+    text-field-requires
+    slice-aggregate-plain
+    plain-requires
+    same-length
+    returns)

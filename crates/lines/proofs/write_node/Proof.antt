@@ -1,0 +1,63 @@
+use Rattle.lines.specs.Decimal.{decimal}
+use Rattle.lines.specs.Put.{put-nothing, put-six}
+use Rattle.lines.specs.Text.{nodeLine, nodeShown}
+use native.Mathlib.Omega.{arith}
+use borrow.Author.Tests.{eq-eqb, ne-eqb}
+use borrow.Author.Needs.{needs}
+use Rattle.lines.proofs.write_node.Statement.{statement}
+use Rattle.lines.proofs.write_node.Tie as tie
+use Rattle.lines.proofs.write_node.Reads as reads
+use Rattle.lines.proofs.write_node.Lts as lts
+use Rattle.lines.proofs.put_three.Reads as put-three-reads
+use Rattle.pool.proofs.word.Reads as word-reads
+
+word-requires : tie.Need-word-requires
+word-requires c κs = search needs
+
+returns : tie.Need-returns
+unfolding nodeLine nodeShown
+returns c = rw (← (c .before .word .ensures), ne-eqb _ _ (c .if1 .taken)) (put-nothing _ _ (omega arith))
+
+word-requires-2 : tie.Need-word-requires-2
+word-requires-2 c κs = search needs
+
+word-requires-3 : tie.Need-word-requires-3
+word-requires-3 c κs = search needs
+
+word-requires-4 : tie.Need-word-requires-4
+word-requires-4 c κs = search needs
+
+word-requires-5 : tie.Need-word-requires-5
+word-requires-5 c κs = search needs
+
+word-requires-6 : tie.Need-word-requires-6
+word-requires-6 c κs = search needs
+
+put-three-requires : tie.Need-put-three-requires
+put-three-requires c κs = search needs
+
+put-three-requires-2 : tie.Need-put-three-requires-2
+put-three-requires-2 c κs = omega (arith, c .before .before .before .put-three .ensures .1)
+
+same-length : tie.Need-same-length
+same-length c = search needs
+
+returns-2 : tie.Need-returns-2
+unfolding nodeLine nodeShown
+returns-2 c = rw (← (c .before .before .before .before .before .before .before .before .before .before .before .before .before .before .word .ensures), eq-eqb _ _ (c .before .before .before .before .before .before .before .before .before .before .before .before .before .if1 .left), ← (c .before .before .before .before .before .before .before .before .before .before .before .before .word2 .ensures), ← (c .before .before .before .before .before .before .before .before .before .before .before .word3 .ensures), ← (c .before .before .before .before .before .before .before .before .before .before .word4 .ensures), ← (c .before .before .before .before .before .before .before .before .before .word5 .ensures), ← (c .before .before .before .before .before .before .before .before .word6 .ensures)) (put-six (decimal (c .before .before .before .before .before .before .before .before .before .before .before .before .before .before .before .before .before .args .n)) (decimal (c .before .before .before .before .before .before .before .before .before .before .before .before .word2 .result)) (decimal (c .before .before .before .before .before .before .before .before .before .before .before .word3 .result)) (c .before .before .before .before .before .before .put-three .ensures .0) (c .before .before .put-three2 .ensures .0))
+
+pub write-node-spec : {M : Type 1} → statement M
+write-node-spec =
+    tie.close
+    (tie.spec
+    word-requires
+    returns
+    word-requires-2
+    word-requires-3
+    word-requires-4
+    word-requires-5
+    word-requires-6
+    put-three-requires
+    put-three-requires-2
+    same-length
+    returns-2)

@@ -1,0 +1,71 @@
+-- A number's base-ten digits as text, with no leading zero but that of 0.
+use Prim.Native.Nat.{ℕ, zero, suc, _+_, _*_, _/_, _%_, _^_, _<_, _≤_}
+use Prim.Native.Char.{code}
+use mathlib.Core.Path.{_≡_, refl}
+use mathlib.Core.Bool.{Bool, true, false, cond}
+use mathlib.Core.List.{List, [], _∷_, _++_}
+use native.Mathlib.Nat.{pow-suc}
+use native.Mathlib.Omega.{arith}
+use lib.Dec.{ltb}
+use lib.ListN.{length, length-append}
+use borrow.Author.Tests.{lt-ltb, le-ltb, ltb-false}
+
+abbrev pub digit : ℕ → ℕ
+digit d = code "0" + d
+
+-- the digits of n, where they are at most `most`
+unfoldable pub digits : (most n : ℕ) → List ℕ
+digits zero n = []
+digits (suc k) n = cond (ltb n 10) (digit n ∷ []) (digits k (n / 10) ++ (digit (n % 10) ∷ []))
+
+-- n + 1 is more than the digits of n
+unfoldable pub decimal : ℕ → List ℕ
+decimal n = digits (suc n) n
+
+-- The last digit stands after those of a tenth.
+digits-most : (j k n : ℕ) → n < j → n < k → digits j n ≡ digits k n
+unfolding digits
+digits-most zero k n a b = absurd (let z : ⊥ = omega arith in z)
+digits-most (suc j) zero n a b = absurd (let z : ⊥ = omega arith in z)
+digits-most (suc j) (suc k) n a b = split (ltb n 10) refl (digits-most j k (n / 10))
+  where
+    split : (t : Bool) → ltb n 10 ≡ t → (n / 10 < j → n / 10 < k → digits j (n / 10) ≡ digits k (n / 10)) → digits (suc j) n ≡ digits (suc k) n
+    split true e rest = rw e
+    split false e rest = rw (e, rest (omega (arith, ltb-false n 10 e)) (omega (arith, ltb-false n 10 e)))
+
+pub decimal-one : (n : ℕ) → n < 10 → decimal n ≡ digit n ∷ []
+unfolding decimal digits
+decimal-one n h = rw (lt-ltb n 10 h)
+
+pub decimal-more : (n : ℕ) → 10 ≤ n → decimal n ≡ decimal (n / 10) ++ (digit (n % 10) ∷ [])
+unfolding decimal digits
+decimal-more n h = rw (le-ltb n 10 h, digits-most n (suc (n / 10)) (n / 10) (omega arith) (omega arith))
+
+pub length-more : (n : ℕ) → 10 ≤ n → length (decimal n) ≡ length (decimal (n / 10)) + 1
+length-more n h = rw (decimal-more n h, length-append)
+
+-- A number below 10 ^ k has at most k digits.
+digits-length : (most k n : ℕ) → n < 10 ^ suc k → length (digits most n) ≤ suc k
+unfolding digits
+digits-length zero k n h = omega arith
+digits-length (suc m) k n h = split k (ltb n 10) refl h (λ j. digits-length m j (n / 10))
+  where
+    split : (k : ℕ) (t : Bool) → ltb n 10 ≡ t → n < 10 ^ suc k
+        → ((j : ℕ) → n / 10 < 10 ^ suc j → length (digits m (n / 10)) ≤ suc j)
+        → length (digits (suc m) n) ≤ suc k
+    split k true e h rest = rw e (omega arith)
+    split zero false e h rest = absurd (let z : ⊥ = omega (arith, ltb-false n 10 e) in z)
+    split (suc j) false e h rest =
+        let g : n < 10 ^ suc j * 10 = rw (pow-suc 10 (suc j)) at h in
+        rw e (simp length-append (omega (arith, rest j (omega arith))))
+
+decimal-length : (k n : ℕ) → n < 10 ^ suc k → length (decimal n) ≤ suc k
+unfolding decimal
+decimal-length k n h = digits-length (suc n) k n h
+
+-- a 32-bit number, and a 64-bit one
+pub short-length : (n : ℕ) → n < 2 ^ 32 → length (decimal n) ≤ 10
+short-length n h = decimal-length 9 n (omega (arith, h))
+
+pub long-length : (n : ℕ) → n < 2 ^ 64 → length (decimal n) ≤ 20
+long-length n h = decimal-length 19 n (omega (arith, h))

@@ -1,0 +1,7 @@
+pub mod Ascii
+pub mod Commands
+pub mod Decimal
+pub mod Examples
+pub mod Machine
+pub mod Put
+pub mod Text
