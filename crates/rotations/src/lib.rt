@@ -80,7 +80,16 @@ pub fn diag_lower(pool: &mut [u32], reg: Register, l: Link, s: Side, rule: Rule)
     let z = pool::other(s);
     let x = pool::child(pool, z, b);
     let y = pool::child(pool, z, c);
-    hang_copy(pool, reg, register::link_at(z, b), c, s, x, y, copy_colour(rule))
+    hang_copy(
+        pool,
+        reg,
+        register::link_at(z, b),
+        c,
+        s,
+        x,
+        y,
+        copy_colour(rule),
+    )
 }
 
 // A' takes B's child on A's side; B's link on that side := A'.
@@ -98,7 +107,16 @@ pub fn zig_lower_a(pool: &mut [u32], reg: Register, l: Link, s: Side, rule: Rule
     }
     let x = pool::child(pool, s, a);
     let y = pool::child(pool, s, b);
-    hang_copy(pool, reg, register::link_at(s, b), a, s, x, y, copy_colour(rule))
+    hang_copy(
+        pool,
+        reg,
+        register::link_at(s, b),
+        a,
+        s,
+        x,
+        y,
+        copy_colour(rule),
+    )
 }
 
 // C' takes B's child on the other side; B's link on that side := C'.
@@ -117,7 +135,16 @@ pub fn zig_lower_c(pool: &mut [u32], reg: Register, l: Link, s: Side, rule: Rule
     }
     let x = pool::child(pool, z, b);
     let y = pool::child(pool, z, c);
-    hang_copy(pool, reg, register::link_at(z, b), c, s, x, y, copy_colour(rule))
+    hang_copy(
+        pool,
+        reg,
+        register::link_at(z, b),
+        c,
+        s,
+        x,
+        y,
+        copy_colour(rule),
+    )
 }
 
 // The link from above := B, which takes its colour.
