@@ -1,4 +1,4 @@
-// Repeats one kind of call on an index that holds half as many keys as it has nodes, so that the instructions of a call can be counted.
+// Repeats one kind of call on an index that holds N / 2 − 1 keys, so that the instructions of a call can be counted.
 // Arguments: the call's letter, the pool's size (s, m, l: N 8, 128, 1,023), and how often (0: not at all, 1: 1,000 times).
 // Letters: P set up, I insert, D delete, B begin, G a reader's turn that answers go, F one that answers found, E give up,
 // C an insert and a delete of the same key with all their turns. All but P and C leave the index as it was.
@@ -19,7 +19,7 @@ fn argument(i: usize) -> u8 {
 }
 
 fn size_of(letter: u8) -> usize
-    ensures { λ r. ⌜ r ≤ 1023 ⌝ }
+    ensures { λ r. ⌜ (8 ≤ r) × (r ≤ 1023) ⌝ }
 {
     if letter == b'l' {
         return 1023;
@@ -183,7 +183,7 @@ fn main() {
     let top = size_of(argument(2));
     let mut words = [0u32; MOST_WORDS];
     let n = top * 8;
-    let keys = (top / 2) as u32;
+    let keys = (top / 2 - 1) as u32;
     let sum = run_on(&mut words, n, keys, argument(1), times_of(argument(3)));
     io::print_decimal(STDOUT_FILENO, sum as u64);
 }
