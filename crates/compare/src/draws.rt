@@ -49,13 +49,9 @@ pub fn after_call(x: u32) -> u32 {
     next(next(next(x)))
 }
 
-// a run goes through eight stretches
-pub fn mood(i: u64, calls: u64) -> Mood {
-    let stretch = if calls < 8 {
-        0
-    } else {
-        i / (calls / 8) % 4
-    };
+// The moods take turns, each long enough to fill the index or to empty it.
+fn mood_at(i: u64, nodes: u32) -> Mood {
+    let stretch = i / (nodes as u64 * 16 + 40) % 4;
     Mood {
         growing: stretch < 2,
         busy: (stretch == 1) | (stretch == 2),
@@ -65,7 +61,7 @@ pub fn mood(i: u64, calls: u64) -> Mood {
 // how many different keys a run draws from
 pub fn tickets(nodes: u32) -> u32 {
     if nodes < 1024 {
-        nodes * 2
+        nodes + nodes / 2
     } else {
         2048
     }
@@ -111,40 +107,34 @@ fn reader_kind(c: u32, begins: u32) -> u32 {
     GIVE_UP
 }
 
-// the kind of a call from a number below 64
-fn kind_of(c: u32, m: Mood) -> u32 {
-    let turns = if m.busy {
-        20
+fn bound(busy: bool, then: u32, otherwise: u32) -> u32 {
+    if busy {
+        then
     } else {
-        30
-    };
-    let writes = if m.busy {
-        32
-    } else {
-        48
-    };
-    let begins = if m.busy {
-        38
-    } else {
-        50
-    };
-    if c < turns {
-        return WRITER_TURN;
+        otherwise
     }
-    if c < writes {
-        return write_kind(m.growing, c % 4 != 0);
-    }
-    reader_kind(c, begins)
 }
 
-pub fn draw_call(x: u32, m: Mood, tickets: u32) -> Call {
+// the kind of a call from a number below 64
+fn kind_of(c: u32, m: Mood) -> u32 {
+    if c < bound(m.busy, 16, 24) {
+        return WRITER_TURN;
+    }
+    if c < bound(m.busy, 32, 50) {
+        return write_kind(m.growing, c % 4 != 0);
+    }
+    reader_kind(c, bound(m.busy, 38, 52))
+}
+
+// a run's call number i from a draw, on so many nodes
+pub fn draw_call(x: u32, i: u64, nodes: u32) -> Call {
     let first = next(x);
     let second = next(first);
     let third = next(second);
     Call {
-        kind: kind_of(high(first, 64), m),
+        kind: kind_of(high(first, 64), mood_at(i, nodes)),
         slot: slot_of(high(second, 256)),
-        ticket: high(third, tickets),
+        ticket: high(third, tickets(nodes)),
         record: second,
     }
 }

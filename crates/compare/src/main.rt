@@ -8,41 +8,9 @@ mod tally;
 mod walk;
 mod writing;
 use draws::Call;
-use types::Link;
-use types::Reader;
 use types::Register;
-use types::Step;
-use types::Store;
-use types::Write;
 
 const POOL_WORDS: usize = 8184;
-
-// any register: set up overwrites it
-fn blank() -> Register {
-    let none = Reader {
-        reading: false,
-        key: 0,
-        node: 0,
-    };
-    let vacant = Store {
-        link: Link::Root,
-        step: Step::Vacant,
-    };
-    let write = Write {
-        stores: [vacant; 7],
-        count: 0,
-    };
-    Register {
-        root: 0,
-        first: 0,
-        last: 0,
-        free: 0,
-        held: 0,
-        readers: [none; 8],
-        awaited: 0,
-        write,
-    }
-}
 
 // one call of the index, compared
 fn make_call(pool: &mut [u32], reg: Register, tree: &mut [u32], model: &mut [u32], counts: &mut [u64], call: Call) -> Register {
@@ -74,22 +42,51 @@ fn compare_state(pool: &[u32], reg: Register, model: &mut [u32], counts: &mut [u
     tally::one(counts, tally::STATES);
 }
 
-// calls drawn from a seed, on an index just set up
-fn run(pool: &mut [u32], tree: &mut [u32], model: &mut [u32], counts: &mut [u64], calls: u64, seed: u32) {
+fn greater(a: u32, b: u32) -> u32 {
+    if a < b {
+        b
+    } else {
+        a
+    }
+}
+
+fn compared_call(pool: &mut [u32], reg: Register, tree: &mut [u32], model: &mut [u32], counts: &mut [u64], call: Call) -> Register {
+    let after = make_call(pool, reg, tree, model, counts, call);
+    tally::one(counts, call.kind as usize);
+    compare_state(pool, after, model, counts);
+    after
+}
+
+fn set_up(pool: &mut [u32], tree: &mut [u32], model: &mut [u32], counts: &mut [u64]) -> Register {
     reference::clear(tree);
     model::clear(model);
-    let mut reg = writing::set_up(pool, blank(), counts);
+    writing::set_up(pool, blank::register(), counts)
+}
+
+// calls drawn from a seed, on an index just set up
+fn run(pool: &mut [u32], tree: &mut [u32], model: &mut [u32], counts: &mut [u64], calls: u64, seed: u32) {
+    let nodes = walk::nodes(pool);
+    let mut reg = set_up(pool, tree, model, counts);
+    let mut most: u32 = 0;
     let mut x = seed;
     let mut i: u64 = 0;
     while i < calls {
-        let call = draws::draw_call(x, draws::mood(i, calls), draws::tickets(walk::nodes(pool)));
-        reg = make_call(pool, reg, tree, model, counts, call);
-        tally::one(counts, call.kind as usize);
-        compare_state(pool, reg, model, counts);
+        let call = draws::draw_call(x, i, nodes);
+        reg = compared_call(pool, reg, tree, model, counts, call);
+        most = greater(most, reg.held);
         x = draws::after_call(x);
         i += 1;
     }
     tally::same(counts, reference::overruns(tree) == 0);
+    print::run(nodes, calls, most);
+}
+
+// a run on the first so many nodes of the words lent
+fn run_on(nodes: u32, pool: &mut [u32], tree: &mut [u32], model: &mut [u32], counts: &mut [u64], calls: u64, seed: u32) {
+    let words = nodes as usize * 8;
+    if words <= pool.len() {
+        run(&mut pool[0..words], tree, model, counts, calls, seed);
+    }
 }
 
 fn main() {
@@ -97,12 +94,12 @@ fn main() {
     let mut tree = [0u32; 6150];
     let mut model = [0u32; 4360];
     let mut counts = [0u64; 128];
-    run(&mut pool[..64], &mut tree, &mut model, &mut counts, 30_000, 1);
-    run(&mut pool[..72], &mut tree, &mut model, &mut counts, 30_000, 2);
-    run(&mut pool[..104], &mut tree, &mut model, &mut counts, 30_000, 3);
-    run(&mut pool[..128], &mut tree, &mut model, &mut counts, 30_000, 4);
-    run(&mut pool[..264], &mut tree, &mut model, &mut counts, 40_000, 5);
-    run(&mut pool[..1024], &mut tree, &mut model, &mut counts, 60_000, 6);
-    run(&mut pool[..8184], &mut tree, &mut model, &mut counts, 100_000, 7);
+    run_on(8, &mut pool, &mut tree, &mut model, &mut counts, 150_000, 1);
+    run_on(9, &mut pool, &mut tree, &mut model, &mut counts, 150_000, 2);
+    run_on(13, &mut pool, &mut tree, &mut model, &mut counts, 150_000, 3);
+    run_on(16, &mut pool, &mut tree, &mut model, &mut counts, 150_000, 4);
+    run_on(33, &mut pool, &mut tree, &mut model, &mut counts, 150_000, 5);
+    run_on(128, &mut pool, &mut tree, &mut model, &mut counts, 150_000, 6);
+    run_on(1023, &mut pool, &mut tree, &mut model, &mut counts, 250_000, 7);
     print::all(&counts);
 }

@@ -133,7 +133,10 @@ pub fn end_lookup(model: &mut [u32], s: u32) {
 
 fn seen_last(model: &[u32], s: u32, v: u32) -> bool {
     let seen = slot_word(model, s, SEEN);
-    if (seen == 0) | (MEMORY < seen) {
+    if seen == 0 {
+        return false;
+    }
+    if MEMORY < seen {
         return false;
     }
     slot_word(model, s, RECORDS - 1 + seen) == v
@@ -182,8 +185,8 @@ pub fn observe(model: &mut [u32]) -> bool {
 pub fn was_listed(model: &[u32], s: u32, v: u32) -> bool {
     let seen = slot_word(model, s, SEEN);
     let mut i: u32 = 0;
-    while (i < seen) & (i < MEMORY) {
-        if slot_word(model, s, RECORDS + i) == v {
+    while i < MEMORY {
+        if (i < seen) & (slot_word(model, s, RECORDS + i) == v) {
             return true;
         }
         i += 1;

@@ -1,11 +1,20 @@
 // The counts, a line each.
 use crate::tally;
+ghost use Prim.Native.Nat.{_<_};
 
 fn line(label: &[u8], n: u64) {
     io::write_all(1, label);
     io::write_all(1, b"\t");
     io::print_decimal(1, n);
     io::write_all(1, b"\n");
+}
+
+// a run of so many calls on so many nodes
+pub fn run(nodes: u32, calls: u64, most: u32) {
+    io::write_all(1, b"nodes\t");
+    io::print_decimal(1, nodes as u64);
+    line(b"\tcalls", calls);
+    line(b"\tmost keys held", most as u64);
 }
 
 fn calls(counts: &[u64]) {
@@ -60,12 +69,14 @@ fn steps(counts: &[u64]) {
 }
 
 // a rotation's step: grow left, grow right, pass left, pass right, borrow left, borrow right
-fn rotation(label: &[u8], counts: &[u64], step: usize) {
+fn rotation(label: &[u8], counts: &[u64], step: usize)
+    requires { ⌜ step < 5 ⌝ }
+{
     io::write_all(1, label);
     let mut i: usize = 0;
     while i < 6 {
         io::write_all(1, b"\t");
-        io::print_decimal(1, tally::get(counts, tally::STEPS + 8 + step % 8 * 6 + i));
+        io::print_decimal(1, tally::get(counts, tally::ROTATIONS + step * 6 + i));
         i += 1;
     }
     io::write_all(1, b"\n");

@@ -29,8 +29,6 @@ pub const BEGUN: usize = 43;
 
 pub const GIVEN_UP: usize = 44;
 
-pub const FULL: usize = 45;
-
 pub const ANSWERS: usize = 50;
 
 pub const LOOKUPS: usize = 51;
@@ -44,6 +42,8 @@ pub const STATES: usize = 54;
 pub const DIFFERENCES: usize = 55;
 
 pub const STEPS: usize = 60;
+
+pub const ROTATIONS: usize = 68;
 
 pub fn get(counts: &[u64], row: usize) -> u64 {
     if row < counts.len() {

@@ -17,7 +17,10 @@ const PAIRS: usize = 2048;
 
 // a word of a node, 0 of no node
 fn word(pool: &[u32], n: u32, f: usize) -> u32 {
-    if (n == 0) | (7 < f) {
+    if n == 0 {
+        return 0;
+    }
+    if 7 < f {
         return 0;
     }
     let at = (n as usize - 1) * 8 + f;
@@ -79,7 +82,10 @@ fn set_pair(pairs: &mut [u32], at: usize, n: u32) {
 
 // Adds a pair of nodes to those still to be compared, unless there is no node; answers how many there are.
 fn push(pairs: &mut [u32], tail: u32, a: u32, b: u32) -> u32 {
-    if (a == 0) | (4096 < tail) {
+    if a == 0 {
+        return tail;
+    }
+    if 4096 < tail {
         return tail;
     }
     set_pair(pairs, tail as usize * 2, a);
@@ -87,12 +93,15 @@ fn push(pairs: &mut [u32], tail: u32, a: u32, b: u32) -> u32 {
     tail + 1
 }
 
-// Walks both trees together, level by level. Answers how many nodes were the same, and one more than the reference holds if any differed.
+// Walks both trees together, level by level. Answers how many nodes were the same, and 1,025 if any differed.
 pub fn same_nodes(pool: &[u32], root: u32, tree: &[u32]) -> u32 {
     let mut pairs = [0u32; PAIRS];
     let mut tail = push(&mut pairs, 0, root, reference::root(tree));
     let mut head: u32 = 0;
-    while (head < tail) & (head < 1024) {
+    while head < 1024 {
+        if head == tail {
+            return head;
+        }
         let a = pair(&pairs, head as usize * 2);
         let b = pair(&pairs, head as usize * 2 + 1);
         if same_node(pool, a, tree, b) & same_shape(pool, a, tree, b) {} else {

@@ -10,6 +10,7 @@ use types::Rule;
 use types::Side;
 use types::Step;
 use types::WriterAnswer;
+ghost use Prim.Native.Nat.{_<_};
 
 // Answers as numbers: a refusal is its number, accepted is 0.
 pub const ACCEPTED: u32 = 0;
@@ -58,9 +59,22 @@ pub fn set_up(pool: &mut [u32], reg: Register, counts: &mut [u64]) -> Register {
     after
 }
 
-// stores of a write: so many before its rotations, two for a single one and three for a double one
-fn stores(tree: &[u32], before: u32) -> u32 {
-    before + reference::single_rotations(tree) % 8 * 2 + reference::double_rotations(tree) % 8 * 3
+// the stores of the last write's rotations: two for a single one, three for a double one
+fn rotation_stores(tree: &[u32]) -> u32
+    ensures { λ r. ⌜ r < 64 ⌝ }
+{
+    reference::single_rotations(tree) % 8 * 2 + reference::double_rotations(tree) % 8 * 3
+}
+
+// the stores of a delete before its rotations
+fn delete_stores(form: u32) -> u32
+    ensures { λ r. ⌜ r < 3 ⌝ }
+{
+    if form == 1 {
+        1
+    } else {
+        2
+    }
 }
 
 fn insert_foretold(pool: &[u32], reg: Register, tree: &mut [u32], model: &[u32], key: u32) -> u32 {
@@ -83,7 +97,7 @@ fn insert_foretold(pool: &[u32], reg: Register, tree: &mut [u32], model: &[u32],
 fn begin_insert(tree: &mut [u32], model: &mut [u32], counts: &mut [u64], key: u32, call: Call) {
     reference::insert(tree, key, call.record);
     model::take_in_hand(model, model::INSERT, call.ticket, call.record);
-    model::plan_stores(model, 0, stores(tree, 1));
+    model::plan_stores(model, 0, 1 + rotation_stores(tree));
     tally::one(counts, tally::ACCEPTED + 1);
 }
 
@@ -113,17 +127,12 @@ fn delete_foretold(reg: Register, tree: &mut [u32], model: &[u32], key: u32) -> 
     ACCEPTED
 }
 
-// takes an accepted delete in hand; a form's stores before its rotations: one, two, two
+// takes an accepted delete in hand
 fn begin_delete(tree: &mut [u32], model: &mut [u32], counts: &mut [u64], key: u32, ticket: u32) {
     let form = reference::delete_form(tree, key);
-    let before = if form == 1 {
-        1
-    } else {
-        2
-    };
     reference::delete(tree, key);
     model::take_in_hand(model, model::DELETE, ticket, 0);
-    model::plan_stores(model, form, stores(tree, before));
+    model::plan_stores(model, form, delete_stores(form) + rotation_stores(tree));
     tally::one(counts, tally::ACCEPTED + 2);
 }
 
@@ -153,18 +162,30 @@ fn turn_foretold(model: &[u32]) -> u32 {
     MORE
 }
 
-// the row of a rotation's step in the counts: six a step, by rule and side
-fn rotation_row(step: usize, side: Side, rule: Rule) -> usize {
-    let by_rule = match rule {
+fn rule_column(rule: Rule) -> usize
+    ensures { λ r. ⌜ r < 5 ⌝ }
+{
+    match rule {
         Rule::Grow => 0,
         Rule::Pass => 2,
         Rule::Borrow => 4,
-    };
-    let by_side = match side {
+    }
+}
+
+fn side_column(side: Side) -> usize
+    ensures { λ r. ⌜ r < 2 ⌝ }
+{
+    match side {
         Side::L => 0,
         Side::R => 1,
-    };
-    tally::STEPS + 8 + step % 8 * 6 + by_rule + by_side
+    }
+}
+
+// the row of a rotation's step in the counts: six a step, by rule and side
+fn rotation_row(step: usize, side: Side, rule: Rule) -> usize
+    requires { ⌜ step < 5 ⌝ }
+{
+    tally::ROTATIONS + step * 6 + rule_column(rule) + side_column(side)
 }
 
 // the row of the store in hand
@@ -209,11 +230,13 @@ fn follow_turn(pool: &[u32], root: u32, tree: &[u32], model: &mut [u32], counts:
     if number == MORE {
         tally::one(counts, tally::MORE);
         model::store_made(model);
+        return;
     }
     if number == DONE {
         tally::one(counts, tally::DONE);
         model::store_made(model);
         finish_write(pool, root, tree, model, counts);
+        return;
     }
     if number == WAIT {
         tally::one(counts, tally::WAIT);
