@@ -7,3 +7,5 @@ pub mod Descend
 pub mod Fresh
 pub mod Inserts
 pub mod Turns
+pub mod Deletes
+pub mod Writers
