@@ -51,7 +51,7 @@ pub fn after_call(x: u32) -> u32 {
 
 // The moods take turns, each long enough to fill the index or to empty it.
 fn mood_at(i: u64, nodes: u32) -> Mood {
-    let stretch = i / (nodes as u64 * 16 + 40) % 4;
+    let stretch = i / (nodes as u64 * 20 + 40) % 4;
     Mood {
         growing: stretch < 2,
         busy: (stretch == 1) | (stretch == 2),

@@ -10,6 +10,7 @@ mod writing;
 use draws::Call;
 use types::Register;
 
+// the words of 1,023 nodes
 const POOL_WORDS: usize = 8184;
 
 // one call of the index, compared
@@ -91,9 +92,9 @@ fn run_on(nodes: u32, pool: &mut [u32], tree: &mut [u32], model: &mut [u32], cou
 
 fn main() {
     let mut pool = [0u32; POOL_WORDS];
-    let mut tree = [0u32; 6150];
-    let mut model = [0u32; 4360];
-    let mut counts = [0u64; 128];
+    let mut tree = [0u32; reference::WORDS];
+    let mut model = [0u32; model::WORDS];
+    let mut counts = [0u64; tally::ROWS];
     run_on(8, &mut pool, &mut tree, &mut model, &mut counts, 150_000, 1);
     run_on(9, &mut pool, &mut tree, &mut model, &mut counts, 150_000, 2);
     run_on(13, &mut pool, &mut tree, &mut model, &mut counts, 150_000, 3);

@@ -8,6 +8,8 @@ const SLOT_SPAN: usize = 32;
 
 const HAND: usize = 4352;
 
+pub const WORDS: usize = 4360;
+
 // A slot's words: reading, the wanted ticket, awaited, whether the list lacked the ticket at some moment, how many records it was seen with, and
 // those records.
 const READING: u32 = 0;

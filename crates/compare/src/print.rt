@@ -13,7 +13,8 @@ fn line(label: &[u8], n: u64) {
 pub fn run(nodes: u32, calls: u64, most: u32) {
     io::write_all(1, b"nodes\t");
     io::print_decimal(1, nodes as u64);
-    line(b"\tcalls", calls);
+    io::write_all(1, b"\tcalls\t");
+    io::print_decimal(1, calls);
     line(b"\tmost keys held", most as u64);
 }
 
@@ -42,9 +43,9 @@ fn writer(counts: &[u64]) {
     line(b"inserts finished", tally::get(counts, tally::FINISHED + 1));
     line(b"deletes accepted", tally::get(counts, tally::ACCEPTED + 2));
     line(b"deletes finished", tally::get(counts, tally::FINISHED + 2));
-    line(b"of at most one child", tally::get(counts, tally::FORMS + 1));
-    line(b"of a right child without left child", tally::get(counts, tally::FORMS + 2));
-    line(b"of the other form", tally::get(counts, tally::FORMS + 3));
+    line(b"deletes of a node with at most one child", tally::get(counts, tally::FORMS + 1));
+    line(b"deletes of a node whose right child has no left child", tally::get(counts, tally::FORMS + 2));
+    line(b"deletes of the other form", tally::get(counts, tally::FORMS + 3));
     line(b"more", tally::get(counts, tally::MORE));
     line(b"done", tally::get(counts, tally::DONE));
     line(b"wait", tally::get(counts, tally::WAIT));
@@ -55,7 +56,7 @@ fn readers(counts: &[u64]) {
     line(b"go", tally::get(counts, tally::GO));
     line(b"found", tally::get(counts, tally::FOUND));
     line(b"absent", tally::get(counts, tally::ABSENT));
-    line(b"answers of an earlier moment than the last", tally::get(counts, tally::OLDER));
+    line(b"answers that held at an earlier moment than the last", tally::get(counts, tally::OLDER));
     line(b"given up", tally::get(counts, tally::GIVEN_UP));
 }
 

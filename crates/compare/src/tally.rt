@@ -1,6 +1,10 @@
 // The counts of a run, by row; a row past the end counts nothing.
 const MOST: u64 = 18_446_744_073_709_551_615;
 
+pub const ROWS: usize = 128;
+
+// Set up, and then the other calls by the numbers of their kinds; refusals by their numbers; finished deletes by their form, finished and
+// accepted writes by their kind.
 pub const CALLS: usize = 0;
 
 pub const REFUSALS: usize = 10;
@@ -11,6 +15,7 @@ pub const FINISHED: usize = 28;
 
 pub const ACCEPTED: usize = 32;
 
+// answers
 pub const MORE: usize = 36;
 
 pub const DONE: usize = 37;
@@ -23,12 +28,14 @@ pub const FOUND: usize = 40;
 
 pub const ABSENT: usize = 41;
 
+// answers that no longer held at the lookup's last moment
 pub const OLDER: usize = 42;
 
 pub const BEGUN: usize = 43;
 
 pub const GIVEN_UP: usize = 44;
 
+// comparisons made
 pub const ANSWERS: usize = 50;
 
 pub const LOOKUPS: usize = 51;
@@ -41,6 +48,7 @@ pub const STATES: usize = 54;
 
 pub const DIFFERENCES: usize = 55;
 
+// stores made, by their step
 pub const STEPS: usize = 60;
 
 pub const ROTATIONS: usize = 68;

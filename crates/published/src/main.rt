@@ -146,14 +146,29 @@ fn first_tree(pool: &mut [u32]) -> Register {
     add(pool, three, 1)
 }
 
-fn show_trees(pool: &mut [u32]) {
+fn show_first(pool: &mut [u32]) -> Register {
     let first = first_tree(pool);
     show_tree(b"Section 2, Add(3) and Add(1):\n", pool, first.root);
-    let begun = begin_add(pool, first, 2);
+    first
+}
+
+// Add(2) with its first store made
+fn show_linked(pool: &mut [u32], reg: Register) -> Register {
+    let begun = begin_add(pool, reg, 2);
     let linked = writer_turn(pool, begun);
     show_tree(b"Section 3, Add(2), the node added:\n", pool, linked.root);
-    let last = finish_add(pool, linked);
+    linked
+}
+
+fn show_last(pool: &mut [u32], reg: Register) {
+    let last = finish_add(pool, reg);
     show_tree(b"Section 3, Add(2), restructured:\n", pool, last.root);
+}
+
+fn show_trees(pool: &mut [u32]) {
+    let first = show_first(pool);
+    let linked = show_linked(pool, first);
+    show_last(pool, linked);
 }
 
 // the lookup's next call: its begin, then its turns
