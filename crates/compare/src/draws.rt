@@ -37,11 +37,7 @@ fn next(x: u32) -> u32 {
 
 // a number below n of the high bits
 fn high(x: u32, n: u32) -> u32 {
-    if n == 0 {
-        0
-    } else {
-        x / 65_536 % n
-    }
+    if n == 0 { 0 } else { x / 65_536 % n }
 }
 
 // the draw after those of a call
@@ -90,11 +86,7 @@ fn slot_of(q: u32) -> u32 {
 }
 
 fn write_kind(growing: bool, often: bool) -> u32 {
-    if growing == often {
-        INSERT
-    } else {
-        DELETE
-    }
+    if growing == often { INSERT } else { DELETE }
 }
 
 fn reader_kind(c: u32, begins: u32) -> u32 {
@@ -108,11 +100,7 @@ fn reader_kind(c: u32, begins: u32) -> u32 {
 }
 
 fn bound(busy: bool, then: u32, otherwise: u32) -> u32 {
-    if busy {
-        then
-    } else {
-        otherwise
-    }
+    if busy { then } else { otherwise }
 }
 
 // the kind of a call from a number below 64

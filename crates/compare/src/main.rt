@@ -7,6 +7,7 @@ mod reading;
 mod tally;
 mod walk;
 mod writing;
+
 use draws::Call;
 use types::Register;
 
@@ -14,7 +15,14 @@ use types::Register;
 const POOL_WORDS: usize = 8184;
 
 // one call of the index, compared
-fn make_call(pool: &mut [u32], reg: Register, tree: &mut [u32], model: &mut [u32], counts: &mut [u64], call: Call) -> Register {
+fn make_call(
+    pool: &mut [u32],
+    reg: Register,
+    tree: &mut [u32],
+    model: &mut [u32],
+    counts: &mut [u64],
+    call: Call,
+) -> Register {
     if call.kind == draws::INSERT {
         return writing::insert(pool, reg, tree, model, counts, call);
     }
@@ -44,14 +52,17 @@ fn compare_state(pool: &[u32], reg: Register, model: &mut [u32], counts: &mut [u
 }
 
 fn greater(a: u32, b: u32) -> u32 {
-    if a < b {
-        b
-    } else {
-        a
-    }
+    if a < b { b } else { a }
 }
 
-fn compared_call(pool: &mut [u32], reg: Register, tree: &mut [u32], model: &mut [u32], counts: &mut [u64], call: Call) -> Register {
+fn compared_call(
+    pool: &mut [u32],
+    reg: Register,
+    tree: &mut [u32],
+    model: &mut [u32],
+    counts: &mut [u64],
+    call: Call,
+) -> Register {
     let after = make_call(pool, reg, tree, model, counts, call);
     tally::one(counts, call.kind as usize);
     compare_state(pool, after, model, counts);
@@ -65,7 +76,14 @@ fn set_up(pool: &mut [u32], tree: &mut [u32], model: &mut [u32], counts: &mut [u
 }
 
 // calls drawn from a seed, on an index just set up
-fn run(pool: &mut [u32], tree: &mut [u32], model: &mut [u32], counts: &mut [u64], calls: u64, seed: u32) {
+fn run(
+    pool: &mut [u32],
+    tree: &mut [u32],
+    model: &mut [u32],
+    counts: &mut [u64],
+    calls: u64,
+    seed: u32,
+) {
     let nodes = walk::nodes(pool);
     let mut reg = set_up(pool, tree, model, counts);
     let mut most: u32 = 0;
@@ -83,7 +101,15 @@ fn run(pool: &mut [u32], tree: &mut [u32], model: &mut [u32], counts: &mut [u64]
 }
 
 // a run on the first so many nodes of the words lent
-fn run_on(nodes: u32, pool: &mut [u32], tree: &mut [u32], model: &mut [u32], counts: &mut [u64], calls: u64, seed: u32) {
+fn run_on(
+    nodes: u32,
+    pool: &mut [u32],
+    tree: &mut [u32],
+    model: &mut [u32],
+    counts: &mut [u64],
+    calls: u64,
+    seed: u32,
+) {
     let words = nodes as usize * 8;
     if words <= pool.len() {
         run(&mut pool[0..words], tree, model, counts, calls, seed);
@@ -97,10 +123,50 @@ fn main() {
     let mut counts = [0u64; tally::ROWS];
     run_on(8, &mut pool, &mut tree, &mut model, &mut counts, 150_000, 1);
     run_on(9, &mut pool, &mut tree, &mut model, &mut counts, 150_000, 2);
-    run_on(13, &mut pool, &mut tree, &mut model, &mut counts, 150_000, 3);
-    run_on(16, &mut pool, &mut tree, &mut model, &mut counts, 150_000, 4);
-    run_on(33, &mut pool, &mut tree, &mut model, &mut counts, 150_000, 5);
-    run_on(128, &mut pool, &mut tree, &mut model, &mut counts, 150_000, 6);
-    run_on(1023, &mut pool, &mut tree, &mut model, &mut counts, 250_000, 7);
+    run_on(
+        13,
+        &mut pool,
+        &mut tree,
+        &mut model,
+        &mut counts,
+        150_000,
+        3,
+    );
+    run_on(
+        16,
+        &mut pool,
+        &mut tree,
+        &mut model,
+        &mut counts,
+        150_000,
+        4,
+    );
+    run_on(
+        33,
+        &mut pool,
+        &mut tree,
+        &mut model,
+        &mut counts,
+        150_000,
+        5,
+    );
+    run_on(
+        128,
+        &mut pool,
+        &mut tree,
+        &mut model,
+        &mut counts,
+        150_000,
+        6,
+    );
+    run_on(
+        1023,
+        &mut pool,
+        &mut tree,
+        &mut model,
+        &mut counts,
+        250_000,
+        7,
+    );
     print::all(&counts);
 }

@@ -49,11 +49,7 @@ pub const INSERT: u32 = 1;
 pub const DELETE: u32 = 2;
 
 fn word(model: &[u32], at: usize) -> u32 {
-    if at < model.len() {
-        model[at]
-    } else {
-        0
-    }
+    if at < model.len() { model[at] } else { 0 }
 }
 
 fn set_word(model: &mut [u32], at: usize, v: u32) {

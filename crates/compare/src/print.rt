@@ -43,9 +43,18 @@ fn writer(counts: &[u64]) {
     line(b"inserts finished", tally::get(counts, tally::FINISHED + 1));
     line(b"deletes accepted", tally::get(counts, tally::ACCEPTED + 2));
     line(b"deletes finished", tally::get(counts, tally::FINISHED + 2));
-    line(b"deletes of a node with at most one child", tally::get(counts, tally::FORMS + 1));
-    line(b"deletes of a node whose right child has no left child", tally::get(counts, tally::FORMS + 2));
-    line(b"deletes of the other form", tally::get(counts, tally::FORMS + 3));
+    line(
+        b"deletes of a node with at most one child",
+        tally::get(counts, tally::FORMS + 1),
+    );
+    line(
+        b"deletes of a node whose right child has no left child",
+        tally::get(counts, tally::FORMS + 2),
+    );
+    line(
+        b"deletes of the other form",
+        tally::get(counts, tally::FORMS + 3),
+    );
     line(b"more", tally::get(counts, tally::MORE));
     line(b"done", tally::get(counts, tally::DONE));
     line(b"wait", tally::get(counts, tally::WAIT));
@@ -56,7 +65,10 @@ fn readers(counts: &[u64]) {
     line(b"go", tally::get(counts, tally::GO));
     line(b"found", tally::get(counts, tally::FOUND));
     line(b"absent", tally::get(counts, tally::ABSENT));
-    line(b"answers that held at an earlier moment than the last", tally::get(counts, tally::OLDER));
+    line(
+        b"answers that held at an earlier moment than the last",
+        tally::get(counts, tally::OLDER),
+    );
     line(b"given up", tally::get(counts, tally::GIVEN_UP));
 }
 
@@ -84,7 +96,10 @@ fn rotation(label: &[u8], counts: &[u64], step: usize)
 }
 
 fn rotations(counts: &[u64]) {
-    io::write_all(1, b"stores of rotations\tgrow L\tgrow R\tpass L\tpass R\tborrow L\tborrow R\n");
+    io::write_all(
+        1,
+        b"stores of rotations\tgrow L\tgrow R\tpass L\tpass R\tborrow L\tborrow R\n",
+    );
     rotation(b"store diag lower", counts, 0);
     rotation(b"store diag raise", counts, 1);
     rotation(b"store zig lower A", counts, 2);
@@ -94,10 +109,16 @@ fn rotations(counts: &[u64]) {
 
 fn comparisons(counts: &[u64]) {
     line(b"answers compared", tally::get(counts, tally::ANSWERS));
-    line(b"lookups compared with their moments", tally::get(counts, tally::LOOKUPS));
+    line(
+        b"lookups compared with their moments",
+        tally::get(counts, tally::LOOKUPS),
+    );
     line(b"trees compared", tally::get(counts, tally::TREES));
     line(b"nodes compared", tally::get(counts, tally::NODES));
-    line(b"keys held, free count and awaited slots compared", tally::get(counts, tally::STATES));
+    line(
+        b"keys held, free count and awaited slots compared",
+        tally::get(counts, tally::STATES),
+    );
     line(b"differences", tally::get(counts, tally::DIFFERENCES));
 }
 

@@ -29,7 +29,13 @@ fn slot_foretold(model: &[u32], s: u32) -> u32 {
     5
 }
 
-pub fn begin(pool: &[u32], reg: Register, model: &mut [u32], counts: &mut [u64], call: Call) -> Register {
+pub fn begin(
+    pool: &[u32],
+    reg: Register,
+    model: &mut [u32],
+    counts: &mut [u64],
+    call: Call,
+) -> Register {
     let key = draws::key_of(call.ticket, draws::tickets(walk::nodes(pool)));
     let foretold = begin_foretold(model, call.slot);
     let reply = index::begin(pool, reg, call.slot, key);
@@ -86,7 +92,13 @@ fn turn_number(a: ReaderAnswer) -> u32 {
     }
 }
 
-pub fn reader_turn(pool: &mut [u32], reg: Register, model: &mut [u32], counts: &mut [u64], s: u32) -> Register {
+pub fn reader_turn(
+    pool: &mut [u32],
+    reg: Register,
+    model: &mut [u32],
+    counts: &mut [u64],
+    s: u32,
+) -> Register {
     let foretold = slot_foretold(model, s);
     let reply = index::reader_turn(pool, reg, s);
     let answer = reply.answer;
@@ -96,7 +108,13 @@ pub fn reader_turn(pool: &mut [u32], reg: Register, model: &mut [u32], counts: &
     after
 }
 
-pub fn give_up(pool: &mut [u32], reg: Register, model: &mut [u32], counts: &mut [u64], s: u32) -> Register {
+pub fn give_up(
+    pool: &mut [u32],
+    reg: Register,
+    model: &mut [u32],
+    counts: &mut [u64],
+    s: u32,
+) -> Register {
     let foretold = slot_foretold(model, s);
     let reply = index::give_up(pool, reg, s);
     let answer = reply.answer;

@@ -54,11 +54,7 @@ pub const STEPS: usize = 60;
 pub const ROTATIONS: usize = 68;
 
 pub fn get(counts: &[u64], row: usize) -> u64 {
-    if row < counts.len() {
-        counts[row]
-    } else {
-        0
-    }
+    if row < counts.len() { counts[row] } else { 0 }
 }
 
 pub fn add(counts: &mut [u64], row: usize, n: u64) {

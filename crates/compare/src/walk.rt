@@ -24,11 +24,7 @@ fn word(pool: &[u32], n: u32, f: usize) -> u32 {
         return 0;
     }
     let at = (n as usize - 1) * 8 + f;
-    if at < pool.len() {
-        pool[at]
-    } else {
-        0
-    }
+    if at < pool.len() { pool[at] } else { 0 }
 }
 
 pub fn nodes(pool: &[u32]) -> u32 {
@@ -67,11 +63,7 @@ fn same_shape(pool: &[u32], a: u32, tree: &[u32], b: u32) -> bool {
 }
 
 fn pair(pairs: &[u32], at: usize) -> u32 {
-    if at < pairs.len() {
-        pairs[at]
-    } else {
-        0
-    }
+    if at < pairs.len() { pairs[at] } else { 0 }
 }
 
 fn set_pair(pairs: &mut [u32], at: usize, n: u32) {
@@ -107,8 +99,18 @@ pub fn same_nodes(pool: &[u32], root: u32, tree: &[u32]) -> u32 {
         if same_node(pool, a, tree, b) & same_shape(pool, a, tree, b) {} else {
             return 1025;
         }
-        tail = push(&mut pairs, tail, word(pool, a, LEFT), reference::left(tree, b));
-        tail = push(&mut pairs, tail, word(pool, a, RIGHT), reference::right(tree, b));
+        tail = push(
+            &mut pairs,
+            tail,
+            word(pool, a, LEFT),
+            reference::left(tree, b),
+        );
+        tail = push(
+            &mut pairs,
+            tail,
+            word(pool, a, RIGHT),
+            reference::right(tree, b),
+        );
         head += 1;
     }
     head

@@ -70,11 +70,7 @@ fn rotation_stores(tree: &[u32]) -> u32
 fn delete_stores(form: u32) -> u32
     ensures { λ r. ⌜ r < 3 ⌝ }
 {
-    if form == 1 {
-        1
-    } else {
-        2
-    }
+    if form == 1 { 1 } else { 2 }
 }
 
 fn insert_foretold(pool: &[u32], reg: Register, tree: &mut [u32], model: &[u32], key: u32) -> u32 {
@@ -101,7 +97,14 @@ fn begin_insert(tree: &mut [u32], model: &mut [u32], counts: &mut [u64], key: u3
     tally::one(counts, tally::ACCEPTED + 1);
 }
 
-pub fn insert(pool: &[u32], reg: Register, tree: &mut [u32], model: &mut [u32], counts: &mut [u64], call: Call) -> Register {
+pub fn insert(
+    pool: &[u32],
+    reg: Register,
+    tree: &mut [u32],
+    model: &mut [u32],
+    counts: &mut [u64],
+    call: Call,
+) -> Register {
     let key = draws::key_of(call.ticket, draws::tickets(walk::nodes(pool)));
     let foretold = insert_foretold(pool, reg, tree, model, key);
     let reply = index::insert(pool, reg, key, call.record);
@@ -136,7 +139,14 @@ fn begin_delete(tree: &mut [u32], model: &mut [u32], counts: &mut [u64], key: u3
     tally::one(counts, tally::ACCEPTED + 2);
 }
 
-pub fn delete(pool: &[u32], reg: Register, tree: &mut [u32], model: &mut [u32], counts: &mut [u64], call: Call) -> Register {
+pub fn delete(
+    pool: &[u32],
+    reg: Register,
+    tree: &mut [u32],
+    model: &mut [u32],
+    counts: &mut [u64],
+    call: Call,
+) -> Register {
     let key = draws::key_of(call.ticket, draws::tickets(walk::nodes(pool)));
     let foretold = delete_foretold(reg, tree, model, key);
     let reply = index::delete(pool, reg, key);
@@ -220,13 +230,23 @@ fn compare_trees(pool: &[u32], root: u32, tree: &[u32], counts: &mut [u64]) {
 fn finish_write(pool: &[u32], root: u32, tree: &[u32], model: &mut [u32], counts: &mut [u64]) {
     let kind = model::kind_in_hand(model) % 3;
     tally::one(counts, tally::FINISHED + kind as usize);
-    tally::one(counts, tally::FORMS + (model::form_in_hand(model) % 4) as usize);
+    tally::one(
+        counts,
+        tally::FORMS + (model::form_in_hand(model) % 4) as usize,
+    );
     model::finish_write(model);
     compare_trees(pool, root, tree, counts);
 }
 
 // what a turn's answer brings about
-fn follow_turn(pool: &[u32], root: u32, tree: &[u32], model: &mut [u32], counts: &mut [u64], number: u32) {
+fn follow_turn(
+    pool: &[u32],
+    root: u32,
+    tree: &[u32],
+    model: &mut [u32],
+    counts: &mut [u64],
+    number: u32,
+) {
     if number == MORE {
         tally::one(counts, tally::MORE);
         model::store_made(model);
@@ -249,7 +269,13 @@ fn count_step(counts: &mut [u64], number: u32, row: usize) {
     }
 }
 
-pub fn writer_turn(pool: &mut [u32], reg: Register, tree: &[u32], model: &mut [u32], counts: &mut [u64]) -> Register {
+pub fn writer_turn(
+    pool: &mut [u32],
+    reg: Register,
+    tree: &[u32],
+    model: &mut [u32],
+    counts: &mut [u64],
+) -> Register {
     let row = step_row(reg);
     let foretold = turn_foretold(model);
     let reply = index::writer_turn(pool, reg);

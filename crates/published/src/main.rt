@@ -40,11 +40,7 @@ fn word(pool: &[u32], n: u32, f: u32) -> u32 {
         return 0;
     }
     let at = (n as usize - 1) * 8 + f as usize;
-    if at < pool.len() {
-        pool[at]
-    } else {
-        0
-    }
+    if at < pool.len() { pool[at] } else { 0 }
 }
 
 fn left(pool: &[u32], n: u32) -> u32 {
@@ -276,7 +272,10 @@ fn main() {
     let mut pool = [0u32; POOL_WORDS];
     show_trees(&mut pool);
     let found = contains_in_all(&mut pool);
-    io::write_all(1, b"Section 3, Add(2) beside Contains(1), orders of turns: ");
+    io::write_all(
+        1,
+        b"Section 3, Add(2) beside Contains(1), orders of turns: ",
+    );
     io::print_decimal(1, ORDERS as u64);
     io::write_all(1, b"\nContains(1) true: ");
     io::print_decimal(1, found as u64);

@@ -51,11 +51,7 @@ const BOUND: u32 = 64;
 
 fn field(tree: &[u32], f: u32, n: u32) -> u32 {
     let at = f as usize * SPAN + n as usize;
-    if at < tree.len() {
-        tree[at]
-    } else {
-        0
-    }
+    if at < tree.len() { tree[at] } else { 0 }
 }
 
 fn set_field(tree: &mut [u32], f: u32, n: u32, v: u32) {
@@ -118,11 +114,7 @@ fn parent(tree: &[u32], n: u32) -> u32 {
 }
 
 fn other(side: u32) -> u32 {
-    if side == L {
-        R
-    } else {
-        L
-    }
+    if side == L { R } else { L }
 }
 
 fn child(tree: &[u32], n: u32, side: u32) -> u32 {

@@ -25,75 +25,57 @@ abbrev μ-loop : tie.MeasureT-loop
 μ-loop pool₀ tree₀ model₀ counts₀ calls seed nodes reg₀ most₀ x₀ i₀ pool tree model counts reg most x i =
     calls - i
 
--- src/main.rt:68:9
 nodes-requires : tie.Need-nodes-requires Inv-loop μ-loop
 nodes-requires c κs = search needs
 
--- src/main.rt:69:9
 set-up-requires : tie.Need-set-up-requires Inv-loop μ-loop
 set-up-requires c κs = search needs
 
--- src/main.rt:73:5
 loop-holds : tie.Need-loop-holds Inv-loop μ-loop
 loop-holds c = search needs
 
--- src/main.rt:74:13
 draw-call-requires : tie.Need-draw-call-requires Inv-loop μ-loop
 draw-call-requires c κs = search needs
 
--- src/main.rt:75:9
 compared-call-requires : tie.Need-compared-call-requires Inv-loop μ-loop
 compared-call-requires c κs = search needs
 
--- src/main.rt:76:9
 greater-requires : tie.Need-greater-requires Inv-loop μ-loop
 greater-requires c κs = search needs
 
--- src/main.rt:77:9
 after-call-requires : tie.Need-after-call-requires Inv-loop μ-loop
 after-call-requires c κs = search needs
 
--- src/main.rt:78:9
 add-i : tie.Need-add-i Inv-loop μ-loop
 add-i c = omega (arith, c .before .before .before .before .before .before .before .before .before .before .before .before .before .before .before .before .loop-test .taken, c .before .before .before .before .before .before .before .before .before .before .before .before .before .before .before .before .before .before .before .before .before .before .before .before .before .before .before .before .before .before .before .before .before .before .before .before .before .fits .calls)
 
--- src/main.rt:73:5
 loop-less : tie.Need-loop-less Inv-loop μ-loop
 loop-less c = search needs
 
--- src/main.rt:73:5
 loop-again : tie.Need-loop-again Inv-loop μ-loop
 loop-again c = search needs
 
--- src/main.rt:80:25
 overruns-requires : tie.Need-overruns-requires Inv-loop μ-loop
 overruns-requires c κs = search needs
 
--- src/main.rt:80:5
 same-requires : tie.Need-same-requires Inv-loop μ-loop
 same-requires c κs = search needs
 
--- src/main.rt:81:5
 run-requires : tie.Need-run-requires Inv-loop μ-loop
 run-requires c κs = search needs
 
--- src/main.rt:67:1
 same-length : tie.Need-same-length Inv-loop μ-loop
 same-length c = search needs
 
--- src/main.rt:67:1
 same-length-2 : tie.Need-same-length-2 Inv-loop μ-loop
 same-length-2 c = search needs
 
--- src/main.rt:67:1
 same-length-3 : tie.Need-same-length-3 Inv-loop μ-loop
 same-length-3 c = search needs
 
--- src/main.rt:67:1
 same-length-4 : tie.Need-same-length-4 Inv-loop μ-loop
 same-length-4 c = search needs
 
--- src/main.rt:67:1
 returns : tie.Need-returns Inv-loop μ-loop
 returns c = search needs
 

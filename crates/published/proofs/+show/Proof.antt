@@ -22,7 +22,6 @@ show-at t = and 2 show-kinds.ps (is 2 show-kinds.ps μ-show t) show.Pre
 abbrev show-below : ℕ → In 2 show-kinds.ps
 show-below t = and 2 show-kinds.ps (falls 2 show-kinds.ps _<_ μ-show t) show.Pre
 
--- src/main.rt:84:9
 show-returns : (t : ℕ) → show-lts.Need-returns (
   show-node-reads.Asked,
   show-node-reads.Learnt,
@@ -35,7 +34,6 @@ show-returns : (t : ℕ) → show-lts.Need-returns (
 ) (show-at t) show.Post
 show-returns t c = search needs
 
--- src/main.rt:87:9
 show-returns-2 : (t : ℕ) → show-lts.Need-returns-2 (
   show-node-reads.Asked,
   show-node-reads.Learnt,
@@ -48,7 +46,6 @@ show-returns-2 : (t : ℕ) → show-lts.Need-returns-2 (
 ) (show-at t) show.Post
 show-returns-2 t c = search needs
 
--- src/main.rt:89:5
 show-show-node-requires : (t : ℕ) → show-lts.Need-show-node-requires (
   show-node-reads.Asked,
   show-node-reads.Learnt,
@@ -61,7 +58,6 @@ show-show-node-requires : (t : ℕ) → show-lts.Need-show-node-requires (
 ) (show-at t) show.Post
 show-show-node-requires t c κs = search needs
 
--- src/main.rt:90:16
 show-left-requires : (t : ℕ) → show-lts.Need-left-requires (
   show-node-reads.Asked,
   show-node-reads.Learnt,
@@ -74,7 +70,6 @@ show-left-requires : (t : ℕ) → show-lts.Need-left-requires (
 ) (show-at t) show.Post
 show-left-requires t c κs = search needs
 
--- src/main.rt:90:31
 show-add-show : (t : ℕ) → show-lts.Need-add-show (
   show-node-reads.Asked,
   show-node-reads.Learnt,
@@ -87,7 +82,6 @@ show-add-show : (t : ℕ) → show-lts.Need-add-show (
 ) (show-at t) show.Post
 show-add-show t c = search needs
 
--- src/main.rt:90:42
 show-slice-aggregate-show : (t : ℕ) → show-lts.Need-slice-aggregate-show (
   show-node-reads.Asked,
   show-node-reads.Learnt,
@@ -100,7 +94,6 @@ show-slice-aggregate-show : (t : ℕ) → show-lts.Need-slice-aggregate-show (
 ) (show-at t) show.Post
 show-slice-aggregate-show t c = search needs
 
--- src/main.rt:90:5
 show-show-requires : (t : ℕ) → show-lts.Need-show-requires (
   show-node-reads.Asked,
   show-node-reads.Learnt,
@@ -113,7 +106,6 @@ show-show-requires : (t : ℕ) → show-lts.Need-show-requires (
 ) (show-at t) show.Post
 show-show-requires t c κs = (omega arith, search needs)
 
--- src/main.rt:91:16
 show-right-requires : (t : ℕ) → show-lts.Need-right-requires (
   show-node-reads.Asked,
   show-node-reads.Learnt,
@@ -126,7 +118,6 @@ show-right-requires : (t : ℕ) → show-lts.Need-right-requires (
 ) (show-at t) show.Post
 show-right-requires t c κs = search needs
 
--- src/main.rt:91:32
 show-add-show-2 : (t : ℕ) → show-lts.Need-add-show-2 (
   show-node-reads.Asked,
   show-node-reads.Learnt,
@@ -139,7 +130,6 @@ show-add-show-2 : (t : ℕ) → show-lts.Need-add-show-2 (
 ) (show-at t) show.Post
 show-add-show-2 t c = search needs
 
--- src/main.rt:91:43
 show-slice-aggregate-show-2 : (t : ℕ) → show-lts.Need-slice-aggregate-show-2 (
   show-node-reads.Asked,
   show-node-reads.Learnt,
@@ -152,7 +142,6 @@ show-slice-aggregate-show-2 : (t : ℕ) → show-lts.Need-slice-aggregate-show-2
 ) (show-at t) show.Post
 show-slice-aggregate-show-2 t c = search needs
 
--- src/main.rt:91:5
 show-show-requires-2 : (t : ℕ) → show-lts.Need-show-requires-2 (
   show-node-reads.Asked,
   show-node-reads.Learnt,
@@ -165,7 +154,6 @@ show-show-requires-2 : (t : ℕ) → show-lts.Need-show-requires-2 (
 ) (show-at t) show.Post
 show-show-requires-2 t c κs = (omega arith, search needs)
 
--- src/main.rt:82:1
 show-returns-3 : (t : ℕ) → show-lts.Need-returns-3 (
   show-node-reads.Asked,
   show-node-reads.Learnt,

@@ -16,35 +16,27 @@ Inv-loop pool₀ found₀ order₀ pool found order = (length pool ≡ length po
 abbrev μ-loop : tie.MeasureT-loop
 μ-loop pool₀ found₀ order₀ pool found order = 1024 - order
 
--- src/main.rt:251:5
 loop-holds : tie.Need-loop-holds Inv-loop μ-loop
 loop-holds c = search needs
 
--- src/main.rt:252:12
 contains-one-requires : tie.Need-contains-one-requires Inv-loop μ-loop
 contains-one-requires c κs = search needs
 
--- src/main.rt:253:13
 add-found : tie.Need-add-found Inv-loop μ-loop
 add-found c = search needs
 
--- src/main.rt:255:9
 add-order : tie.Need-add-order Inv-loop μ-loop
 add-order c = search needs
 
--- src/main.rt:251:5
 loop-less : tie.Need-loop-less Inv-loop μ-loop
 loop-less c = search needs
 
--- src/main.rt:251:5
 loop-again : tie.Need-loop-again Inv-loop μ-loop
 loop-again c = (search needs, ⊎-elim (λ w. omega arith) (λ w. omega arith) (c .if1 .came), search needs)
 
--- src/main.rt:246:1
 same-length : tie.Need-same-length Inv-loop μ-loop
 same-length c = search needs
 
--- src/main.rt:246:1
 returns : tie.Need-returns Inv-loop μ-loop
 returns c = search needs
 

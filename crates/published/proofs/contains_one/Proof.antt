@@ -16,39 +16,30 @@ Inv-loop pool₀ order race₀ rest₀ steps₀ pool race rest steps = length po
 abbrev μ-loop : tie.MeasureT-loop
 μ-loop pool₀ order race₀ rest₀ steps₀ pool race rest steps = 24 - steps
 
--- src/main.rt:206:9
 first-tree-requires : tie.Need-first-tree-requires Inv-loop μ-loop
 first-tree-requires c κs = search needs
 
--- src/main.rt:207:9
 begin-add-requires : tie.Need-begin-add-requires Inv-loop μ-loop
 begin-add-requires c κs = search needs
 
--- src/main.rt:216:5
 loop-holds : tie.Need-loop-holds Inv-loop μ-loop
 loop-holds c = search needs
 
--- src/main.rt:217:9
 race-step-requires : tie.Need-race-step-requires Inv-loop μ-loop
 race-step-requires c κs = search needs
 
--- src/main.rt:219:9
 add-steps : tie.Need-add-steps Inv-loop μ-loop
 add-steps c = search needs
 
--- src/main.rt:216:5
 loop-less : tie.Need-loop-less Inv-loop μ-loop
 loop-less c = search needs
 
--- src/main.rt:216:5
 loop-again : tie.Need-loop-again Inv-loop μ-loop
 loop-again c = search needs
 
--- src/main.rt:205:1
 same-length : tie.Need-same-length Inv-loop μ-loop
 same-length c = search needs
 
--- src/main.rt:205:1
 returns : tie.Need-returns Inv-loop μ-loop
 returns c = search needs
 

@@ -15,43 +15,33 @@ Inv-loop pool₀ after₀ turns₀ pool after turns = (length pool ≡ length po
 abbrev μ-loop : tie.MeasureT-loop
 μ-loop pool₀ after₀ turns₀ pool after turns = 7 - turns
 
--- src/main.rt:106:5
 loop-holds : tie.Need-loop-holds Inv-loop μ-loop
 loop-holds c = search needs
 
--- src/main.rt:107:12
 stores-to-come-requires : tie.Need-stores-to-come-requires Inv-loop μ-loop
 stores-to-come-requires c κs = search needs
 
--- src/main.rt:108:13
 same-length : tie.Need-same-length Inv-loop μ-loop
 same-length c = search needs
 
--- src/main.rt:108:13
 returns : tie.Need-returns Inv-loop μ-loop
 returns c = search needs
 
--- src/main.rt:110:9
 writer-turn-requires : tie.Need-writer-turn-requires Inv-loop μ-loop
 writer-turn-requires c κs = search needs
 
--- src/main.rt:111:9
 add-turns : tie.Need-add-turns Inv-loop μ-loop
 add-turns c = search needs
 
--- src/main.rt:106:5
 loop-less : tie.Need-loop-less Inv-loop μ-loop
 loop-less c = search needs
 
--- src/main.rt:106:5
 loop-again : tie.Need-loop-again Inv-loop μ-loop
 loop-again c = search needs
 
--- src/main.rt:103:1
 same-length-2 : tie.Need-same-length-2 Inv-loop μ-loop
 same-length-2 c = search needs
 
--- src/main.rt:103:1
 returns-2 : tie.Need-returns-2 Inv-loop μ-loop
 returns-2 c = search needs
 

@@ -17,59 +17,45 @@ Inv-loop tree₀ start node₀ turns₀ tree node turns = (length tree ≡ lengt
 abbrev μ-loop : tie.MeasureT-loop
 μ-loop tree₀ start node₀ turns₀ tree node turns = 64 - turns
 
--- src/lib.rt:325:5
 loop-holds : tie.Need-loop-holds Inv-loop μ-loop
 loop-holds c = search needs
 
--- src/lib.rt:326:25
 parent-requires : tie.Need-parent-requires Inv-loop μ-loop
 parent-requires c κs = search needs
 
--- src/lib.rt:326:12
 colour-requires : tie.Need-colour-requires Inv-loop μ-loop
 colour-requires c κs = search needs
 
--- src/lib.rt:327:13
 same-length : tie.Need-same-length Inv-loop μ-loop
 same-length c = search needs
 
--- src/lib.rt:327:13
 returns : tie.Need-returns Inv-loop μ-loop
 returns c = search needs
 
--- src/lib.rt:329:9
 add-turn-requires : tie.Need-add-turn-requires Inv-loop μ-loop
 add-turn-requires c κs = search needs
 
--- src/lib.rt:331:13
 same-length-2 : tie.Need-same-length-2 Inv-loop μ-loop
 same-length-2 c = search needs
 
--- src/lib.rt:331:13
 returns-2 : tie.Need-returns-2 Inv-loop μ-loop
 returns-2 c = search needs
 
--- src/lib.rt:333:9
 add-turns : tie.Need-add-turns Inv-loop μ-loop
 add-turns c = search needs
 
--- src/lib.rt:325:5
 loop-less : tie.Need-loop-less Inv-loop μ-loop
 loop-less c = search needs
 
--- src/lib.rt:325:5
 loop-again : tie.Need-loop-again Inv-loop μ-loop
 loop-again c = search needs
 
--- src/lib.rt:335:5
 count-requires : tie.Need-count-requires Inv-loop μ-loop
 count-requires c κs = search needs
 
--- src/lib.rt:322:1
 same-length-3 : tie.Need-same-length-3 Inv-loop μ-loop
 same-length-3 c = search needs
 
--- src/lib.rt:322:1
 returns-3 : tie.Need-returns-3 Inv-loop μ-loop
 returns-3 c = search needs
 

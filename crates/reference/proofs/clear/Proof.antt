@@ -15,43 +15,33 @@ Inv-loop tree₀ n₀ tree n = (length tree ≡ length tree₀)
 abbrev μ-loop : tie.MeasureT-loop
 μ-loop tree₀ n₀ tree n = 1023 - n
 
--- src/lib.rt:207:5
 clear-words-requires : tie.Need-clear-words-requires Inv-loop μ-loop
 clear-words-requires c κs = search needs
 
--- src/lib.rt:209:5
 loop-holds : tie.Need-loop-holds Inv-loop μ-loop
 loop-holds c = search needs
 
--- src/lib.rt:210:34
 add-set-field : tie.Need-add-set-field Inv-loop μ-loop
 add-set-field c = search needs
 
--- src/lib.rt:210:9
 set-field-requires : tie.Need-set-field-requires Inv-loop μ-loop
 set-field-requires c κs = search needs
 
--- src/lib.rt:211:9
 add-n : tie.Need-add-n Inv-loop μ-loop
 add-n c = search needs
 
--- src/lib.rt:209:5
 loop-less : tie.Need-loop-less Inv-loop μ-loop
 loop-less c = search needs
 
--- src/lib.rt:209:5
 loop-again : tie.Need-loop-again Inv-loop μ-loop
 loop-again c = search needs
 
--- src/lib.rt:213:5
 set-field-requires-2 : tie.Need-set-field-requires-2 Inv-loop μ-loop
 set-field-requires-2 c κs = search needs
 
--- src/lib.rt:206:1
 same-length : tie.Need-same-length Inv-loop μ-loop
 same-length c = search needs
 
--- src/lib.rt:206:1
 returns : tie.Need-returns Inv-loop μ-loop
 returns c = search needs
 

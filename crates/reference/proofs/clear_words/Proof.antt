@@ -13,35 +13,27 @@ Inv-loop tree₀ i₀ tree i = (length tree ≡ length tree₀)
 abbrev μ-loop : tie.MeasureT-loop
 μ-loop tree₀ i₀ tree i = length tree₀ - i
 
--- src/lib.rt:189:5
 loop-holds : tie.Need-loop-holds Inv-loop μ-loop
 loop-holds c = search needs
 
--- src/lib.rt:190:9
 mul-tree : tie.Need-mul-tree Inv-loop μ-loop
 mul-tree c = search needs
 
--- src/lib.rt:190:9
 slice-write-tree : tie.Need-slice-write-tree Inv-loop μ-loop
 slice-write-tree c = search needs
 
--- src/lib.rt:191:9
 add-i : tie.Need-add-i Inv-loop μ-loop
 add-i c = search needs
 
--- src/lib.rt:189:5
 loop-less : tie.Need-loop-less Inv-loop μ-loop
 loop-less c = search needs
 
--- src/lib.rt:189:5
 loop-again : tie.Need-loop-again Inv-loop μ-loop
 loop-again c = search needs
 
--- src/lib.rt:187:1
 same-length : tie.Need-same-length Inv-loop μ-loop
 same-length c = search needs
 
--- src/lib.rt:187:1
 returns : tie.Need-returns Inv-loop μ-loop
 returns c = search needs
 

@@ -18,55 +18,42 @@ Inv-loop tree₀ start x₀ turns₀ tree x turns = (length tree ≡ length tree
 abbrev μ-loop : tie.MeasureT-loop
 μ-loop tree₀ start x₀ turns₀ tree x turns = 64 - turns
 
--- src/lib.rt:438:5
 loop-holds : tie.Need-loop-holds Inv-loop μ-loop
 loop-holds c = search needs
 
--- src/lib.rt:439:18
 root-requires : tie.Need-root-requires Inv-loop μ-loop
 root-requires c κs = search needs
 
--- src/lib.rt:439:33
 colour-requires : tie.Need-colour-requires Inv-loop μ-loop
 colour-requires c κs = search needs
 
--- src/lib.rt:440:13
 set-field-requires : tie.Need-set-field-requires Inv-loop μ-loop
 set-field-requires c κs = search needs
 
--- src/lib.rt:441:13
 same-length : tie.Need-same-length Inv-loop μ-loop
 same-length c = search needs
 
--- src/lib.rt:441:13
 returns : tie.Need-returns Inv-loop μ-loop
 returns c = search needs
 
--- src/lib.rt:443:9
 delete-turn-requires : tie.Need-delete-turn-requires Inv-loop μ-loop
 delete-turn-requires c κs = search needs
 
--- src/lib.rt:444:9
 add-turns : tie.Need-add-turns Inv-loop μ-loop
 add-turns c = search needs
 
--- src/lib.rt:438:5
 loop-less : tie.Need-loop-less Inv-loop μ-loop
 loop-less c = search needs
 
--- src/lib.rt:438:5
 loop-again : tie.Need-loop-again Inv-loop μ-loop
 loop-again c = search needs
 
--- src/lib.rt:446:5
 count-requires : tie.Need-count-requires Inv-loop μ-loop
 count-requires c κs = search needs
 
--- src/lib.rt:435:1
 same-length-2 : tie.Need-same-length-2 Inv-loop μ-loop
 same-length-2 c = search needs
 
--- src/lib.rt:435:1
 returns-2 : tie.Need-returns-2 Inv-loop μ-loop
 returns-2 c = search needs
 

@@ -15,43 +15,33 @@ Inv-loop tree start node₀ turns₀ node turns = 0 ≤ 1
 abbrev μ-loop : tie.MeasureT-loop
 μ-loop tree start node₀ turns₀ node turns = 64 - turns
 
--- src/lib.rt:363:5
 loop-holds : tie.Need-loop-holds Inv-loop μ-loop
 loop-holds c = search needs
 
--- src/lib.rt:364:13
 left-requires : tie.Need-left-requires Inv-loop μ-loop
 left-requires c κs = search needs
 
--- src/lib.rt:366:13
 same-length : tie.Need-same-length Inv-loop μ-loop
 same-length c = search needs
 
--- src/lib.rt:366:13
 returns : tie.Need-returns Inv-loop μ-loop
 returns c = search needs
 
--- src/lib.rt:369:9
 add-turns : tie.Need-add-turns Inv-loop μ-loop
 add-turns c = search needs
 
--- src/lib.rt:363:5
 loop-less : tie.Need-loop-less Inv-loop μ-loop
 loop-less c = search needs
 
--- src/lib.rt:363:5
 loop-again : tie.Need-loop-again Inv-loop μ-loop
 loop-again c = search needs
 
--- src/lib.rt:371:5
 count-requires : tie.Need-count-requires Inv-loop μ-loop
 count-requires c κs = search needs
 
--- src/lib.rt:360:1
 same-length-2 : tie.Need-same-length-2 Inv-loop μ-loop
 same-length-2 c = search needs
 
--- src/lib.rt:360:1
 returns-2 : tie.Need-returns-2 Inv-loop μ-loop
 returns-2 c = search needs
 

@@ -15,35 +15,27 @@ Inv-loop model₀ s₀ model s = (length model ≡ length model₀)
 abbrev μ-loop : tie.MeasureT-loop
 μ-loop model₀ s₀ model s = 8 - s
 
--- src/model.rt:222:5
 loop-holds : tie.Need-loop-holds Inv-loop μ-loop
 loop-holds c = search needs
 
--- src/model.rt:223:13
 slot-word-requires : tie.Need-slot-word-requires Inv-loop μ-loop
 slot-word-requires c κs = search needs
 
--- src/model.rt:224:9
 set-slot-word-requires : tie.Need-set-slot-word-requires Inv-loop μ-loop
 set-slot-word-requires c κs = search needs
 
--- src/model.rt:225:9
 add-s : tie.Need-add-s Inv-loop μ-loop
 add-s c = search needs
 
--- src/model.rt:222:5
 loop-less : tie.Need-loop-less Inv-loop μ-loop
 loop-less c = search needs
 
--- src/model.rt:222:5
 loop-again : tie.Need-loop-again Inv-loop μ-loop
 loop-again c = search needs
 
--- src/model.rt:220:1
 same-length : tie.Need-same-length Inv-loop μ-loop
 same-length c = search needs
 
--- src/model.rt:220:1
 returns : tie.Need-returns Inv-loop μ-loop
 returns c = search needs
 

@@ -14,39 +14,30 @@ Inv-loop model bits₀ s₀ bits s = 0 ≤ 1
 abbrev μ-loop : tie.MeasureT-loop
 μ-loop model bits₀ s₀ bits s = 8 - s
 
--- src/model.rt:213:5
 loop-holds : tie.Need-loop-holds Inv-loop μ-loop
 loop-holds c = search needs
 
--- src/model.rt:214:16
 mul-bits : tie.Need-mul-bits Inv-loop μ-loop
 mul-bits c = search needs
 
--- src/model.rt:214:50
 sub-slot-word : tie.Need-sub-slot-word Inv-loop μ-loop
 sub-slot-word c = search needs
 
--- src/model.rt:214:33
 slot-word-requires : tie.Need-slot-word-requires Inv-loop μ-loop
 slot-word-requires c κs = search needs
 
--- src/model.rt:214:16
 add-bits : tie.Need-add-bits Inv-loop μ-loop
 add-bits c = search needs
 
--- src/model.rt:215:9
 add-s : tie.Need-add-s Inv-loop μ-loop
 add-s c = search needs
 
--- src/model.rt:213:5
 loop-less : tie.Need-loop-less Inv-loop μ-loop
 loop-less c = search needs
 
--- src/model.rt:213:5
 loop-again : tie.Need-loop-again Inv-loop μ-loop
 loop-again c = search needs
 
--- src/model.rt:210:1
 returns : tie.Need-returns Inv-loop μ-loop
 returns c = search needs
 

@@ -13,35 +13,27 @@ Inv-loop model₀ i₀ model i = (length model ≡ length model₀)
 abbrev μ-loop : tie.MeasureT-loop
 μ-loop model₀ i₀ model i = length model₀ - i
 
--- src/model.rt:81:5
 loop-holds : tie.Need-loop-holds Inv-loop μ-loop
 loop-holds c = search needs
 
--- src/model.rt:82:9
 mul-model : tie.Need-mul-model Inv-loop μ-loop
 mul-model c = search needs
 
--- src/model.rt:82:9
 slice-write-model : tie.Need-slice-write-model Inv-loop μ-loop
 slice-write-model c = search needs
 
--- src/model.rt:83:9
 add-i : tie.Need-add-i Inv-loop μ-loop
 add-i c = search needs
 
--- src/model.rt:81:5
 loop-less : tie.Need-loop-less Inv-loop μ-loop
 loop-less c = search needs
 
--- src/model.rt:81:5
 loop-again : tie.Need-loop-again Inv-loop μ-loop
 loop-again c = search needs
 
--- src/model.rt:79:1
 same-length : tie.Need-same-length Inv-loop μ-loop
 same-length c = search needs
 
--- src/model.rt:79:1
 returns : tie.Need-returns Inv-loop μ-loop
 returns c = search needs
 

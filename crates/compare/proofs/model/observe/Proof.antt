@@ -14,31 +14,24 @@ Inv-loop model₀ ok₀ s₀ model ok s = (length model ≡ length model₀)
 abbrev μ-loop : tie.MeasureT-loop
 μ-loop model₀ ok₀ s₀ model ok s = 8 - s
 
--- src/model.rt:174:5
 loop-holds : tie.Need-loop-holds Inv-loop μ-loop
 loop-holds c = search needs
 
--- src/model.rt:175:14
 observe-slot-requires : tie.Need-observe-slot-requires Inv-loop μ-loop
 observe-slot-requires c κs = search needs
 
--- src/model.rt:176:9
 add-s : tie.Need-add-s Inv-loop μ-loop
 add-s c = search needs
 
--- src/model.rt:174:5
 loop-less : tie.Need-loop-less Inv-loop μ-loop
 loop-less c = search needs
 
--- src/model.rt:174:5
 loop-again : tie.Need-loop-again Inv-loop μ-loop
 loop-again c = search needs
 
--- src/model.rt:171:1
 same-length : tie.Need-same-length Inv-loop μ-loop
 same-length c = search needs
 
--- src/model.rt:171:1
 returns : tie.Need-returns Inv-loop μ-loop
 returns c = search needs
 

@@ -14,39 +14,30 @@ Inv-loop model s v seen i₀ i = 0 ≤ 1
 abbrev μ-loop : tie.MeasureT-loop
 μ-loop model s v seen i₀ i = 24 - i
 
--- src/model.rt:186:9
 slot-word-requires : tie.Need-slot-word-requires Inv-loop μ-loop
 slot-word-requires c κs = search needs
 
--- src/model.rt:188:5
 loop-holds : tie.Need-loop-holds Inv-loop μ-loop
 loop-holds c = search needs
 
--- src/model.rt:189:46
 add-slot-word : tie.Need-add-slot-word Inv-loop μ-loop
 add-slot-word c = search needs
 
--- src/model.rt:189:26
 slot-word-requires-2 : tie.Need-slot-word-requires-2 Inv-loop μ-loop
 slot-word-requires-2 c κs = search needs
 
--- src/model.rt:190:13
 returns : tie.Need-returns Inv-loop μ-loop
 returns c = search needs
 
--- src/model.rt:192:9
 add-i : tie.Need-add-i Inv-loop μ-loop
 add-i c = search needs
 
--- src/model.rt:188:5
 loop-less : tie.Need-loop-less Inv-loop μ-loop
 loop-less c = search needs
 
--- src/model.rt:188:5
 loop-again : tie.Need-loop-again Inv-loop μ-loop
 loop-again c = search needs
 
--- src/model.rt:185:1
 returns-2 : tie.Need-returns-2 Inv-loop μ-loop
 returns-2 c = search needs
 

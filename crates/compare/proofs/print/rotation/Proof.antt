@@ -16,63 +16,48 @@ Inv-loop label counts step i₀ t5 t6 i = 0 ≤ 1
 abbrev μ-loop : tie.MeasureT-loop
 μ-loop label counts step i₀ t5 t6 i = 6 - i
 
--- src/print.rt:75:5
 write-all-requires : tie.Need-write-all-requires Inv-loop μ-loop
 write-all-requires c κs = search needs
 
--- src/print.rt:77:5
 loop-holds : tie.Need-loop-holds Inv-loop μ-loop
 loop-holds c = search needs
 
--- src/print.rt:78:26
 slice-aggregate-write-all : tie.Need-slice-aggregate-write-all Inv-loop μ-loop
 slice-aggregate-write-all c = search needs
 
--- src/print.rt:78:9
 write-all-requires-2 : tie.Need-write-all-requires-2 Inv-loop μ-loop
 write-all-requires-2 c κs = search needs
 
--- src/print.rt:79:68
 mul-get : tie.Need-mul-get Inv-loop μ-loop
 mul-get c = search needs
 
--- src/print.rt:79:49
 add-get : tie.Need-add-get Inv-loop μ-loop
 add-get c = search needs
 
--- src/print.rt:79:49
 add-get-2 : tie.Need-add-get-2 Inv-loop μ-loop
 add-get-2 c = search needs
 
--- src/print.rt:79:30
 get-requires : tie.Need-get-requires Inv-loop μ-loop
 get-requires c κs = search needs
 
--- src/print.rt:79:9
 print-decimal-requires : tie.Need-print-decimal-requires Inv-loop μ-loop
 print-decimal-requires c κs = search needs
 
--- src/print.rt:80:9
 add-i : tie.Need-add-i Inv-loop μ-loop
 add-i c = search needs
 
--- src/print.rt:77:5
 loop-less : tie.Need-loop-less Inv-loop μ-loop
 loop-less c = search needs
 
--- src/print.rt:77:5
 loop-again : tie.Need-loop-again Inv-loop μ-loop
 loop-again c = search needs
 
--- src/print.rt:82:22
 slice-aggregate-write-all-2 : tie.Need-slice-aggregate-write-all-2 Inv-loop μ-loop
 slice-aggregate-write-all-2 c = search needs
 
--- src/print.rt:82:5
 write-all-requires-3 : tie.Need-write-all-requires-3 Inv-loop μ-loop
 write-all-requires-3 c κs = search needs
 
--- src/print.rt:72:1
 returns : tie.Need-returns Inv-loop μ-loop
 returns c = search needs
 

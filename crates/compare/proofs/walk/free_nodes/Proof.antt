@@ -17,39 +17,30 @@ Inv-loop pool top free₀ n₀ free n = free ≤ n
 abbrev μ-loop : tie.MeasureT-loop
 μ-loop pool top free₀ n₀ free n = top - n
 
--- src/walk.rt:41:9
 nodes-requires : tie.Need-nodes-requires Inv-loop μ-loop
 nodes-requires c κs = search needs
 
--- src/walk.rt:44:5
 loop-holds : tie.Need-loop-holds Inv-loop μ-loop
 loop-holds c = search needs
 
--- src/walk.rt:45:23
 add-word : tie.Need-add-word Inv-loop μ-loop
 add-word c = search needs
 
--- src/walk.rt:45:12
 word-requires : tie.Need-word-requires Inv-loop μ-loop
 word-requires c κs = search needs
 
--- src/walk.rt:46:13
 add-free : tie.Need-add-free Inv-loop μ-loop
 add-free c = search needs
 
--- src/walk.rt:48:9
 add-n : tie.Need-add-n Inv-loop μ-loop
 add-n c = search needs
 
--- src/walk.rt:44:5
 loop-less : tie.Need-loop-less Inv-loop μ-loop
 loop-less c = search needs
 
--- src/walk.rt:44:5
 loop-again : tie.Need-loop-again Inv-loop μ-loop
 loop-again c = ⊎-elim (λ w. omega arith) (λ w. omega arith) (c .if1 .came)
 
--- src/walk.rt:40:1
 returns : tie.Need-returns Inv-loop μ-loop
 returns c = search needs
 

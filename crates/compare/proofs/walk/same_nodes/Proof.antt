@@ -21,119 +21,90 @@ Inv-loop pool root tree pairs₀ tail₀ head₀ pairs tail head = (length pairs
 abbrev μ-loop : tie.MeasureT-loop
 μ-loop pool root tree pairs₀ tail₀ head₀ pairs tail head = 1024 - head
 
--- src/walk.rt:99:25
 slice-aggregate-push : tie.Need-slice-aggregate-push Inv-loop μ-loop
 slice-aggregate-push c = search needs
 
--- src/walk.rt:99:46
 root-requires : tie.Need-root-requires Inv-loop μ-loop
 root-requires c κs = search needs
 
--- src/walk.rt:99:9
 push-requires : tie.Need-push-requires Inv-loop μ-loop
 push-requires c κs = search needs
 
--- src/walk.rt:101:5
 loop-holds : tie.Need-loop-holds Inv-loop μ-loop
 loop-holds c = search needs
 
--- src/walk.rt:103:13
 returns : tie.Need-returns Inv-loop μ-loop
 returns c = search needs
 
--- src/walk.rt:105:22
 slice-aggregate-pair : tie.Need-slice-aggregate-pair Inv-loop μ-loop
 slice-aggregate-pair c = search needs
 
--- src/walk.rt:105:30
 cast-pair : tie.Need-cast-pair Inv-loop μ-loop
 cast-pair c = search needs
 
--- src/walk.rt:105:30
 mul-pair : tie.Need-mul-pair Inv-loop μ-loop
 mul-pair c = search needs
 
--- src/walk.rt:105:13
 pair-requires : tie.Need-pair-requires Inv-loop μ-loop
 pair-requires c κs = search needs
 
--- src/walk.rt:106:22
 slice-aggregate-pair-2 : tie.Need-slice-aggregate-pair-2 Inv-loop μ-loop
 slice-aggregate-pair-2 c = search needs
 
--- src/walk.rt:106:30
 cast-pair-2 : tie.Need-cast-pair-2 Inv-loop μ-loop
 cast-pair-2 c = search needs
 
--- src/walk.rt:106:30
 mul-pair-2 : tie.Need-mul-pair-2 Inv-loop μ-loop
 mul-pair-2 c = search needs
 
--- src/walk.rt:106:30
 add-pair : tie.Need-add-pair Inv-loop μ-loop
 add-pair c = search needs
 
--- src/walk.rt:106:13
 pair-requires-2 : tie.Need-pair-requires-2 Inv-loop μ-loop
 pair-requires-2 c κs = search needs
 
--- src/walk.rt:107:12
 same-node-requires : tie.Need-same-node-requires Inv-loop μ-loop
 same-node-requires c κs = search needs
 
--- src/walk.rt:107:42
 same-shape-requires : tie.Need-same-shape-requires Inv-loop μ-loop
 same-shape-requires c κs = search needs
 
--- src/walk.rt:108:13
 returns-2 : tie.Need-returns-2 Inv-loop μ-loop
 returns-2 c = search needs
 
--- src/walk.rt:110:21
 slice-aggregate-push-2 : tie.Need-slice-aggregate-push-2 Inv-loop μ-loop
 slice-aggregate-push-2 c = search needs
 
--- src/walk.rt:110:39
 word-requires : tie.Need-word-requires Inv-loop μ-loop
 word-requires c κs = search needs
 
--- src/walk.rt:110:60
 left-requires : tie.Need-left-requires Inv-loop μ-loop
 left-requires c κs = search needs
 
--- src/walk.rt:110:9
 push-requires-2 : tie.Need-push-requires-2 Inv-loop μ-loop
 push-requires-2 c κs = search needs
 
--- src/walk.rt:111:21
 slice-aggregate-push-3 : tie.Need-slice-aggregate-push-3 Inv-loop μ-loop
 slice-aggregate-push-3 c = search needs
 
--- src/walk.rt:111:39
 word-requires-2 : tie.Need-word-requires-2 Inv-loop μ-loop
 word-requires-2 c κs = search needs
 
--- src/walk.rt:111:61
 right-requires : tie.Need-right-requires Inv-loop μ-loop
 right-requires c κs = search needs
 
--- src/walk.rt:111:9
 push-requires-3 : tie.Need-push-requires-3 Inv-loop μ-loop
 push-requires-3 c κs = search needs
 
--- src/walk.rt:112:9
 add-head : tie.Need-add-head Inv-loop μ-loop
 add-head c = search needs
 
--- src/walk.rt:101:5
 loop-less : tie.Need-loop-less Inv-loop μ-loop
 loop-less c = search needs
 
--- src/walk.rt:101:5
 loop-again : tie.Need-loop-again Inv-loop μ-loop
 loop-again c = search needs
 
--- src/walk.rt:97:1
 returns-3 : tie.Need-returns-3 Inv-loop μ-loop
 returns-3 c = search needs
 
