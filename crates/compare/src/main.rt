@@ -116,57 +116,37 @@ fn run_on(
     }
 }
 
+// the runs, by number: their nodes, and how many calls
+fn nodes_of(run: u32) -> u32 {
+    match run {
+        1 => 8,
+        2 => 9,
+        3 => 13,
+        4 => 16,
+        5 => 33,
+        6 => 128,
+        _ => 1023,
+    }
+}
+
+fn calls_of(run: u32) -> u64 {
+    if run < 7 { 150_000 } else { 250_000 }
+}
+
+// a run's number is its seed
+fn all_runs(pool: &mut [u32], tree: &mut [u32], model: &mut [u32], counts: &mut [u64]) {
+    let mut n: u32 = 1;
+    while n < 8 {
+        run_on(nodes_of(n), pool, tree, model, counts, calls_of(n), n);
+        n += 1;
+    }
+}
+
 fn main() {
     let mut pool = [0u32; POOL_WORDS];
     let mut tree = [0u32; reference::WORDS];
     let mut model = [0u32; model::WORDS];
     let mut counts = [0u64; tally::ROWS];
-    run_on(8, &mut pool, &mut tree, &mut model, &mut counts, 150_000, 1);
-    run_on(9, &mut pool, &mut tree, &mut model, &mut counts, 150_000, 2);
-    run_on(
-        13,
-        &mut pool,
-        &mut tree,
-        &mut model,
-        &mut counts,
-        150_000,
-        3,
-    );
-    run_on(
-        16,
-        &mut pool,
-        &mut tree,
-        &mut model,
-        &mut counts,
-        150_000,
-        4,
-    );
-    run_on(
-        33,
-        &mut pool,
-        &mut tree,
-        &mut model,
-        &mut counts,
-        150_000,
-        5,
-    );
-    run_on(
-        128,
-        &mut pool,
-        &mut tree,
-        &mut model,
-        &mut counts,
-        150_000,
-        6,
-    );
-    run_on(
-        1023,
-        &mut pool,
-        &mut tree,
-        &mut model,
-        &mut counts,
-        250_000,
-        7,
-    );
+    all_runs(&mut pool, &mut tree, &mut model, &mut counts);
     print::all(&counts);
 }
