@@ -1,0 +1,58 @@
+use borrow.Author.Needs.{needs}
+use mathlib.Core.Path.{_≡_}
+use Prim.Native.Nat.{_-_, _≤_}
+use lib.ListN.{length}
+use Rattle.compare.proofs.model.awaited.Statement.{statement}
+use Rattle.compare.proofs.model.awaited.Tie as tie
+use Rattle.compare.proofs.model.awaited.Reads as reads
+use Rattle.compare.proofs.model.awaited.Lts as lts
+use Rattle.compare.proofs.model.slot_word.Reads as slot-word-reads
+
+abbrev Inv-loop : tie.InvT-loop
+Inv-loop model bits₀ s₀ bits s = 0 ≤ 1
+
+abbrev μ-loop : tie.MeasureT-loop
+μ-loop model bits₀ s₀ bits s = 8 - s
+
+loop-holds : tie.Need-loop-holds Inv-loop μ-loop
+loop-holds c = search needs
+
+mul-bits : tie.Need-mul-bits Inv-loop μ-loop
+mul-bits c = search needs
+
+sub-slot-word : tie.Need-sub-slot-word Inv-loop μ-loop
+sub-slot-word c = search needs
+
+slot-word-requires : tie.Need-slot-word-requires Inv-loop μ-loop
+slot-word-requires c κs = search needs
+
+add-bits : tie.Need-add-bits Inv-loop μ-loop
+add-bits c = search needs
+
+add-s : tie.Need-add-s Inv-loop μ-loop
+add-s c = search needs
+
+loop-less : tie.Need-loop-less Inv-loop μ-loop
+loop-less c = search needs
+
+loop-again : tie.Need-loop-again Inv-loop μ-loop
+loop-again c = search needs
+
+returns : tie.Need-returns Inv-loop μ-loop
+returns c = search needs
+
+pub awaited-spec : {M : Type 1} → statement M
+awaited-spec =
+    tie.close
+    (tie.spec
+    Inv-loop
+    μ-loop
+    loop-holds
+    mul-bits
+    sub-slot-word
+    slot-word-requires
+    add-bits
+    add-s
+    loop-less
+    loop-again
+    returns)

@@ -1,0 +1,128 @@
+// The random draws and the calls made of them.
+
+pub const INSERT: u32 = 1;
+
+pub const DELETE: u32 = 2;
+
+pub const WRITER_TURN: u32 = 3;
+
+pub const BEGIN: u32 = 4;
+
+pub const READER_TURN: u32 = 5;
+
+pub const GIVE_UP: u32 = 6;
+
+// A call drawn: its kind, and arguments for any kind.
+pub struct Call {
+    pub kind: u32,
+    pub slot: u32,
+    pub ticket: u32,
+    pub record: u32,
+}
+
+// What most calls of a stretch are: more inserts than deletes or fewer, many readers or few.
+pub struct Mood {
+    pub growing: bool,
+    pub busy: bool,
+}
+
+// 1,664,525 times x modulo two to the power 32
+fn wrapping_times(x: u32) -> u32 {
+    (x as u64 * 1_664_525 % 4_294_967_296) as u32
+}
+
+fn next(x: u32) -> u32 {
+    std::num::wrapping_add_u32(wrapping_times(x), 1_013_904_223)
+}
+
+// a number below n of the high bits
+fn high(x: u32, n: u32) -> u32 {
+    if n == 0 { 0 } else { x / 65_536 % n }
+}
+
+// the draw after those of a call
+pub fn after_call(x: u32) -> u32 {
+    next(next(next(x)))
+}
+
+// The moods take turns, each long enough to fill the index or to empty it.
+fn mood_at(i: u64, nodes: u32) -> Mood {
+    let stretch = i / (nodes as u64 * 20 + 40) % 4;
+    Mood {
+        growing: stretch < 2,
+        busy: (stretch == 1) | (stretch == 2),
+    }
+}
+
+// how many different keys a run draws from
+pub fn tickets(nodes: u32) -> u32 {
+    if nodes < 1024 {
+        nodes + nodes / 2
+    } else {
+        2048
+    }
+}
+
+// The key of a ticket: spread over all 32-bit numbers, 0 the first and 4,294,967,295 the last.
+pub fn key_of(t: u32, tickets: u32) -> u32 {
+    if t < tickets {
+        if t == tickets - 1 {
+            return 4_294_967_295;
+        }
+    }
+    t % 2048 * 2_097_152
+}
+
+// a slot, now and then above 7
+fn slot_of(q: u32) -> u32 {
+    let spread = q / 8 % 32;
+    if spread == 0 {
+        return 8;
+    }
+    if spread == 1 {
+        return 4_294_967_295 - q % 8;
+    }
+    q % 8
+}
+
+fn write_kind(growing: bool, often: bool) -> u32 {
+    if growing == often { INSERT } else { DELETE }
+}
+
+fn reader_kind(c: u32, begins: u32) -> u32 {
+    if c < begins {
+        return BEGIN;
+    }
+    if c < 63 {
+        return READER_TURN;
+    }
+    GIVE_UP
+}
+
+fn bound(busy: bool, then: u32, otherwise: u32) -> u32 {
+    if busy { then } else { otherwise }
+}
+
+// the kind of a call from a number below 64
+fn kind_of(c: u32, m: Mood) -> u32 {
+    if c < bound(m.busy, 16, 24) {
+        return WRITER_TURN;
+    }
+    if c < bound(m.busy, 32, 50) {
+        return write_kind(m.growing, c % 4 != 0);
+    }
+    reader_kind(c, bound(m.busy, 38, 52))
+}
+
+// a run's call number i from a draw, on so many nodes
+pub fn draw_call(x: u32, i: u64, nodes: u32) -> Call {
+    let first = next(x);
+    let second = next(first);
+    let third = next(second);
+    Call {
+        kind: kind_of(high(first, 64), mood_at(i, nodes)),
+        slot: slot_of(high(second, 256)),
+        ticket: high(third, tickets(nodes)),
+        record: second,
+    }
+}

@@ -1,0 +1,298 @@
+// What a run knows beside the reference tree: document 01's plain list, the moments of each lookup, and the write in hand. It is lent as
+// WORDS words; a word past the end reads 0, and setting one changes nothing.
+
+// The plain list has two words for each ticket number: whether it is there, and its record.
+const SLOTS: usize = 4096;
+
+const SLOT_SPAN: usize = 32;
+
+const HAND: usize = 4352;
+
+pub const WORDS: usize = 4360;
+
+// A slot's words: reading, the wanted ticket, awaited, whether the list lacked the ticket at some moment, how many records it was seen with, and
+// those records.
+const READING: u32 = 0;
+
+const WANTED: u32 = 1;
+
+const AWAITED: u32 = 2;
+
+const LACKED: u32 = 3;
+
+const SEEN: u32 = 4;
+
+const RECORDS: u32 = 8;
+
+const MEMORY: u32 = 24;
+
+// The words of the write in hand: its kind, ticket, record, the form of a delete, its stores in all and those made; and the number of
+// tickets in the list.
+const KIND: u32 = 0;
+
+const TICKET: u32 = 1;
+
+const RECORD: u32 = 2;
+
+const FORM: u32 = 3;
+
+const STORES: u32 = 4;
+
+const MADE: u32 = 5;
+
+const HELD: u32 = 6;
+
+pub const NONE: u32 = 0;
+
+pub const INSERT: u32 = 1;
+
+pub const DELETE: u32 = 2;
+
+fn word(model: &[u32], at: usize) -> u32 {
+    if at < model.len() { model[at] } else { 0 }
+}
+
+fn set_word(model: &mut [u32], at: usize, v: u32) {
+    if at < model.len() {
+        model[at] = v;
+    }
+}
+
+fn slot_word(model: &[u32], s: u32, f: u32) -> u32 {
+    word(model, SLOTS + s as usize * SLOT_SPAN + f as usize)
+}
+
+fn set_slot_word(model: &mut [u32], s: u32, f: u32, v: u32) {
+    set_word(model, SLOTS + s as usize * SLOT_SPAN + f as usize, v);
+}
+
+fn hand_word(model: &[u32], f: u32) -> u32 {
+    word(model, HAND + f as usize)
+}
+
+fn set_hand_word(model: &mut [u32], f: u32, v: u32) {
+    set_word(model, HAND + f as usize, v);
+}
+
+pub fn clear(model: &mut [u32]) {
+    let mut i: usize = 0;
+    while i < model.len() {
+        model[i] = 0;
+        i += 1;
+    }
+}
+
+// the plain list: how many tickets, whether one is there, its record
+pub fn held(model: &[u32]) -> u32 {
+    hand_word(model, HELD)
+}
+
+pub fn listed(model: &[u32], t: u32) -> bool {
+    word(model, t as usize * 2) == 1
+}
+
+pub fn list_record(model: &[u32], t: u32) -> u32 {
+    word(model, t as usize * 2 + 1)
+}
+
+fn put_in(model: &mut [u32], t: u32, v: u32) {
+    let n = held(model);
+    if n < 4294967295 {
+        set_word(model, t as usize * 2, 1);
+        set_word(model, t as usize * 2 + 1, v);
+        set_hand_word(model, HELD, n + 1);
+    }
+}
+
+fn take_out(model: &mut [u32], t: u32) {
+    let n = held(model);
+    if 0 < n {
+        set_word(model, t as usize * 2, 0);
+        set_hand_word(model, HELD, n - 1);
+    }
+}
+
+// lookups
+pub fn reading(model: &[u32], s: u32) -> bool {
+    slot_word(model, s, READING) == 1
+}
+
+pub fn begin_lookup(model: &mut [u32], s: u32, t: u32) {
+    set_slot_word(model, s, READING, 1);
+    set_slot_word(model, s, WANTED, t);
+    set_slot_word(model, s, LACKED, 0);
+    set_slot_word(model, s, SEEN, 0);
+}
+
+pub fn end_lookup(model: &mut [u32], s: u32) {
+    set_slot_word(model, s, READING, 0);
+    set_slot_word(model, s, AWAITED, 0);
+}
+
+fn seen_last(model: &[u32], s: u32, v: u32) -> bool {
+    let seen = slot_word(model, s, SEEN);
+    if seen == 0 {
+        return false;
+    }
+    if MEMORY < seen {
+        return false;
+    }
+    slot_word(model, s, RECORDS - 1 + seen) == v
+}
+
+// Adds a record to those seen; false if there is no room.
+fn remember(model: &mut [u32], s: u32, v: u32) -> bool {
+    if seen_last(model, s, v) {
+        return true;
+    }
+    let seen = slot_word(model, s, SEEN);
+    if MEMORY <= seen {
+        return false;
+    }
+    set_slot_word(model, s, RECORDS + seen, v);
+    set_slot_word(model, s, SEEN, seen + 1);
+    true
+}
+
+// A moment of a slot's lookup: what the plain list says of its ticket now.
+fn observe_slot(model: &mut [u32], s: u32) -> bool {
+    let t = slot_word(model, s, WANTED);
+    if reading(model, s) {} else {
+        return true;
+    }
+    if listed(model, t) {
+        let v = list_record(model, t);
+        return remember(model, s, v);
+    }
+    set_slot_word(model, s, LACKED, 1);
+    true
+}
+
+// A moment of all lookups; false if one has no room for a record.
+pub fn observe(model: &mut [u32]) -> bool {
+    let mut ok = true;
+    let mut s: u32 = 0;
+    while s < 8 {
+        ok = observe_slot(model, s) & ok;
+        s += 1;
+    }
+    ok
+}
+
+// whether the list had a slot's ticket with this record, or lacked it, at one of the lookup's moments
+pub fn was_listed(model: &[u32], s: u32, v: u32) -> bool {
+    let seen = slot_word(model, s, SEEN);
+    let mut i: u32 = 0;
+    while i < MEMORY {
+        if (i < seen) & (slot_word(model, s, RECORDS + i) == v) {
+            return true;
+        }
+        i += 1;
+    }
+    false
+}
+
+pub fn was_lacking(model: &[u32], s: u32) -> bool {
+    slot_word(model, s, LACKED) == 1
+}
+
+// whether the list now has a slot's ticket with this record, or lacks it
+pub fn is_listed(model: &[u32], s: u32, v: u32) -> bool {
+    let t = slot_word(model, s, WANTED);
+    listed(model, t) & (list_record(model, t) == v)
+}
+
+pub fn is_lacking(model: &[u32], s: u32) -> bool {
+    let t = slot_word(model, s, WANTED);
+    listed(model, t) == false
+}
+
+// the awaited slots, a bit each
+pub fn awaited(model: &[u32]) -> u32 {
+    let mut bits: u32 = 0;
+    let mut s: u32 = 0;
+    while s < 8 {
+        bits = bits % 128 * 2 + slot_word(model, 7 - s, AWAITED) % 2;
+        s += 1;
+    }
+    bits
+}
+
+fn await_readers(model: &mut [u32]) {
+    let mut s: u32 = 0;
+    while s < 8 {
+        let v = slot_word(model, s, READING);
+        set_slot_word(model, s, AWAITED, v);
+        s += 1;
+    }
+}
+
+// the write in hand
+pub fn kind_in_hand(model: &[u32]) -> u32 {
+    hand_word(model, KIND)
+}
+
+pub fn form_in_hand(model: &[u32]) -> u32 {
+    hand_word(model, FORM)
+}
+
+pub fn take_in_hand(model: &mut [u32], kind: u32, t: u32, v: u32) {
+    set_hand_word(model, KIND, kind);
+    set_hand_word(model, TICKET, t);
+    set_hand_word(model, RECORD, v);
+    set_hand_word(model, MADE, 0);
+}
+
+pub fn plan_stores(model: &mut [u32], form: u32, stores: u32) {
+    set_hand_word(model, FORM, form);
+    set_hand_word(model, STORES, stores);
+}
+
+// whether the next store is the write's last
+pub fn last_is_next(model: &[u32]) -> bool {
+    let made = hand_word(model, MADE);
+    (made < 8) & (hand_word(model, STORES) == made % 8 + 1)
+}
+
+fn list_store(model: &[u32]) -> u32 {
+    if (kind_in_hand(model) == DELETE) & (form_in_hand(model) == 2) {
+        2
+    } else {
+        1
+    }
+}
+
+fn change_list(model: &mut [u32]) {
+    let t = hand_word(model, TICKET);
+    let v = hand_word(model, RECORD);
+    if kind_in_hand(model) == INSERT {
+        put_in(model, t, v);
+    } else {
+        take_out(model, t);
+    }
+}
+
+// a store of the write in hand: at the list store the list changes
+fn change_at(model: &mut [u32], number: u32) {
+    if number == list_store(model) {
+        change_list(model);
+    }
+}
+
+// the first store of a delete's third form publishes the successor's copy
+fn await_at(model: &mut [u32], number: u32) {
+    if (number == 1) & (kind_in_hand(model) == DELETE) & (form_in_hand(model) == 3) {
+        await_readers(model);
+    }
+}
+
+pub fn store_made(model: &mut [u32]) {
+    let number = hand_word(model, MADE) % 8 + 1;
+    set_hand_word(model, MADE, number);
+    change_at(model, number);
+    await_at(model, number);
+}
+
+pub fn finish_write(model: &mut [u32]) {
+    set_hand_word(model, KIND, NONE);
+}

@@ -1,0 +1,133 @@
+// The counts, a line each.
+use crate::tally;
+ghost use Prim.Native.Nat.{_<_};
+
+fn line(label: &[u8], n: u64) {
+    io::write_all(1, label);
+    io::write_all(1, b"\t");
+    io::print_decimal(1, n);
+    io::write_all(1, b"\n");
+}
+
+// a run of so many calls on so many nodes
+pub fn run(nodes: u32, calls: u64, most: u32) {
+    io::write_all(1, b"nodes\t");
+    io::print_decimal(1, nodes as u64);
+    io::write_all(1, b"\tcalls\t");
+    io::print_decimal(1, calls);
+    line(b"\tmost keys held", most as u64);
+}
+
+fn calls(counts: &[u64]) {
+    line(b"set up", tally::get(counts, tally::CALLS));
+    line(b"insert", tally::get(counts, 1));
+    line(b"delete", tally::get(counts, 2));
+    line(b"writer's turn", tally::get(counts, 3));
+    line(b"begin", tally::get(counts, 4));
+    line(b"reader's turn", tally::get(counts, 5));
+    line(b"give up", tally::get(counts, 6));
+}
+
+fn refusals(counts: &[u64]) {
+    let mut n: usize = 1;
+    while n < 13 {
+        io::write_all(1, b"refused by ");
+        io::print_decimal(1, n as u64);
+        line(b"", tally::get(counts, tally::REFUSALS + n));
+        n += 1;
+    }
+}
+
+fn writer(counts: &[u64]) {
+    line(b"inserts accepted", tally::get(counts, tally::ACCEPTED + 1));
+    line(b"inserts finished", tally::get(counts, tally::FINISHED + 1));
+    line(b"deletes accepted", tally::get(counts, tally::ACCEPTED + 2));
+    line(b"deletes finished", tally::get(counts, tally::FINISHED + 2));
+    line(
+        b"deletes of a node with at most one child",
+        tally::get(counts, tally::FORMS + 1),
+    );
+    line(
+        b"deletes of a node whose right child has no left child",
+        tally::get(counts, tally::FORMS + 2),
+    );
+    line(
+        b"deletes of the other form",
+        tally::get(counts, tally::FORMS + 3),
+    );
+    line(b"more", tally::get(counts, tally::MORE));
+    line(b"done", tally::get(counts, tally::DONE));
+    line(b"wait", tally::get(counts, tally::WAIT));
+}
+
+fn readers(counts: &[u64]) {
+    line(b"lookups begun", tally::get(counts, tally::BEGUN));
+    line(b"go", tally::get(counts, tally::GO));
+    line(b"found", tally::get(counts, tally::FOUND));
+    line(b"absent", tally::get(counts, tally::ABSENT));
+    line(
+        b"answers that held at an earlier moment than the last",
+        tally::get(counts, tally::OLDER),
+    );
+    line(b"given up", tally::get(counts, tally::GIVEN_UP));
+}
+
+fn steps(counts: &[u64]) {
+    line(b"store insert", tally::get(counts, tally::STEPS));
+    line(b"store unlink", tally::get(counts, tally::STEPS + 1));
+    line(b"store adopt", tally::get(counts, tally::STEPS + 2));
+    line(b"store replace", tally::get(counts, tally::STEPS + 3));
+    line(b"store publish", tally::get(counts, tally::STEPS + 4));
+    line(b"store detach", tally::get(counts, tally::STEPS + 5));
+}
+
+// a rotation's step: grow left, grow right, pass left, pass right, borrow left, borrow right
+fn rotation(label: &[u8], counts: &[u64], step: usize)
+    requires { ⌜ step < 5 ⌝ }
+{
+    io::write_all(1, label);
+    let mut i: usize = 0;
+    while i < 6 {
+        io::write_all(1, b"\t");
+        io::print_decimal(1, tally::get(counts, tally::ROTATIONS + step * 6 + i));
+        i += 1;
+    }
+    io::write_all(1, b"\n");
+}
+
+fn rotations(counts: &[u64]) {
+    io::write_all(
+        1,
+        b"stores of rotations\tgrow L\tgrow R\tpass L\tpass R\tborrow L\tborrow R\n",
+    );
+    rotation(b"store diag lower", counts, 0);
+    rotation(b"store diag raise", counts, 1);
+    rotation(b"store zig lower A", counts, 2);
+    rotation(b"store zig lower C", counts, 3);
+    rotation(b"store zig raise", counts, 4);
+}
+
+fn comparisons(counts: &[u64]) {
+    line(b"answers compared", tally::get(counts, tally::ANSWERS));
+    line(
+        b"lookups compared with their moments",
+        tally::get(counts, tally::LOOKUPS),
+    );
+    line(b"trees compared", tally::get(counts, tally::TREES));
+    line(b"nodes compared", tally::get(counts, tally::NODES));
+    line(
+        b"keys held, free count and awaited slots compared",
+        tally::get(counts, tally::STATES),
+    );
+    line(b"differences", tally::get(counts, tally::DIFFERENCES));
+}
+
+pub fn all(counts: &[u64]) {
+    calls(counts);
+    refusals(counts);
+    writer(counts);
+    readers(counts);
+    steps(counts);
+    rotations(counts);
+    comparisons(counts);
+}

@@ -1,0 +1,77 @@
+// The counts of a run, by row; a row past the end counts nothing.
+const MOST: u64 = 18_446_744_073_709_551_615;
+
+pub const ROWS: usize = 128;
+
+// Set up, and then the other calls by the numbers of their kinds; refusals by their numbers; finished deletes by their form, finished and
+// accepted writes by their kind.
+pub const CALLS: usize = 0;
+
+pub const REFUSALS: usize = 10;
+
+pub const FORMS: usize = 24;
+
+pub const FINISHED: usize = 28;
+
+pub const ACCEPTED: usize = 32;
+
+// answers
+pub const MORE: usize = 36;
+
+pub const DONE: usize = 37;
+
+pub const WAIT: usize = 38;
+
+pub const GO: usize = 39;
+
+pub const FOUND: usize = 40;
+
+pub const ABSENT: usize = 41;
+
+// answers that no longer held at the lookup's last moment
+pub const OLDER: usize = 42;
+
+pub const BEGUN: usize = 43;
+
+pub const GIVEN_UP: usize = 44;
+
+// comparisons made
+pub const ANSWERS: usize = 50;
+
+pub const LOOKUPS: usize = 51;
+
+pub const TREES: usize = 52;
+
+pub const NODES: usize = 53;
+
+pub const STATES: usize = 54;
+
+pub const DIFFERENCES: usize = 55;
+
+// stores made, by their step
+pub const STEPS: usize = 60;
+
+pub const ROTATIONS: usize = 68;
+
+pub fn get(counts: &[u64], row: usize) -> u64 {
+    if row < counts.len() { counts[row] } else { 0 }
+}
+
+pub fn add(counts: &mut [u64], row: usize, n: u64) {
+    if row < counts.len() {
+        if counts[row] <= MOST - n {
+            counts[row] = counts[row] + n;
+        }
+    }
+}
+
+pub fn one(counts: &mut [u64], row: usize) {
+    add(counts, row, 1);
+}
+
+// a comparison: what differs is counted
+pub fn same(counts: &mut [u64], ok: bool) {
+    if ok {} else {
+        one(counts, DIFFERENCES);
+    }
+}

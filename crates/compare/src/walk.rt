@@ -1,0 +1,117 @@
+// The index's pool beside the reference tree, node by node.
+
+// a node's words in a pool
+const KEY: usize = 0;
+
+const RECORD: usize = 1;
+
+const LEFT: usize = 2;
+
+const RIGHT: usize = 3;
+
+const COLOUR: usize = 4;
+
+const STANDING: usize = 5;
+
+const PAIRS: usize = 2048;
+
+// a word of a node, 0 of no node
+fn word(pool: &[u32], n: u32, f: usize) -> u32 {
+    if n == 0 {
+        return 0;
+    }
+    if 7 < f {
+        return 0;
+    }
+    let at = (n as usize - 1) * 8 + f;
+    if at < pool.len() { pool[at] } else { 0 }
+}
+
+pub fn nodes(pool: &[u32]) -> u32 {
+    if pool.len() < 8192 {
+        (pool.len() / 8) as u32
+    } else {
+        0
+    }
+}
+
+// how many nodes stand free
+pub fn free_nodes(pool: &[u32]) -> u32 {
+    let top = nodes(pool);
+    let mut free: u32 = 0;
+    let mut n: u32 = 0;
+    while n < top {
+        if word(pool, n + 1, STANDING) == 0 {
+            free += 1;
+        }
+        n += 1;
+    }
+    free
+}
+
+// a node of each tree: the same key, record and colour
+fn same_node(pool: &[u32], a: u32, tree: &[u32], b: u32) -> bool {
+    (word(pool, a, KEY) == reference::key(tree, b))
+        & (word(pool, a, RECORD) == reference::record(tree, b))
+        & (word(pool, a, COLOUR) == reference::colour(tree, b))
+}
+
+// children on the same sides
+fn same_shape(pool: &[u32], a: u32, tree: &[u32], b: u32) -> bool {
+    ((word(pool, a, LEFT) == 0) == (reference::left(tree, b) == 0))
+        & ((word(pool, a, RIGHT) == 0) == (reference::right(tree, b) == 0))
+}
+
+fn pair(pairs: &[u32], at: usize) -> u32 {
+    if at < pairs.len() { pairs[at] } else { 0 }
+}
+
+fn set_pair(pairs: &mut [u32], at: usize, n: u32) {
+    if at < pairs.len() {
+        pairs[at] = n;
+    }
+}
+
+// Adds a pair of nodes to those still to be compared, unless there is no node; answers how many there are.
+fn push(pairs: &mut [u32], tail: u32, a: u32, b: u32) -> u32 {
+    if a == 0 {
+        return tail;
+    }
+    if 4096 < tail {
+        return tail;
+    }
+    set_pair(pairs, tail as usize * 2, a);
+    set_pair(pairs, tail as usize * 2 + 1, b);
+    tail + 1
+}
+
+// Walks both trees together, level by level. Answers how many nodes were the same, and 1,025 if any differed.
+pub fn same_nodes(pool: &[u32], root: u32, tree: &[u32]) -> u32 {
+    let mut pairs = [0u32; PAIRS];
+    let mut tail = push(&mut pairs, 0, root, reference::root(tree));
+    let mut head: u32 = 0;
+    while head < 1024 {
+        if head == tail {
+            return head;
+        }
+        let a = pair(&pairs, head as usize * 2);
+        let b = pair(&pairs, head as usize * 2 + 1);
+        if same_node(pool, a, tree, b) & same_shape(pool, a, tree, b) {} else {
+            return 1025;
+        }
+        tail = push(
+            &mut pairs,
+            tail,
+            word(pool, a, LEFT),
+            reference::left(tree, b),
+        );
+        tail = push(
+            &mut pairs,
+            tail,
+            word(pool, a, RIGHT),
+            reference::right(tree, b),
+        );
+        head += 1;
+    }
+    head
+}

@@ -1,0 +1,289 @@
+// The writer's calls, each beside the reference tree and the plain list.
+use crate::draws;
+use crate::draws::Call;
+use crate::model;
+use crate::tally;
+use crate::walk;
+use types::Acceptance;
+use types::Register;
+use types::Rule;
+use types::Side;
+use types::Step;
+use types::WriterAnswer;
+ghost use Prim.Native.Nat.{_<_};
+
+// Answers as numbers: a refusal is its number, accepted is 0.
+pub const ACCEPTED: u32 = 0;
+
+const MORE: u32 = 101;
+
+const DONE: u32 = 102;
+
+const WAIT: u32 = 103;
+
+pub fn acceptance_number(a: Acceptance) -> u32 {
+    match a {
+        Acceptance::Accepted => ACCEPTED,
+        Acceptance::Refused(n) => n,
+    }
+}
+
+fn writer_number(a: WriterAnswer) -> u32 {
+    match a {
+        WriterAnswer::More(_, _) => MORE,
+        WriterAnswer::Done(_, _) => DONE,
+        WriterAnswer::Wait => WAIT,
+        WriterAnswer::Refused(n) => n,
+    }
+}
+
+fn count_refusal(counts: &mut [u64], number: u32) {
+    if (0 < number) & (number < 13) {
+        tally::one(counts, tally::REFUSALS + number as usize);
+    }
+}
+
+// an answer beside the one foretold
+pub fn answered(counts: &mut [u64], number: u32, foretold: u32) {
+    count_refusal(counts, number);
+    tally::same(counts, number == foretold);
+    tally::one(counts, tally::ANSWERS);
+}
+
+pub fn set_up(pool: &mut [u32], reg: Register, counts: &mut [u64]) -> Register {
+    let reply = index::set_up(pool, reg);
+    let answer = reply.answer;
+    answered(counts, acceptance_number(answer), ACCEPTED);
+    tally::one(counts, tally::CALLS);
+    let after = reply.register;
+    after
+}
+
+// the stores of the last write's rotations: two for a single one, three for a double one
+fn rotation_stores(tree: &[u32]) -> u32
+    ensures { λ r. ⌜ r < 64 ⌝ }
+{
+    reference::single_rotations(tree) % 8 * 2 + reference::double_rotations(tree) % 8 * 3
+}
+
+// the stores of a delete before its rotations
+fn delete_stores(form: u32) -> u32
+    ensures { λ r. ⌜ r < 3 ⌝ }
+{
+    if form == 1 { 1 } else { 2 }
+}
+
+fn insert_foretold(pool: &[u32], reg: Register, tree: &mut [u32], model: &[u32], key: u32) -> u32 {
+    if model::kind_in_hand(model) != model::NONE {
+        return 6;
+    }
+    if reference::find(tree, key) != reference::NIL {
+        return 8;
+    }
+    if walk::nodes(pool) <= reference::held(tree) % 4096 + 4 {
+        return 10;
+    }
+    if reg.free < 3 {
+        return 11;
+    }
+    ACCEPTED
+}
+
+// takes an accepted insert in hand
+fn begin_insert(tree: &mut [u32], model: &mut [u32], counts: &mut [u64], key: u32, call: Call) {
+    reference::insert(tree, key, call.record);
+    model::take_in_hand(model, model::INSERT, call.ticket, call.record);
+    model::plan_stores(model, 0, 1 + rotation_stores(tree));
+    tally::one(counts, tally::ACCEPTED + 1);
+}
+
+pub fn insert(
+    pool: &[u32],
+    reg: Register,
+    tree: &mut [u32],
+    model: &mut [u32],
+    counts: &mut [u64],
+    call: Call,
+) -> Register {
+    let key = draws::key_of(call.ticket, draws::tickets(walk::nodes(pool)));
+    let foretold = insert_foretold(pool, reg, tree, model, key);
+    let reply = index::insert(pool, reg, key, call.record);
+    let answer = reply.answer;
+    answered(counts, acceptance_number(answer), foretold);
+    let after = reply.register;
+    if foretold == ACCEPTED {
+        begin_insert(tree, model, counts, key, call);
+    }
+    after
+}
+
+fn delete_foretold(reg: Register, tree: &mut [u32], model: &[u32], key: u32) -> u32 {
+    if model::kind_in_hand(model) != model::NONE {
+        return 6;
+    }
+    if reference::find(tree, key) == reference::NIL {
+        return 9;
+    }
+    if reg.free < 4 {
+        return 11;
+    }
+    ACCEPTED
+}
+
+// takes an accepted delete in hand
+fn begin_delete(tree: &mut [u32], model: &mut [u32], counts: &mut [u64], key: u32, ticket: u32) {
+    let form = reference::delete_form(tree, key);
+    reference::delete(tree, key);
+    model::take_in_hand(model, model::DELETE, ticket, 0);
+    model::plan_stores(model, form, delete_stores(form) + rotation_stores(tree));
+    tally::one(counts, tally::ACCEPTED + 2);
+}
+
+pub fn delete(
+    pool: &[u32],
+    reg: Register,
+    tree: &mut [u32],
+    model: &mut [u32],
+    counts: &mut [u64],
+    call: Call,
+) -> Register {
+    let key = draws::key_of(call.ticket, draws::tickets(walk::nodes(pool)));
+    let foretold = delete_foretold(reg, tree, model, key);
+    let reply = index::delete(pool, reg, key);
+    let answer = reply.answer;
+    answered(counts, acceptance_number(answer), foretold);
+    let after = reply.register;
+    if foretold == ACCEPTED {
+        begin_delete(tree, model, counts, key, call.ticket);
+    }
+    after
+}
+
+fn turn_foretold(model: &[u32]) -> u32 {
+    if model::kind_in_hand(model) == model::NONE {
+        return 7;
+    }
+    if model::awaited(model) != 0 {
+        return WAIT;
+    }
+    if model::last_is_next(model) {
+        return DONE;
+    }
+    MORE
+}
+
+fn rule_column(rule: Rule) -> usize
+    ensures { λ r. ⌜ r < 5 ⌝ }
+{
+    match rule {
+        Rule::Grow => 0,
+        Rule::Pass => 2,
+        Rule::Borrow => 4,
+    }
+}
+
+fn side_column(side: Side) -> usize
+    ensures { λ r. ⌜ r < 2 ⌝ }
+{
+    match side {
+        Side::L => 0,
+        Side::R => 1,
+    }
+}
+
+// the row of a rotation's step in the counts: six a step, by rule and side
+fn rotation_row(step: usize, side: Side, rule: Rule) -> usize
+    requires { ⌜ step < 5 ⌝ }
+{
+    tally::ROTATIONS + step * 6 + rule_column(rule) + side_column(side)
+}
+
+// the row of the store in hand
+fn step_row(reg: Register) -> usize {
+    let hand = reg.write;
+    let first = hand.stores[0];
+    let step = first.step;
+    match step {
+        Step::Vacant => tally::STEPS + 6,
+        Step::Insert(_, _) => tally::STEPS,
+        Step::DiagLower(side, rule) => rotation_row(0, side, rule),
+        Step::DiagRaise(side, rule) => rotation_row(1, side, rule),
+        Step::ZigLowerA(side, rule) => rotation_row(2, side, rule),
+        Step::ZigLowerC(side, rule) => rotation_row(3, side, rule),
+        Step::ZigRaise(side, rule) => rotation_row(4, side, rule),
+        Step::Unlink => tally::STEPS + 1,
+        Step::Adopt => tally::STEPS + 2,
+        Step::Replace => tally::STEPS + 3,
+        Step::Publish(_) => tally::STEPS + 4,
+        Step::Detach(_) => tally::STEPS + 5,
+    }
+}
+
+// both trees after a finished write
+fn compare_trees(pool: &[u32], root: u32, tree: &[u32], counts: &mut [u64]) {
+    let same = walk::same_nodes(pool, root, tree);
+    tally::same(counts, same == reference::held(tree));
+    tally::add(counts, tally::NODES, same as u64);
+    tally::one(counts, tally::TREES);
+}
+
+fn finish_write(pool: &[u32], root: u32, tree: &[u32], model: &mut [u32], counts: &mut [u64]) {
+    let kind = model::kind_in_hand(model) % 3;
+    tally::one(counts, tally::FINISHED + kind as usize);
+    tally::one(
+        counts,
+        tally::FORMS + (model::form_in_hand(model) % 4) as usize,
+    );
+    model::finish_write(model);
+    compare_trees(pool, root, tree, counts);
+}
+
+// what a turn's answer brings about
+fn follow_turn(
+    pool: &[u32],
+    root: u32,
+    tree: &[u32],
+    model: &mut [u32],
+    counts: &mut [u64],
+    number: u32,
+) {
+    if number == MORE {
+        tally::one(counts, tally::MORE);
+        model::store_made(model);
+        return;
+    }
+    if number == DONE {
+        tally::one(counts, tally::DONE);
+        model::store_made(model);
+        finish_write(pool, root, tree, model, counts);
+        return;
+    }
+    if number == WAIT {
+        tally::one(counts, tally::WAIT);
+    }
+}
+
+fn count_step(counts: &mut [u64], number: u32, row: usize) {
+    if (number == MORE) | (number == DONE) {
+        tally::one(counts, row);
+    }
+}
+
+pub fn writer_turn(
+    pool: &mut [u32],
+    reg: Register,
+    tree: &[u32],
+    model: &mut [u32],
+    counts: &mut [u64],
+) -> Register {
+    let row = step_row(reg);
+    let foretold = turn_foretold(model);
+    let reply = index::writer_turn(pool, reg);
+    let answer = reply.answer;
+    let number = writer_number(answer);
+    let after = reply.register;
+    answered(counts, number, foretold);
+    count_step(counts, number, row);
+    follow_turn(pool, after.root, tree, model, counts, number);
+    after
+}
