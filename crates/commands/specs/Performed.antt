@@ -1,6 +1,9 @@
 -- 01, 'Examples': what each command of trace does to the words lent and the register.
-use Prim.Native.Nat.{ℕ, _*_}
-use mathlib.Core.Bool.{cond}
+use Prim.Native.Nat.{ℕ, _*_, _≤_}
+use mathlib.Core.Path.{_≡_, refl, sym, ap}
+use mathlib.Core.Bool.{Bool, true, false, cond}
+use native.Mathlib.Omega.{arith}
+use borrow.Author.Tests.{ltb-true}
 use mathlib.Core.List.{List, [], _∷_}
 use lib.Dec.{ltb}
 use lib.ListN.{take}
@@ -54,3 +57,34 @@ keptWords lent tried (refused n) = lent
 -- a command on the words, of which the first `lent` are the pool
 unfoldable pub performed : List ℕ → ℕ → Register → Command → Outcome
 performed words lent r c = called (state (take (triedWords lent c) words) r) c
+
+-- Both numbers stay within the 8,192 words.
+asked-fits : (n : ℕ) (b : Bool) → ltb n 1024 ≡ b → cond b (n * 8) 8192 ≤ 8192
+asked-fits n true e = omega (arith, ltb-true n 1024 e)
+asked-fits n false e = omega arith
+
+pub tried-fits : (lent : ℕ) (c : Command) → lent ≤ 8192 → triedWords lent c ≤ 8192
+tried-fits lent (command.SetUp n) h = asked-fits n (ltb n 1024) refl
+tried-fits lent (command.Insert k v) h = h
+tried-fits lent (command.Delete k) h = h
+tried-fits lent command.Write h = h
+tried-fits lent (command.Begin s k) h = h
+tried-fits lent (command.Turn s) h = h
+tried-fits lent (command.GiveUp s) h = h
+tried-fits lent command.Show h = h
+tried-fits lent command.Ill h = h
+
+pub kept-fits : (lent tried : ℕ) (a : Answer) → lent ≤ 8192 → tried ≤ 8192 → keptWords lent tried a ≤ 8192
+kept-fits lent tried ok h g = g
+kept-fits lent tried go h g = g
+kept-fits lent tried absent h g = g
+kept-fits lent tried wait h g = g
+kept-fits lent tried (found v) h g = g
+kept-fits lent tried (more l n) h g = g
+kept-fits lent tried (done l n) h g = g
+kept-fits lent tried (refused n) h g = h
+
+pub performed-on : (words : List ℕ) (lent : ℕ) (r : Register) (c : Command) (tried : ℕ) → tried ≡ triedWords lent c
+    → called (state (take tried words) r) c ≡ performed words lent r c
+unfolding performed
+performed-on words lent r c tried e = ap (λ (t : ℕ). called (state (take t words) r) c) e
