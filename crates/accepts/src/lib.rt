@@ -3,13 +3,14 @@ use types::Acceptance;
 use types::Link;
 use types::Register;
 use types::Reply;
+use types::Write;
 ghost use mathlib.Core.Path.{_≡_};
 ghost use mathlib.Core.Bool.{false};
 ghost use Prim.Native.Nat.{ℕ, _<_, _≤_};
 ghost use Rattle.types.specs.declared.Place.the-variants.{Held, Empty};
-ghost use Rattle.spec.specs.Register.{state};
+ghost use Rattle.spec.specs.Register.{state, withWrite};
 ghost use Rattle.laws.specs.Tests.{lentNumber};
-ghost use Rattle.spec.specs.Calls.{refused, accepts, placeOf, writeInHand, insert, delete};
+ghost use Rattle.spec.specs.Calls.{ok, refused, accepts, placeOf, writeInHand, insert, delete};
 
 // nodes kept back from the keys, and free nodes that an insert and a delete ask for
 const RESERVE: u64 = 4;
@@ -23,6 +24,17 @@ pub fn refused(number: u32, register: Register) -> Reply
 {
     Reply {
         answer: Acceptance::Refused(number),
+        register,
+    }
+}
+
+// the planned stores are the write in hand
+fn accepted(reg: Register, write: Write) -> Reply
+    ensures { λ r. ⌜ (accepts (r .answer) ≡ ok) × (r .register ≡ withWrite reg write) ⌝ }
+{
+    let register = register::with_write(reg, write);
+    Reply {
+        answer: Acceptance::Accepted,
         register,
     }
 }
@@ -45,11 +57,7 @@ pub fn insert_at(pool: &[u32], reg: Register, k: u32, v: u32, l: Link) -> Reply
         return refused(12, reg);
     }
     let write = plan.write;
-    let register = register::with_write(reg, write);
-    Reply {
-        answer: Acceptance::Accepted,
-        register,
-    }
+    accepted(reg, write)
 }
 
 // a delete of node n, which the link l holds, after the tests of the search
@@ -66,9 +74,5 @@ pub fn delete_at(pool: &[u32], reg: Register, k: u32, l: Link, n: u32) -> Reply
         return refused(12, reg);
     }
     let write = plan.write;
-    let register = register::with_write(reg, write);
-    Reply {
-        answer: Acceptance::Accepted,
-        register,
-    }
+    accepted(reg, write)
 }

@@ -1,6 +1,5 @@
 use Rattle.removals.specs.Removals.{reached-some}
-use Rattle.laws.specs.Turns.{tells-missed}
-use Rattle.laws.specs.Turns.{tried-made}
+use Rattle.laws.specs.Turns.{tells-missed, tells-made}
 use Rattle.types.specs.declared.Step.the-variants.{Detach}
 use Rattle.spec.specs.Register.{state}
 use Rattle.spec.specs.Turn.{stepFinds, stepMade, detachStore}
@@ -108,7 +107,7 @@ returns-2 : tie.Need-returns-2
 unfolding stepFinds stepMade detachStore
 returns-2 c = let a = c .before .before .before .before .before .before .before .before .before .before .before .before .before .before .before .before .before .before .before .before .before .before .before .before .before .before .before .before .before .before .before .args in let st = state (a .pool .now) (a .reg) in
     let f : stepFinds st (a .l) (Detach (a .key)) ≡ true = rw (← (c .before .before .before .before .before .before .before .before .before .before .before .before .before .before .before .before .before .before .before .before .before .before .before .before .before .before .before .before .node-at .ensures), ← (c .before .before .before .before .before .before .before .before .before .before .before .before .before .before .before .before .before .before .before .before .before .before .before .before .before .path-to .ensures .0), ← (c .before .before .before .before .before .before .before .before .before .before .before .before .before .before .before .before .before .before .before .before .before .successor-path .ensures .0), reached-some, ← (c .before .before .before .before .before .before .before .before .before .before .before .before .before .before .before .before .before .before .nearest .ensures), ← (c .before .before .before .before .before .before .before .before .before .before .before .before .before .before .before .before .node-at2 .ensures), ← (c .before .before .before .before .before .before .before .before .before .before .before .before .before .before .child .ensures), ← (c .before .before .before .before .before .before .before .before .before .before .before .loss-climb .ensures), ← (c .before .before .before .before .before .before .before .before .before .before .calmly .ensures)) (c .before .before .before .before .before .before .before .before .before .if1 .taken) in
-    (c .before .before .before .before .before .before .before .before .before .if1 .taken ∙ sym f, rw (tried-made st (a .l) (Detach (a .key)) f, c .before .before .settle .ensures, c .before .before .before .before .before .before .before .set-link .ensures .0, c .before .before .before .before .before .before .before .set-link .ensures .1, c .before .before .before .before .before .before .before .before .before .before .before .loss-climb .ensures, c .before .before .before .before .before .before .before .before .before .before .before .before .before .before .child .ensures, c .before .before .before .before .before .before .before .before .before .before .before .before .before .before .before .before .node-at2 .ensures, c .before .before .before .before .before .before .before .before .before .before .before .before .before .before .before .before .before .before .nearest .ensures, c .before .before .before .before .before .before .before .before .before .before .before .before .before .before .before .before .before .before .before .before .before .successor-path .ensures .0, c .before .before .before .before .before .before .before .before .before .before .before .before .before .before .before .before .before .before .before .before .before .before .before .before .before .path-to .ensures .0, c .before .before .before .before .before .before .before .before .before .before .before .before .before .before .before .before .before .before .before .before .before .before .before .before .before .before .before .before .node-at .ensures))
+    tells-made st (a .l) (Detach (a .key)) _ _ f (c .before .before .before .before .before .before .before .before .before .if1 .taken) (rw (c .before .before .settle .ensures, c .before .before .before .before .before .before .before .set-link .ensures .0, c .before .before .before .before .before .before .before .set-link .ensures .1, c .before .before .before .before .before .before .before .before .before .before .before .loss-climb .ensures, c .before .before .before .before .before .before .before .before .before .before .before .before .before .before .child .ensures, c .before .before .before .before .before .before .before .before .before .before .before .before .before .before .before .before .node-at2 .ensures, c .before .before .before .before .before .before .before .before .before .before .before .before .before .before .before .before .before .before .nearest .ensures, c .before .before .before .before .before .before .before .before .before .before .before .before .before .before .before .before .before .before .before .before .before .successor-path .ensures .0, c .before .before .before .before .before .before .before .before .before .before .before .before .before .before .before .before .before .before .before .before .before .before .before .before .before .path-to .ensures .0, c .before .before .before .before .before .before .before .before .before .before .before .before .before .before .before .before .before .before .before .before .before .before .before .before .before .before .before .before .node-at .ensures))
 
 pub detach-spec : {M : Type 1} → statement M
 detach-spec =
