@@ -220,9 +220,18 @@ pub fn step(words: &mut [u32], out: &mut [u8], at: usize, s: Session, input: &[u
     }
 }
 
-// whether nothing is left of an input, or the run has ended
-pub fn idle(s: Session, input: &[u8], from: usize) -> bool {
-    s.ended | (s.pending == 0) & (input.len() <= from)
+// what is left to do on an input from a position on: nodes to show, or else bytes to read; nothing once the run has ended
+pub fn left(s: Session, input: &[u8], from: usize) -> usize
+    requires { ⌜ from ≤ length (now input) ⌝ }
+    ensures { λ r. ⌜ r ≤ workLeft s (length (now (input .entry))) from ⌝ }
+{
+    if s.ended {
+        return 0;
+    }
+    if s.pending == 0 {
+        return input.len() - from;
+    }
+    s.pending
 }
 
 // the input's end: a last line without a newline is run
