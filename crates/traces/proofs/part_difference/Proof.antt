@@ -1,3 +1,5 @@
+use mathlib.Core.Path.{sym}
+use lib.Seq.{length-take-le}
 use borrow.Author.Needs.{needs}
 use Rattle.traces.proofs.part_difference.Statement.{statement}
 use Rattle.traces.proofs.part_difference.Tie as tie
@@ -7,7 +9,7 @@ use Rattle.traces.proofs.difference.Reads as difference-reads
 
 -- src/main.rt:128:16
 slice-aggregate-difference : tie.Need-slice-aggregate-difference
-slice-aggregate-difference c = ?
+slice-aggregate-difference c = sym (length-take-le (c .before .before .before .args .end) (c .before .before .before .args .out .now) (c .before .before .before .pre))
 
 -- src/main.rt:128:5
 difference-requires : tie.Need-difference-requires
