@@ -9,8 +9,30 @@ use lib.Dec.{ltb}
 use lib.ListN.{take}
 use Rattle.types.specs.declared.Register.{Register}
 use Rattle.spec.specs.Register.{State, state}
-use Rattle.spec.specs.Calls.{Answer, ok, go, absent, wait, found, more, done, refused, Outcome, outcome, unless, wrongLength, outOfRange, _gives_,
-  setUp, insert, delete, writerTurn, begin, readerTurn, giveUp}
+use Rattle.spec.specs.Calls.{
+  Answer,
+  ok,
+  go,
+  absent,
+  wait,
+  found,
+  more,
+  done,
+  refused,
+  Outcome,
+  outcome,
+  unless,
+  wrongLength,
+  outOfRange,
+  _gives_,
+  setUp,
+  insert,
+  delete,
+  writerTurn,
+  begin,
+  readerTurn,
+  giveUp,
+}
 use Rattle.lines.specs.declared.Command.{Command}
 use Rattle.lines.specs.declared.Command.the-variants as command
 

@@ -102,7 +102,11 @@ fn with_reading(s: Session, reading: Reading) -> Session
 
 // the number of the call after so many
 fn next_number(number: u64) -> u64 {
-    if number < u64::MAX { number + 1 } else { number }
+    if number < u64::MAX {
+        number + 1
+    } else {
+        number
+    }
 }
 
 // how many nodes the command's answer is followed by
@@ -177,7 +181,14 @@ fn show_node(words: &[u32], out: &mut [u8], at: usize, s: Session) -> Answered
 }
 
 // the input's next bytes, up to a newline; at a newline the line is run
-fn take_line(words: &mut [u32], out: &mut [u8], at: usize, s: Session, input: &[u8], from: usize) -> Stepped
+fn take_line(
+    words: &mut [u32],
+    out: &mut [u8],
+    at: usize,
+    s: Session,
+    input: &[u8],
+    from: usize,
+) -> Stepped
     requires { ⌜ Sound s × (length (now words) ≡ 8192) × (at + room ≤ length (now out)) × (from < length (now input)) ⌝ }
     ensures { λ r. ⌜ Sound (r .session) × (r .at ≤ length (now (out .exit))) × (from < r .from) × (r .from ≤ length (now (input .entry))) ⌝ }
 {
@@ -202,7 +213,14 @@ fn take_line(words: &mut [u32], out: &mut [u8], at: usize, s: Session, input: &[
 }
 
 // One step of a run that has not ended: a node that T has still to show, or else the input's bytes up to the next newline.
-pub fn step(words: &mut [u32], out: &mut [u8], at: usize, s: Session, input: &[u8], from: usize) -> Stepped
+pub fn step(
+    words: &mut [u32],
+    out: &mut [u8],
+    at: usize,
+    s: Session,
+    input: &[u8],
+    from: usize,
+) -> Stepped
     requires { ⌜ Sound s × (length (now words) ≡ 8192) × (at + room ≤ length (now out)) × (from ≤ length (now input)) ⌝ }
     requires { ⌜ 0 < workLeft s (length (now input)) from ⌝ }
     ensures { λ r. ⌜ Sound (r .session) × (r .at ≤ length (now (out .exit))) × (r .from ≤ length (now (input .entry))) ⌝ }

@@ -110,7 +110,13 @@ fn report(argument: usize, line: u64) {
 }
 
 // one stored run; 1 if it is the same
-fn compare(words: &mut [u32], input: &mut [u8], want: &mut [u8], out: &mut [u8], argument: usize) -> u64
+fn compare(
+    words: &mut [u32],
+    input: &mut [u8],
+    want: &mut [u8],
+    out: &mut [u8],
+    argument: usize,
+) -> u64
     requires { ⌜ (length (now words) ≡ 8192) × (argument < 18446744073709551615) ⌝ }
     ensures { λ r. ⌜ r ≤ 1 ⌝ }
 {

@@ -45,11 +45,16 @@ same-length c = search needs
 -- src/lib.rt:123:1
 returns : tie.Need-returns
 returns c = let a = c .before .before .before .before .before .before .before .before .args in let t = c .before .before .before .before .before .before .tried-words in let k = c .before .before .before .before .call in
-    let q = performed-on (a .words .now) (a .lent) (a .reg) (a .c) (t .result) (t .ensures) in
-    (k .ensures .0 ∙ ap (λ (o : Outcome). o .answer) q, (
-    ap (λ (st : State). st .register) (k .ensures .1) ∙ ap (λ (o : Outcome). o .after .register) q, (
-    c .before .kept-words .ensures ∙ ap (λ (n : ℕ). keptWords (a .lent) n (says (k .result .said))) (t .ensures),
-    rw (t .ensures) (ap (λ (st : State). st .pool ++ drop (triedWords (a .lent) (a .c)) (a .words .now)) (k .ensures .1 ∙ ap (λ (o : Outcome). o .after) q)))))
+    let q = performed-on (a .words .now) (a .lent) (a .reg) (a .c) (t .result) (t .ensures) in (
+      k .ensures .0 ∙ ap (λ (o : Outcome). o .answer) q,
+      (
+        ap (λ (st : State). st .register) (k .ensures .1) ∙ ap (λ (o : Outcome). o .after .register) q,
+        (
+          c .before .kept-words .ensures ∙ ap (λ (n : ℕ). keptWords (a .lent) n (says (k .result .said))) (t .ensures),
+          rw (t .ensures) (ap (λ (st : State). st .pool ++ drop (triedWords (a .lent) (a .c)) (a .words .now)) (k .ensures .1 ∙ ap (λ (o : Outcome). o .after) q)),
+        ),
+      ),
+    )
 
 pub perform-spec : {M : Type 1} → statement M
 perform-spec =

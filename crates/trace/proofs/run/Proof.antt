@@ -13,7 +13,7 @@ use Rattle.session.proofs.step.Reads as step-reads
 use Rattle.trace.proofs.flushed.Reads as flushed-reads
 
 abbrev Inv-loop : tie.InvT-loop
-Inv-loop words₀ out₀ at input session₀ end₀ from₀ words out session end from = 
+Inv-loop words₀ out₀ at input session₀ end₀ from₀ words out session end from =
     Sound session
     × (end ≤ length out)
     × (from ≤ length input)
