@@ -1,0 +1,56 @@
+use Prim.Native.Nat.{ℕ}
+use mathlib.Core.Path.{_≡_, refl}
+use mathlib.Core.List.{[], _∷_}
+use native.Mathlib.Omega.{arith}
+use borrow.Author.Tests.{lt-ltb, le-ltb}
+use borrow.Author.Needs.{needs}
+use types.Run.{OneOf, miss}
+use denote.Enum.Declared.{tagOf}
+use Rattle.lines.proofs.Command.{the-type}
+use Rattle.lines.specs.declared.Command.{Command}
+use Rattle.lines.specs.declared.Command.the-variants as command
+use Rattle.commands.specs.Performed.{triedWords}
+use Rattle.commands.proofs.tried_words.Statement.{statement}
+use Rattle.commands.proofs.tried_words.Tie as tie
+use Rattle.commands.proofs.tried_words.Reads as reads
+use Rattle.commands.proofs.tried_words.Lts as lts
+
+-- a command that isn't P
+others : (lent : ℕ) (c : Command) → OneOf (1 ∷ 2 ∷ 3 ∷ 4 ∷ 5 ∷ 6 ∷ 7 ∷ 8 ∷ []) (tagOf the-type c) → lent ≡ triedWords lent c
+others lent (command.SetUp n) h = absurd (miss (1 ∷ 2 ∷ 3 ∷ 4 ∷ 5 ∷ 6 ∷ 7 ∷ 8 ∷ []) 0 tt h)
+others lent (command.Insert k v) h = refl
+others lent (command.Delete k) h = refl
+others lent command.Write h = refl
+others lent (command.Begin s k) h = refl
+others lent (command.Turn s) h = refl
+others lent (command.GiveUp s) h = refl
+others lent command.Show h = refl
+others lent command.Ill h = refl
+
+-- src/lib.rt:102:27
+enum-known-c : tie.Need-enum-known-c
+enum-known-c c = search needs
+
+-- src/lib.rt:104:20
+cast-result : tie.Need-cast-result
+cast-result c = search needs
+
+-- src/lib.rt:104:20
+mul-result : tie.Need-mul-result
+mul-result c = search needs
+
+-- src/lib.rt:104:13
+returns : tie.Need-returns
+returns c = rw (c .before .before .c .given .1, lt-ltb _ _ (c .if1 .taken))
+
+-- src/lib.rt:106:9
+returns-2 : tie.Need-returns-2
+returns-2 c = rw (c .before .before .c .given .1, le-ltb _ _ (c .if1 .left))
+
+-- src/lib.rt:99:1
+returns-3 : tie.Need-returns-3
+returns-3 c = others _ (c .before .args .c) (c .match .keys2)
+
+pub tried-words-spec : {M : Type 1} → statement M
+tried-words-spec =
+    tie.close (tie.spec enum-known-c cast-result mul-result returns returns-2 returns-3)

@@ -1,0 +1,138 @@
+// The commands of the program trace, each run on the words lent.
+use lines::Command;
+use lines::Said;
+use types::ReaderReply;
+use types::Register;
+use types::Reply;
+use types::WriterReply;
+ghost use mathlib.Core.Path.{_≡_};
+ghost use mathlib.Core.List.{_++_};
+ghost use Prim.Native.Nat.{_≤_};
+ghost use lib.ListN.{length, drop};
+ghost use Rattle.spec.specs.Register.{state};
+ghost use Rattle.spec.specs.Calls.{accepts, writerSays, readerSays};
+ghost use Rattle.lines.specs.Text.{says};
+ghost use Rattle.commands.specs.Performed.{called, shown, triedWords, keptWords, performed};
+
+// P lends eight words a node, of these at most; with so many it is refused.
+pub const WORDS: usize = 8192;
+
+// What a command's call answers, and the register that it leaves.
+pub struct Called {
+    pub said: Said,
+    pub register: Register,
+}
+
+// the answers of each kind of call
+fn accepted(reply: Reply) -> Called
+    ensures { λ r. ⌜ (says (r .said) ≡ accepts (reply .answer)) × (r .register ≡ reply .register) ⌝ }
+{
+    let answer = reply.answer;
+    let said = lines::acceptance_said(answer);
+    let register = reply.register;
+    Called { said, register }
+}
+
+fn written(reply: WriterReply) -> Called
+    ensures { λ r. ⌜ (says (r .said) ≡ writerSays (reply .answer)) × (r .register ≡ reply .register) ⌝ }
+{
+    let answer = reply.answer;
+    let said = lines::writer_said(answer);
+    let register = reply.register;
+    Called { said, register }
+}
+
+fn looked(reply: ReaderReply) -> Called
+    ensures { λ r. ⌜ (says (r .said) ≡ readerSays (reply .answer)) × (r .register ≡ reply .register) ⌝ }
+{
+    let answer = reply.answer;
+    let said = lines::reader_said(answer);
+    let register = reply.register;
+    Called { said, register }
+}
+
+// T's answer
+fn show(pool: &[u32], reg: Register) -> Called
+    ensures { λ r. ⌜ says (r .said) ≡ shown (state (now (pool .entry)) reg) .answer ⌝ }
+    ensures { λ r. ⌜ state (now (pool .entry)) (r .register) ≡ shown (state (now (pool .entry)) reg) .after ⌝ }
+{
+    let why = refusals::lent_refusal(pool, reg);
+    if why != 0 {
+        return Called {
+            said: Said::No(why),
+            register: reg,
+        };
+    }
+    Called {
+        said: Said::Ok,
+        register: reg,
+    }
+}
+
+// a command's call on the pool lent
+pub fn call(pool: &mut [u32], reg: Register, c: Command) -> Called
+    ensures { λ r. ⌜ says (r .said) ≡ called (state (now (pool .entry)) reg) c .answer ⌝ }
+    ensures { λ r. ⌜ state (now (pool .exit)) (r .register) ≡ called (state (now (pool .entry)) reg) c .after ⌝ }
+{
+    match c {
+        Command::SetUp(_) => accepted(index::set_up(pool, reg)),
+        Command::Insert(k, v) => accepted(index::insert(pool, reg, k, v)),
+        Command::Delete(k) => accepted(index::delete(pool, reg, k)),
+        Command::Write => written(index::writer_turn(pool, reg)),
+        Command::Begin(s, k) => accepted(index::begin(pool, reg, s, k)),
+        Command::Turn(s) => looked(index::reader_turn(pool, reg, s)),
+        Command::GiveUp(s) => accepted(index::give_up(pool, reg, s)),
+        Command::Show => show(pool, reg),
+        Command::Ill => show(pool, reg),
+    }
+}
+
+// What a command did: its answer, the register, and how many words are lent from now on.
+pub struct Performed {
+    pub said: Said,
+    pub register: Register,
+    pub lent: usize,
+}
+
+// how many words a command works on: those lent, and for P those that it asks for
+fn tried_words(lent: usize, c: Command) -> usize
+    ensures { λ r. ⌜ r ≡ triedWords lent c ⌝ }
+{
+    if let Command::SetUp(n) = c {
+        if n < 1024 {
+            return n as usize * 8;
+        }
+        return WORDS;
+    }
+    lent
+}
+
+// how many stay lent: a refused P keeps the pool there was
+fn kept_words(lent: usize, tried: usize, said: Said) -> usize
+    ensures { λ r. ⌜ r ≡ keptWords lent tried (says said) ⌝ }
+{
+    if let Said::No(_) = said {
+        return lent;
+    }
+    tried
+}
+
+// a command on the first `lent` of the words, the pool; answer, register and every word are document 01's
+pub fn perform(words: &mut [u32], lent: usize, reg: Register, c: Command) -> Performed
+    requires { ⌜ (lent ≤ 8192) × (length (now words) ≡ 8192) ⌝ }
+    ensures { λ r. ⌜ says (r .said) ≡ performed (now (words .entry)) lent reg c .answer ⌝ }
+    ensures { λ r. ⌜ r .register ≡ performed (now (words .entry)) lent reg c .after .register ⌝ }
+    ensures { λ r. ⌜ r .lent ≡ keptWords lent (triedWords lent c) (says (r .said)) ⌝ }
+    ensures { λ _. ⌜ now (words .exit) ≡ performed (now (words .entry)) lent reg c .after .pool ++ drop (triedWords lent c) (now (words .entry)) ⌝ }
+{
+    let tried = tried_words(lent, c);
+    let done = call(&mut words[..tried], reg, c);
+    let said = done.said;
+    let kept = kept_words(lent, tried, said);
+    let register = done.register;
+    Performed {
+        said,
+        register,
+        lent: kept,
+    }
+}

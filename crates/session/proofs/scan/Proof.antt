@@ -1,0 +1,61 @@
+use Prim.Native.Nat.{_≤_, _-_}
+use lib.ListN.{length}
+use borrow.Author.Needs.{needs}
+use Rattle.session.proofs.scan.Statement.{statement}
+use Rattle.session.proofs.scan.Tie as tie
+use Rattle.session.proofs.scan.Reads as reads
+use Rattle.session.proofs.scan.Lts as lts
+use Rattle.lines.proofs.take.Reads as take-reads
+
+abbrev Inv-loop : tie.InvT-loop
+Inv-loop input from so-far₀ i₀ so-far i = (from ≤ i) × (i ≤ length input)
+
+abbrev μ-loop : tie.MeasureT-loop
+μ-loop input from so-far₀ i₀ so-far i = length input - i
+
+-- src/lib.rt:69:5
+loop-holds : tie.Need-loop-holds Inv-loop μ-loop
+loop-holds c = search needs
+
+-- src/lib.rt:70:17
+shared-slice-read-b : tie.Need-shared-slice-read-b Inv-loop μ-loop
+shared-slice-read-b c = search needs
+
+-- src/lib.rt:71:9
+add-i : tie.Need-add-i Inv-loop μ-loop
+add-i c = search needs
+
+-- src/lib.rt:73:13
+returns : tie.Need-returns Inv-loop μ-loop
+returns c = search needs
+
+-- src/lib.rt:79:9
+take-requires : tie.Need-take-requires Inv-loop μ-loop
+take-requires c κs = search needs
+
+-- src/lib.rt:69:5
+loop-less : tie.Need-loop-less Inv-loop μ-loop
+loop-less c = search needs
+
+-- src/lib.rt:69:5
+loop-again : tie.Need-loop-again Inv-loop μ-loop
+loop-again c = search needs
+
+-- src/lib.rt:63:1
+returns-2 : tie.Need-returns-2 Inv-loop μ-loop
+returns-2 c = search needs
+
+pub scan-spec : {M : Type 1} → statement M
+scan-spec =
+    tie.close
+    (tie.spec
+    Inv-loop
+    μ-loop
+    loop-holds
+    shared-slice-read-b
+    add-i
+    returns
+    take-requires
+    loop-less
+    loop-again
+    returns-2)

@@ -1,0 +1,78 @@
+use Prim.Native.Nat.{_≤_}
+use mathlib.Core.Path.{_≡_}
+use lib.ListN.{length}
+use borrow.Author.Needs.{needs}
+use Rattle.lines.specs.Text.{room}
+use Rattle.session.specs.Steps.{Sound, workLeft}
+use Rattle.trace.proofs.run.Statement.{statement}
+use Rattle.trace.proofs.run.Tie as tie
+use Rattle.trace.proofs.run.Reads as reads
+use Rattle.trace.proofs.run.Lts as lts
+use Rattle.session.proofs.left.Reads as left-reads
+use Rattle.session.proofs.step.Reads as step-reads
+use Rattle.trace.proofs.flushed.Reads as flushed-reads
+
+abbrev Inv-loop : tie.InvT-loop
+Inv-loop words₀ out₀ at input session₀ end₀ from₀ words out session end from =
+    Sound session
+    × (end ≤ length out)
+    × (from ≤ length input)
+    × (room ≤ length out)
+    × (length words ≡ 8192)
+    × (length words ≡ length words₀)
+    × (length out ≡ length out₀)
+
+abbrev μ-loop : tie.MeasureT-loop
+μ-loop words₀ out₀ at input session₀ end₀ from₀ words out session end from = workLeft session (length input) from
+
+-- src/main.rt:33:5
+loop-holds : tie.Need-loop-holds Inv-loop μ-loop
+loop-holds c = search needs
+
+-- src/main.rt:33:15
+left-requires : tie.Need-left-requires Inv-loop μ-loop
+left-requires c κs = search needs
+
+-- src/main.rt:34:13
+flushed-requires : tie.Need-flushed-requires Inv-loop μ-loop
+flushed-requires c κs = search needs
+
+-- src/main.rt:35:13
+step-requires : tie.Need-step-requires Inv-loop μ-loop
+step-requires c κs = search needs
+
+-- src/main.rt:33:5
+loop-less : tie.Need-loop-less Inv-loop μ-loop
+loop-less c = search needs
+
+-- src/main.rt:33:5
+loop-again : tie.Need-loop-again Inv-loop μ-loop
+loop-again c = search needs
+
+-- src/main.rt:26:1
+same-length : tie.Need-same-length Inv-loop μ-loop
+same-length c = search needs
+
+-- src/main.rt:26:1
+same-length-2 : tie.Need-same-length-2 Inv-loop μ-loop
+same-length-2 c = search needs
+
+-- src/main.rt:26:1
+returns : tie.Need-returns Inv-loop μ-loop
+returns c = search needs
+
+pub run-spec : {M : Type 1} → statement M
+run-spec =
+    tie.close
+    (tie.spec
+    Inv-loop
+    μ-loop
+    loop-holds
+    left-requires
+    flushed-requires
+    step-requires
+    loop-less
+    loop-again
+    same-length
+    same-length-2
+    returns)

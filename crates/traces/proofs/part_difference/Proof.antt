@@ -1,0 +1,23 @@
+use mathlib.Core.Path.{sym}
+use lib.Seq.{length-take-le}
+use borrow.Author.Needs.{needs}
+use Rattle.traces.proofs.part_difference.Statement.{statement}
+use Rattle.traces.proofs.part_difference.Tie as tie
+use Rattle.traces.proofs.part_difference.Reads as reads
+use Rattle.traces.proofs.part_difference.Lts as lts
+use Rattle.traces.proofs.difference.Reads as difference-reads
+
+-- src/main.rt:128:16
+slice-aggregate-difference : tie.Need-slice-aggregate-difference
+slice-aggregate-difference c = sym (length-take-le (c .before .before .before .args .end) (c .before .before .before .args .out .now) (c .before .before .before .pre))
+
+-- src/main.rt:128:5
+difference-requires : tie.Need-difference-requires
+difference-requires c κs = search needs
+
+-- src/main.rt:125:1
+returns : tie.Need-returns
+returns c = search needs
+
+pub part-difference-spec : {M : Type 1} → statement M
+part-difference-spec = tie.close (tie.spec slice-aggregate-difference difference-requires returns)
