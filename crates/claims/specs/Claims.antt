@@ -31,26 +31,26 @@ abbrev pub Moment : ℕ → ℕ → ℕ → Type 0
 Moment i j t = (i < t) × (t ≤ j + 1)
 
 module _ (N : ℕ) (low : 8 ≤ N) (high : N ≤ 1023) (cs : List Call) where
-  -- every lookup that answers found gives what the plain list gives at one of its moments
-  pub found-right : (s k i j v : ℕ) → Lookup N cs s k i j → callAt cs j ≡ some (turning s) → answerTo (indexAfter N cs j) (turning s) ≡ found v
-      → (t : ℕ) × Moment i j t × (recordFor k (listed N cs t) ≡ some v)
-  found-right s k i j v l c a =
-      let h = promise N low high cs .demand3 .lookups .whenFound s k i j v l (c, a) in
-      (h .0, (h .1, h .2), h .3)
-
-  -- and every one that answers absent
-  pub absent-right : (s k i j : ℕ) → Lookup N cs s k i j → callAt cs j ≡ some (turning s) → answerTo (indexAfter N cs j) (turning s) ≡ absent
-      → (t : ℕ) × Moment i j t × (recordFor k (listed N cs t) ≡ none)
-  absent-right s k i j l c a =
-      let h = promise N low high cs .demand3 .lookups .whenAbsent s k i j l (c, a) in
-      (h .0, (h .1, h .2), h .3)
-
   -- after every call the index holds exactly the plain list's tickets
   pub holds-right : (j k : ℕ) → Going (indexAfter N cs j) k 0 (answerOf (recordFor k (listed N cs j)))
   holds-right j k = promise N low high cs .demand3 .holds .everyKey j k
 
   pub count-right : (j : ℕ) → indexAfter N cs j .register .held ≡ length (listed N cs j)
   count-right j = promise N low high cs .demand3 .holds .keysHeld j
+
+  -- every lookup that answers absent gives what the plain list gives at one of its moments
+  pub absent-right : (s k i j : ℕ) → Lookup N cs s k i j → callAt cs j ≡ some (turning s) → answerTo (indexAfter N cs j) (turning s) ≡ absent
+      → (t : ℕ) × Moment i j t × (recordFor k (listed N cs t) ≡ none)
+  absent-right s k i j l c a =
+      let h = promise N low high cs .demand3 .lookups .whenAbsent s k i j l (c, a) in
+      (h .0, (h .1, h .2), h .3)
+
+  -- and every one that answers found
+  pub found-right : (s k i j v : ℕ) → Lookup N cs s k i j → callAt cs j ≡ some (turning s) → answerTo (indexAfter N cs j) (turning s) ≡ found v
+      → (t : ℕ) × Moment i j t × (recordFor k (listed N cs t) ≡ some v)
+  found-right s k i j v l c a =
+      let h = promise N low high cs .demand3 .lookups .whenFound s k i j v l (c, a) in
+      (h .0, (h .1, h .2), h .3)
 
   -- a node that a reader could reach doesn't stand free until its lookup ends
   pub kept-right : (s k i j t m u : ℕ) → Lookup N cs s k i j → i < t → Reaches (indexAfter N cs t) s m → t ≤ u → u ≤ j → ¬ (Free (indexAfter N cs u) m)

@@ -63,7 +63,7 @@ fn form_of(x: Side, y: Side) -> Form
 
 // Insert's climb from the c-th link of a path, with m levels passed.
 pub fn rise(pool: &[u32], path: &[u64], c: u32, m: u32) -> Climb
-    requires { ⌜ (c ≤ length (now path)) × (m + c ≤ 100) ⌝ }
+    requires { ⌜ (c ≤ length (now path)) × (m + c ≤ 66) ⌝ }
     ensures { λ r. ⌜ r ≡ rise (now (pool .entry)) m (upward (now (path .entry)) c) ⌝ }
 {
     if c == 0 {
@@ -174,7 +174,7 @@ fn red_sibling(pool: &[u32], l: Link, z: Side, w: u32) -> Ending
 
 // Delete's climb from the c-th link of a path, where x came, with m levels passed.
 pub fn sink(pool: &[u32], path: &[u64], c: u32, m: u32, x: u32) -> Climb
-    requires { ⌜ (c ≤ length (now path)) × (m + c ≤ 100) ⌝ }
+    requires { ⌜ (c ≤ length (now path)) × (m + c ≤ 66) ⌝ }
     ensures { λ r. ⌜ r ≡ sink (now (pool .entry)) m x (upward (now (path .entry)) c) ⌝ }
 {
     if pool::is_red(pool, x) {

@@ -14,7 +14,7 @@ ghost use Rattle.spec.specs.Calls.{accepts, writerSays, readerSays};
 ghost use Rattle.lines.specs.Text.{says};
 ghost use Rattle.commands.specs.Performed.{called, shown, triedWords, keptWords, performed};
 
-// P lends eight words a node, of these at most; with so many it is refused.
+// The words of a program's array. P is lent its first 8 × nodes words; for 1,024 nodes or more all of them, which set up refuses.
 pub const WORDS: usize = 8192;
 
 // What a command's call answers, and the register that it leaves.

@@ -1,5 +1,6 @@
 // Long random runs of the index beside a plain sequential red-black tree (crate reference) and document 01's plain list (model): after every
-// finished write both trees are walked together, every lookup's answer is held against its moments, and every answer's kind is foretold.
+// finished write both trees are walked together, every lookup's answer is held against its moments, and of every call it is foretold
+// whether it is refused, of a writer's turn whether it answers more, done or wait.
 mod draws;
 mod model;
 mod print;

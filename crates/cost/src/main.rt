@@ -82,7 +82,7 @@ fn fill(pool: &mut [u32], reg: Register, n: u32) -> Register {
 // keys held for a delete, and keys not held for the others
 fn key_of(i: u32, kind: u8) -> u32 {
     if kind == b'D' {
-        return i % 4 * 2 + 2;
+        return i % 3 * 2 + 2;
     }
     i % 4 * 2 + 1
 }

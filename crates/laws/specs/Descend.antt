@@ -1,4 +1,4 @@
--- The search and the paths, one node at a time.
+-- The search, one node at a time.
 use mathlib.Core.Path.{_≡_, refl}
 use mathlib.Core.List.{List}
 use mathlib.Core.Bool.{cond}

@@ -155,7 +155,7 @@ pub record NeverMet (N : ℕ) (cs : List Call) : Type 0 where
   pub steps : (j : ℕ) (c : Call) → ¬ (Gives N cs j c (refused 12))
   pub lent : (j : ℕ) (c : Call) → ¬ (Gives N cs j c (refused 1))
 
--- The theorem wanted: for every N from 8 to 1,023 and every list of calls.
+-- What theorem `promise` (crate joined) says of every N from 8 to 1,023 and every list of calls.
 pub record Promise (N : ℕ) (cs : List Call) : Type 0 where
   pub demand2 : Demand2 N cs
   pub demand3 : Demand3 N cs

@@ -302,7 +302,7 @@ fn raise_node(tree: &mut [u32], node: u32, grandparent: u32, side: u32) {
 }
 
 // One turn of Add's loop, for a node below a red parent: the node to go on from, nil after a rotation. (000 by the letter goes on after a
-// double rotation too, from the black top, and goes astray below a red node.)
+// double rotation too, from the black top, and then breaks the tree.)
 fn add_turn(tree: &mut [u32], node: u32) -> u32 {
     let above = parent(tree, node);
     let grandparent = parent(tree, above);

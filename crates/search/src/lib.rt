@@ -1,4 +1,4 @@
-// The search, and the paths that the writer's colour work goes by.
+// The search for a key.
 use types::Link;
 use types::Place;
 use types::Side;

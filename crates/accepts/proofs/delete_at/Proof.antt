@@ -15,32 +15,25 @@ use Rattle.accepts.proofs.accepted.Reads as accepted-reads
 use Rattle.accepts.proofs.refused.Reads as refused-reads
 use Rattle.plans.proofs.delete_plan.Reads as delete-plan-reads
 
--- src/lib.rt:70:9
 refused-requires : tie.Need-refused-requires
 refused-requires c κs = search needs
 
--- src/lib.rt:70:9
 returns : tie.Need-returns
 returns c = let a = c .before .before .before .before .args in let st = state (a .pool .now) (a .reg) in let e = delete-few st (a .k) (c .before .before .before .before .pre .0) (c .before .before .before .before .pre .1) (a .l) (a .n) (c .before .before .before .before .pre .2) (lt-ltb _ _ (c .before .if1 .taken)) in (c .refused .ensures .0 ∙ sym (ap (λ (o : Outcome). o .answer) e), rw (c .refused .ensures .1) (sym (ap (λ (o : Outcome). o .after) e)))
 
--- src/lib.rt:72:9
 delete-plan-requires : tie.Need-delete-plan-requires
 delete-plan-requires c κs = search needs
 
--- src/lib.rt:74:9
 refused-requires-2 : tie.Need-refused-requires-2
 refused-requires-2 c κs = search needs
 
--- src/lib.rt:74:9
 returns-2 : tie.Need-returns-2
 returns-2 c = let a = c .before .before .before .before .before .before .args in let st = state (a .pool .now) (a .reg) in let p : deletePlan st (a .l) (a .n) .possible ≡ false = sym (c .before .before .delete-plan .ensures .0) ∙ c .before .if2 .left in
     let e = delete-missing st (a .k) (c .before .before .before .before .before .before .pre .0) (c .before .before .before .before .before .before .pre .1) (a .l) (a .n) (c .before .before .before .before .before .before .pre .2) (le-ltb _ _ (c .before .before .before .if1 .left)) p in (c .refused2 .ensures .0 ∙ sym (ap (λ (o : Outcome). o .answer) e), rw (c .refused2 .ensures .1) (sym (ap (λ (o : Outcome). o .after) e)))
 
--- src/lib.rt:77:5
 accepted-requires : tie.Need-accepted-requires
 accepted-requires c κs = search needs
 
--- src/lib.rt:64:1
 returns-3 : tie.Need-returns-3
 returns-3 c = let a = c .before .before .before .before .before .before .before .args in let st = state (a .pool .now) (a .reg) in let p : deletePlan st (a .l) (a .n) .possible ≡ true = sym (c .before .before .before .delete-plan .ensures .0) ∙ c .before .before .if2 .taken in
     let e = delete-goes st (a .k) (c .before .before .before .before .before .before .before .pre .0) (c .before .before .before .before .before .before .before .pre .1) (a .l) (a .n) (c .before .before .before .before .before .before .before .pre .2) (le-ltb _ _ (c .before .before .before .before .if1 .left)) p in (c .accepted .ensures .0 ∙ sym (ap (λ (o : Outcome). o .answer) e), rw (c .accepted .ensures .1, c .before .before .before .delete-plan .ensures .1) (sym (ap (λ (o : Outcome). o .after) e)))

@@ -18,55 +18,42 @@ use Rattle.accepts.proofs.refused.Reads as refused-reads
 use Rattle.plans.proofs.insert_plan.Reads as insert-plan-reads
 use Rattle.pool.proofs.nodes.Reads as nodes-reads
 
--- src/lib.rt:48:9
 nodes-requires : tie.Need-nodes-requires
 nodes-requires c κs = let a = c .before .args in lent (state (a .pool .now) (a .reg)) (c .before .pre .0) .size
 
--- src/lib.rt:49:8
 cast-if1 : tie.Need-cast-if1
 cast-if1 c = search needs
 
--- src/lib.rt:49:22
 cast-if1-2 : tie.Need-cast-if1-2
 cast-if1-2 c = search needs
 
--- src/lib.rt:49:22
 add-if1 : tie.Need-add-if1
 add-if1 c = search needs
 
--- src/lib.rt:50:9
 refused-requires : tie.Need-refused-requires
 refused-requires c κs = search needs
 
--- src/lib.rt:50:9
 returns : tie.Need-returns
 returns c = let a = c .before .before .before .before .before .args in let st = state (a .pool .now) (a .reg) in let f : full st ≡ true = reserve-true (nodes (a .pool .now)) (a .reg .held) (rw (← (c .before .before .before .nodes .ensures)) (c .before .if1 .taken)) in let e = insert-full st (a .k) (a .v) (c .before .before .before .before .before .pre .0) (c .before .before .before .before .before .pre .1) (a .l) (c .before .before .before .before .before .pre .2) f in (c .refused .ensures .0 ∙ sym (ap (λ (o : Outcome). o .answer) e), rw (c .refused .ensures .1) (sym (ap (λ (o : Outcome). o .after) e)))
 
--- src/lib.rt:53:9
 refused-requires-2 : tie.Need-refused-requires-2
 refused-requires-2 c κs = search needs
 
--- src/lib.rt:53:9
 returns-2 : tie.Need-returns-2
 returns-2 c = let a = c .before .before .before .before .before .before .before .args in let st = state (a .pool .now) (a .reg) in let f : full st ≡ false = reserve-false (nodes (a .pool .now)) (a .reg .held) (rw (← (c .before .before .before .before .before .nodes .ensures)) (c .before .before .before .if1 .left)) in let e = insert-few st (a .k) (a .v) (c .before .before .before .before .before .before .before .pre .0) (c .before .before .before .before .before .before .before .pre .1) (a .l) (c .before .before .before .before .before .before .before .pre .2) f (lt-ltb _ _ (c .before .if2 .taken)) in (c .refused2 .ensures .0 ∙ sym (ap (λ (o : Outcome). o .answer) e), rw (c .refused2 .ensures .1) (sym (ap (λ (o : Outcome). o .after) e)))
 
--- src/lib.rt:55:9
 insert-plan-requires : tie.Need-insert-plan-requires
 insert-plan-requires c κs = search needs
 
--- src/lib.rt:57:9
 refused-requires-3 : tie.Need-refused-requires-3
 refused-requires-3 c κs = search needs
 
--- src/lib.rt:57:9
 returns-3 : tie.Need-returns-3
 returns-3 c = let a = c .before .before .before .before .before .before .before .before .before .args in let st = state (a .pool .now) (a .reg) in let f : full st ≡ false = reserve-false (nodes (a .pool .now)) (a .reg .held) (rw (← (c .before .before .before .before .before .before .before .nodes .ensures)) (c .before .before .before .before .before .if1 .left)) in let p : insertPlan st (a .k) (a .v) (a .l) .possible ≡ false = sym (c .before .before .insert-plan .ensures .0) ∙ c .before .if3 .left in let e = insert-missing st (a .k) (a .v) (c .before .before .before .before .before .before .before .before .before .pre .0) (c .before .before .before .before .before .before .before .before .before .pre .1) (a .l) (c .before .before .before .before .before .before .before .before .before .pre .2) f (le-ltb _ _ (c .before .before .before .if2 .left)) p in (c .refused3 .ensures .0 ∙ sym (ap (λ (o : Outcome). o .answer) e), rw (c .refused3 .ensures .1) (sym (ap (λ (o : Outcome). o .after) e)))
 
--- src/lib.rt:60:5
 accepted-requires : tie.Need-accepted-requires
 accepted-requires c κs = search needs
 
--- src/lib.rt:43:1
 returns-4 : tie.Need-returns-4
 returns-4 c = let a = c .before .before .before .before .before .before .before .before .before .before .args in let st = state (a .pool .now) (a .reg) in let f : full st ≡ false = reserve-false (nodes (a .pool .now)) (a .reg .held) (rw (← (c .before .before .before .before .before .before .before .before .nodes .ensures)) (c .before .before .before .before .before .before .if1 .left)) in let p : insertPlan st (a .k) (a .v) (a .l) .possible ≡ true = sym (c .before .before .before .insert-plan .ensures .0) ∙ c .before .before .if3 .taken in let e = insert-goes st (a .k) (a .v) (c .before .before .before .before .before .before .before .before .before .before .pre .0) (c .before .before .before .before .before .before .before .before .before .before .pre .1) (a .l) (c .before .before .before .before .before .before .before .before .before .before .pre .2) f (le-ltb _ _ (c .before .before .before .before .if2 .left)) p in (c .accepted .ensures .0 ∙ sym (ap (λ (o : Outcome). o .answer) e), rw (c .accepted .ensures .1, c .before .before .before .insert-plan .ensures .1) (sym (ap (λ (o : Outcome). o .after) e)))
 

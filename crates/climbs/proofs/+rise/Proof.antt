@@ -33,7 +33,6 @@ rise-at t = and 2 rise-kinds.ps (is 2 rise-kinds.ps μ-rise t) rise.Pre
 abbrev rise-below : ℕ → In 2 rise-kinds.ps
 rise-below t = and 2 rise-kinds.ps (falls 2 rise-kinds.ps _<_ μ-rise t) rise.Pre
 
--- src/lib.rt:70:9
 rise-climb-requires : (t : ℕ) → rise-lts.Need-climb-requires (
   climb-reads.Asked,
   climb-reads.Learnt,
@@ -56,7 +55,6 @@ rise-climb-requires : (t : ℕ) → rise-lts.Need-climb-requires (
 ) (rise-at t) rise.Post
 rise-climb-requires t c κs = search needs
 
--- src/lib.rt:70:9
 rise-returns : (t : ℕ) → rise-lts.Need-returns (
   climb-reads.Asked,
   climb-reads.Learnt,
@@ -79,7 +77,6 @@ rise-returns : (t : ℕ) → rise-lts.Need-returns (
 ) (rise-at t) rise.Post
 rise-returns t c = let a = c .before .before .before .before .args in c .climb .ensures ∙ sym (rise-none (a .pool .now) (a .m) (a .path .now) (a .c) (c .before .if1 .taken))
 
--- src/lib.rt:73:9
 rise-climb-requires-2 : (t : ℕ) → rise-lts.Need-climb-requires-2 (
   climb-reads.Asked,
   climb-reads.Learnt,
@@ -102,7 +99,6 @@ rise-climb-requires-2 : (t : ℕ) → rise-lts.Need-climb-requires-2 (
 ) (rise-at t) rise.Post
 rise-climb-requires-2 t c κs = search needs
 
--- src/lib.rt:73:9
 rise-returns-2 : (t : ℕ) → rise-lts.Need-returns-2 (
   climb-reads.Asked,
   climb-reads.Learnt,
@@ -125,7 +121,6 @@ rise-returns-2 : (t : ℕ) → rise-lts.Need-returns-2 (
 ) (rise-at t) rise.Post
 rise-returns-2 t c = let a = c .before .before .before .before .before .args in c .climb2 .ensures ∙ sym (rise-root (a .pool .now) (a .m) (a .path .now) (a .c) (c .before .if2 .taken))
 
--- src/lib.rt:75:34
 rise-sub-link-in : (t : ℕ) → rise-lts.Need-sub-link-in (
   climb-reads.Asked,
   climb-reads.Learnt,
@@ -148,7 +143,6 @@ rise-sub-link-in : (t : ℕ) → rise-lts.Need-sub-link-in (
 ) (rise-at t) rise.Post
 rise-sub-link-in t c = search needs
 
--- src/lib.rt:75:9
 rise-link-in-requires : (t : ℕ) → rise-lts.Need-link-in-requires (
   climb-reads.Asked,
   climb-reads.Learnt,
@@ -171,7 +165,6 @@ rise-link-in-requires : (t : ℕ) → rise-lts.Need-link-in-requires (
 ) (rise-at t) rise.Post
 rise-link-in-requires t c κs = search needs
 
--- src/lib.rt:76:27
 rise-owner-requires : (t : ℕ) → rise-lts.Need-owner-requires (
   climb-reads.Asked,
   climb-reads.Learnt,
@@ -194,7 +187,6 @@ rise-owner-requires : (t : ℕ) → rise-lts.Need-owner-requires (
 ) (rise-at t) rise.Post
 rise-owner-requires t c κs = search needs
 
--- src/lib.rt:76:8
 rise-is-red-requires : (t : ℕ) → rise-lts.Need-is-red-requires (
   climb-reads.Asked,
   climb-reads.Learnt,
@@ -217,7 +209,6 @@ rise-is-red-requires : (t : ℕ) → rise-lts.Need-is-red-requires (
 ) (rise-at t) rise.Post
 rise-is-red-requires t c κs = search needs
 
--- src/lib.rt:77:9
 rise-climb-requires-3 : (t : ℕ) → rise-lts.Need-climb-requires-3 (
   climb-reads.Asked,
   climb-reads.Learnt,
@@ -240,7 +231,6 @@ rise-climb-requires-3 : (t : ℕ) → rise-lts.Need-climb-requires-3 (
 ) (rise-at t) rise.Post
 rise-climb-requires-3 t c κs = search needs
 
--- src/lib.rt:77:9
 rise-returns-3 : (t : ℕ) → rise-lts.Need-returns-3 (
   climb-reads.Asked,
   climb-reads.Learnt,
@@ -264,7 +254,6 @@ rise-returns-3 : (t : ℕ) → rise-lts.Need-returns-3 (
 rise-returns-3 t c = let a = c .before .before .before .before .before .before .before .before .before .args in let f = c .before .before .before .before .before .before .if1 .left in let g = c .before .before .before .before .before .if2 .left in let e : isRed (a .pool .now) (owner (linkIn (a .path .now) (a .c - 1))) ≡ false = rw (← (c .before .before .before .before .link-in .ensures), ← (c .before .before .before .owner .ensures), ← (c .before .before .is-red .ensures)) (c .before .if3 .left) in
     c .climb3 .ensures ∙ sym (rise-calm (a .pool .now) (a .m) (a .path .now) (a .c) (omega arith) e)
 
--- src/lib.rt:80:9
 rise-climb-requires-4 : (t : ℕ) → rise-lts.Need-climb-requires-4 (
   climb-reads.Asked,
   climb-reads.Learnt,
@@ -287,7 +276,6 @@ rise-climb-requires-4 : (t : ℕ) → rise-lts.Need-climb-requires-4 (
 ) (rise-at t) rise.Post
 rise-climb-requires-4 t c κs = search needs
 
--- src/lib.rt:80:9
 rise-returns-4 : (t : ℕ) → rise-lts.Need-returns-4 (
   climb-reads.Asked,
   climb-reads.Learnt,
@@ -311,7 +299,6 @@ rise-returns-4 : (t : ℕ) → rise-lts.Need-returns-4 (
 rise-returns-4 t c = let a = c .before .before .before .before .before .before .before .before .before .before .args in let e : isRed (a .pool .now) (owner (linkIn (a .path .now) (a .c - 1))) ≡ true = rw (← (c .before .before .before .before .before .link-in .ensures), ← (c .before .before .before .before .owner .ensures), ← (c .before .before .before .is-red .ensures)) (c .before .before .if3 .taken) in
     c .climb4 .ensures ∙ sym (rise-top (a .pool .now) (a .m) (a .path .now) (a .c) (c .before .if4 .taken) e)
 
--- src/lib.rt:82:34
 rise-sub-link-in-2 : (t : ℕ) → rise-lts.Need-sub-link-in-2 (
   climb-reads.Asked,
   climb-reads.Learnt,
@@ -334,7 +321,6 @@ rise-sub-link-in-2 : (t : ℕ) → rise-lts.Need-sub-link-in-2 (
 ) (rise-at t) rise.Post
 rise-sub-link-in-2 t c = search needs
 
--- src/lib.rt:82:9
 rise-link-in-requires-2 : (t : ℕ) → rise-lts.Need-link-in-requires-2 (
   climb-reads.Asked,
   climb-reads.Learnt,
@@ -357,7 +343,6 @@ rise-link-in-requires-2 : (t : ℕ) → rise-lts.Need-link-in-requires-2 (
 ) (rise-at t) rise.Post
 rise-link-in-requires-2 t c κs = search needs
 
--- src/lib.rt:83:9
 rise-side-of-requires : (t : ℕ) → rise-lts.Need-side-of-requires (
   climb-reads.Asked,
   climb-reads.Learnt,
@@ -380,7 +365,6 @@ rise-side-of-requires : (t : ℕ) → rise-lts.Need-side-of-requires (
 ) (rise-at t) rise.Post
 rise-side-of-requires t c κs = search needs
 
--- src/lib.rt:84:34
 rise-other-requires : (t : ℕ) → rise-lts.Need-other-requires (
   climb-reads.Asked,
   climb-reads.Learnt,
@@ -403,7 +387,6 @@ rise-other-requires : (t : ℕ) → rise-lts.Need-other-requires (
 ) (rise-at t) rise.Post
 rise-other-requires t c κs = search needs
 
--- src/lib.rt:84:50
 rise-owner-requires-2 : (t : ℕ) → rise-lts.Need-owner-requires-2 (
   climb-reads.Asked,
   climb-reads.Learnt,
@@ -426,7 +409,6 @@ rise-owner-requires-2 : (t : ℕ) → rise-lts.Need-owner-requires-2 (
 ) (rise-at t) rise.Post
 rise-owner-requires-2 t c κs = search needs
 
--- src/lib.rt:84:9
 rise-child-requires : (t : ℕ) → rise-lts.Need-child-requires (
   climb-reads.Asked,
   climb-reads.Learnt,
@@ -449,7 +431,6 @@ rise-child-requires : (t : ℕ) → rise-lts.Need-child-requires (
 ) (rise-at t) rise.Post
 rise-child-requires t c κs = search needs
 
--- src/lib.rt:85:8
 rise-is-red-requires-2 : (t : ℕ) → rise-lts.Need-is-red-requires-2 (
   climb-reads.Asked,
   climb-reads.Learnt,
@@ -472,7 +453,6 @@ rise-is-red-requires-2 : (t : ℕ) → rise-lts.Need-is-red-requires-2 (
 ) (rise-at t) rise.Post
 rise-is-red-requires-2 t c κs = search needs
 
--- src/lib.rt:86:33
 rise-sub-rise : (t : ℕ) → rise-lts.Need-sub-rise (
   climb-reads.Asked,
   climb-reads.Learnt,
@@ -495,7 +475,6 @@ rise-sub-rise : (t : ℕ) → rise-lts.Need-sub-rise (
 ) (rise-at t) rise.Post
 rise-sub-rise t c = search needs
 
--- src/lib.rt:86:40
 rise-add-rise : (t : ℕ) → rise-lts.Need-add-rise (
   climb-reads.Asked,
   climb-reads.Learnt,
@@ -518,7 +497,6 @@ rise-add-rise : (t : ℕ) → rise-lts.Need-add-rise (
 ) (rise-at t) rise.Post
 rise-add-rise t c = search needs
 
--- src/lib.rt:86:9
 rise-rise-requires : (t : ℕ) → rise-lts.Need-rise-requires (
   climb-reads.Asked,
   climb-reads.Learnt,
@@ -541,7 +519,6 @@ rise-rise-requires : (t : ℕ) → rise-lts.Need-rise-requires (
 ) (rise-at t) rise.Post
 rise-rise-requires t c κs = search needs
 
--- src/lib.rt:86:9
 rise-returns-5 : (t : ℕ) → rise-lts.Need-returns-5 (
   climb-reads.Asked,
   climb-reads.Learnt,
@@ -566,7 +543,6 @@ rise-returns-5 t c = let a = c .before .before .before .before .before .before .
     let i : isRed (a .pool .now) (child (a .pool .now) (other (sideOf (linkIn (a .path .now) (a .c - 2)))) (owner (linkIn (a .path .now) (a .c - 2)))) ≡ true = rw (← (c .before .before .before .before .before .before .before .link-in2 .ensures), ← (c .before .before .before .before .before .before .side-of .ensures), ← (c .before .before .before .before .before .other .ensures), ← (c .before .before .before .before .owner2 .ensures), ← (c .before .before .before .child .ensures), ← (c .before .before .is-red2 .ensures)) (c .before .if5 .taken) in
     c .rise .ensures ∙ sym (rise-on (a .pool .now) (a .m) (a .path .now) (a .c) (omega arith) e i)
 
--- src/lib.rt:88:37
 rise-sub-link-in-3 : (t : ℕ) → rise-lts.Need-sub-link-in-3 (
   climb-reads.Asked,
   climb-reads.Learnt,
@@ -589,7 +565,6 @@ rise-sub-link-in-3 : (t : ℕ) → rise-lts.Need-sub-link-in-3 (
 ) (rise-at t) rise.Post
 rise-sub-link-in-3 t c = search needs
 
--- src/lib.rt:88:9
 rise-link-in-requires-3 : (t : ℕ) → rise-lts.Need-link-in-requires-3 (
   climb-reads.Asked,
   climb-reads.Learnt,
@@ -612,7 +587,6 @@ rise-link-in-requires-3 : (t : ℕ) → rise-lts.Need-link-in-requires-3 (
 ) (rise-at t) rise.Post
 rise-link-in-requires-3 t c κs = search needs
 
--- src/lib.rt:89:24
 rise-side-of-requires-2 : (t : ℕ) → rise-lts.Need-side-of-requires-2 (
   climb-reads.Asked,
   climb-reads.Learnt,
@@ -635,7 +609,6 @@ rise-side-of-requires-2 : (t : ℕ) → rise-lts.Need-side-of-requires-2 (
 ) (rise-at t) rise.Post
 rise-side-of-requires-2 t c κs = search needs
 
--- src/lib.rt:89:9
 rise-form-of-requires : (t : ℕ) → rise-lts.Need-form-of-requires (
   climb-reads.Asked,
   climb-reads.Learnt,
@@ -658,7 +631,6 @@ rise-form-of-requires : (t : ℕ) → rise-lts.Need-form-of-requires (
 ) (rise-at t) rise.Post
 rise-form-of-requires t c κs = search needs
 
--- src/lib.rt:96:5
 rise-climb-requires-5 : (t : ℕ) → rise-lts.Need-climb-requires-5 (
   climb-reads.Asked,
   climb-reads.Learnt,
@@ -681,7 +653,6 @@ rise-climb-requires-5 : (t : ℕ) → rise-lts.Need-climb-requires-5 (
 ) (rise-at t) rise.Post
 rise-climb-requires-5 t c κs = search needs
 
--- src/lib.rt:65:1
 rise-returns-6 : (t : ℕ) → rise-lts.Need-returns-6 (
   climb-reads.Asked,
   climb-reads.Learnt,

@@ -18,175 +18,132 @@ use Rattle.index.proofs.reader_turn.Reads as reader-turn-reads
 use Rattle.index.proofs.set_up.Reads as set-up-reads
 use Rattle.index.proofs.writer_turn.Reads as writer-turn-reads
 
--- src/lib.rt:80:53
 enum-told : tie.Need-enum-told
 enum-told c = search needs
 
--- src/lib.rt:80:39
 set-up-requires : tie.Need-set-up-requires
 set-up-requires c κs = search needs
 
--- src/lib.rt:80:30
 accepted-requires : tie.Need-accepted-requires
 accepted-requires c κs = search needs
 
--- src/lib.rt:81:25
 enum-known-c : tie.Need-enum-known-c
 enum-known-c c = search needs
 
--- src/lib.rt:81:43
 insert-requires : tie.Need-insert-requires
 insert-requires c κs = search needs
 
--- src/lib.rt:81:34
 accepted-requires-2 : tie.Need-accepted-requires-2
 accepted-requires-2 c κs = search needs
 
--- src/lib.rt:82:25
 enum-known-c-2 : tie.Need-enum-known-c-2
 enum-known-c-2 c = search needs
 
--- src/lib.rt:82:40
 delete-requires : tie.Need-delete-requires
 delete-requires c κs = search needs
 
--- src/lib.rt:82:31
 accepted-requires-3 : tie.Need-accepted-requires-3
 accepted-requires-3 c κs = search needs
 
--- src/lib.rt:83:54
 enum-told-2 : tie.Need-enum-told-2
 enum-told-2 c = search needs
 
--- src/lib.rt:83:35
 writer-turn-requires : tie.Need-writer-turn-requires
 writer-turn-requires c κs = search needs
 
--- src/lib.rt:83:27
 written-requires : tie.Need-written-requires
 written-requires c κs = search needs
 
--- src/lib.rt:84:24
 enum-known-c-3 : tie.Need-enum-known-c-3
 enum-known-c-3 c = search needs
 
--- src/lib.rt:84:42
 begin-requires : tie.Need-begin-requires
 begin-requires c κs = search needs
 
--- src/lib.rt:84:33
 accepted-requires-4 : tie.Need-accepted-requires-4
 accepted-requires-4 c κs = search needs
 
--- src/lib.rt:85:23
 enum-known-c-4 : tie.Need-enum-known-c-4
 enum-known-c-4 c = search needs
 
--- src/lib.rt:85:36
 reader-turn-requires : tie.Need-reader-turn-requires
 reader-turn-requires c κs = search needs
 
--- src/lib.rt:85:29
 looked-requires : tie.Need-looked-requires
 looked-requires c κs = search needs
 
--- src/lib.rt:86:25
 enum-known-c-5 : tie.Need-enum-known-c-5
 enum-known-c-5 c = search needs
 
--- src/lib.rt:86:40
 give-up-requires : tie.Need-give-up-requires
 give-up-requires c κs = search needs
 
--- src/lib.rt:86:31
 accepted-requires-5 : tie.Need-accepted-requires-5
 accepted-requires-5 c κs = search needs
 
--- src/lib.rt:87:31
 enum-told-3 : tie.Need-enum-told-3
 enum-told-3 c = search needs
 
--- src/lib.rt:87:26
 show-requires : tie.Need-show-requires
 show-requires c κs = search needs
 
--- src/lib.rt:88:30
 enum-told-4 : tie.Need-enum-told-4
 enum-told-4 c = search needs
 
--- src/lib.rt:88:25
 show-requires-2 : tie.Need-show-requires-2
 show-requires-2 c κs = search needs
 
--- src/lib.rt:74:1
 same-length : tie.Need-same-length
 same-length c = search needs
 
--- src/lib.rt:74:1
 returns : tie.Need-returns
 returns c = rw (c .before .before .before .before .before .enum-told .given .1) (c .accepted .ensures .0 ∙ c .before .before .before .set-up .ensures .0, rw (c .accepted .ensures .1) (c .before .before .before .set-up .ensures .1))
 
--- src/lib.rt:74:1
 same-length-2 : tie.Need-same-length-2
 same-length-2 c = search needs
 
--- src/lib.rt:74:1
 returns-2 : tie.Need-returns-2
 returns-2 c = rw (c .before .before .before .before .c .given .1) (c .accepted2 .ensures .0 ∙ c .before .insert .ensures .0, rw (c .accepted2 .ensures .1) (c .before .insert .ensures .1))
 
--- src/lib.rt:74:1
 same-length-3 : tie.Need-same-length-3
 same-length-3 c = search needs
 
--- src/lib.rt:74:1
 returns-3 : tie.Need-returns-3
 returns-3 c = rw (c .before .before .before .before .c2 .given .1) (c .accepted3 .ensures .0 ∙ c .before .delete .ensures .0, rw (c .accepted3 .ensures .1) (c .before .delete .ensures .1))
 
--- src/lib.rt:74:1
 same-length-4 : tie.Need-same-length-4
 same-length-4 c = search needs
 
--- src/lib.rt:74:1
 returns-4 : tie.Need-returns-4
 returns-4 c = rw (c .before .before .before .before .before .enum-told2 .given .1) (c .written .ensures .0 ∙ c .before .before .before .writer-turn .ensures .0, rw (c .written .ensures .1) (c .before .before .before .writer-turn .ensures .1))
 
--- src/lib.rt:74:1
 same-length-5 : tie.Need-same-length-5
 same-length-5 c = search needs
 
--- src/lib.rt:74:1
 returns-5 : tie.Need-returns-5
 returns-5 c = rw (c .before .before .before .before .c3 .given .1) (c .accepted4 .ensures .0 ∙ c .before .begin .ensures .0, rw (c .accepted4 .ensures .1) (c .before .begin .ensures .1))
 
--- src/lib.rt:74:1
 same-length-6 : tie.Need-same-length-6
 same-length-6 c = search needs
 
--- src/lib.rt:74:1
 returns-6 : tie.Need-returns-6
 returns-6 c = rw (c .before .before .before .before .before .before .c4 .given .1) (c .looked .ensures .0 ∙ c .before .before .before .reader-turn .ensures .0, rw (c .looked .ensures .1) (c .before .before .before .reader-turn .ensures .1))
 
--- src/lib.rt:74:1
 same-length-7 : tie.Need-same-length-7
 same-length-7 c = search needs
 
--- src/lib.rt:74:1
 returns-7 : tie.Need-returns-7
 returns-7 c = rw (c .before .before .before .before .before .before .c5 .given .1) (c .accepted5 .ensures .0 ∙ c .before .before .before .give-up .ensures .0, rw (c .accepted5 .ensures .1) (c .before .before .before .give-up .ensures .1))
 
--- src/lib.rt:74:1
 same-length-8 : tie.Need-same-length-8
 same-length-8 c = search needs
 
--- src/lib.rt:74:1
 returns-8 : tie.Need-returns-8
 returns-8 c = rw (c .before .before .enum-told3 .given .1) (c .show .ensures)
 
--- src/lib.rt:74:1
 same-length-9 : tie.Need-same-length-9
 same-length-9 c = search needs
 
--- src/lib.rt:74:1
 returns-9 : tie.Need-returns-9
 returns-9 c = rw (c .before .before .enum-told4 .given .1) (c .show2 .ensures)
 

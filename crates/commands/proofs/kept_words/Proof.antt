@@ -26,15 +26,12 @@ others lent tried (said.More l n) h = refl
 others lent tried (said.Done l n) h = refl
 others lent tried (said.No n) h = absurd (miss (0 ∷ 1 ∷ 2 ∷ 3 ∷ 4 ∷ 5 ∷ 6 ∷ []) 7 tt h)
 
--- src/lib.rt:116:9
 enum-told : tie.Need-enum-told
 enum-told c = search needs
 
--- src/lib.rt:116:9
 returns : tie.Need-returns
 returns c = search needs
 
--- src/lib.rt:112:1
 returns-2 : tie.Need-returns-2
 returns-2 c = others _ _ (c .before .args .said) (c .match .keys2)
 

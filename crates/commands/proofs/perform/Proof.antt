@@ -18,31 +18,24 @@ use Rattle.commands.proofs.call.Reads as call-reads
 use Rattle.commands.proofs.kept_words.Reads as kept-words-reads
 use Rattle.commands.proofs.tried_words.Reads as tried-words-reads
 
--- src/lib.rt:130:9
 tried-words-requires : tie.Need-tried-words-requires
 tried-words-requires c κs = search needs
 
--- src/lib.rt:131:21
 slice-relend-prefix-call : tie.Need-slice-relend-prefix-call
 slice-relend-prefix-call c = rw (c .tried-words .ensures, c .before .before .pre .1) (tried-fits (c .before .before .args .lent) (c .before .before .args .c) (c .before .before .pre .0))
 
--- src/lib.rt:131:21
 slice-aggregate-call : tie.Need-slice-aggregate-call
 slice-aggregate-call c = let e : c .before .tried-words .result ≤ length (c .before .before .before .args .words .now) = rw (c .before .tried-words .ensures, c .before .before .before .pre .1) (tried-fits (c .before .before .before .args .lent) (c .before .before .before .args .c) (c .before .before .before .pre .0)) in sym (length-take-le (c .before .tried-words .result) (c .before .before .before .args .words .now) e)
 
--- src/lib.rt:131:9
 call-requires : tie.Need-call-requires
 call-requires c κs = search needs
 
--- src/lib.rt:133:9
 kept-words-requires : tie.Need-kept-words-requires
 kept-words-requires c κs = search needs
 
--- src/lib.rt:123:1
 same-length : tie.Need-same-length
 same-length c = search needs
 
--- src/lib.rt:123:1
 returns : tie.Need-returns
 returns c = let a = c .before .before .before .before .before .before .before .before .args in let t = c .before .before .before .before .before .before .tried-words in let k = c .before .before .before .before .call in
     let q = performed-on (a .words .now) (a .lent) (a .reg) (a .c) (t .result) (t .ensures) in (

@@ -10,16 +10,13 @@ use Rattle.commands.proofs.show.Reads as reads
 use Rattle.commands.proofs.show.Lts as lts
 use Rattle.refusals.proofs.lent_refusal.Reads as lent-refusal-reads
 
--- src/lib.rt:59:9
 lent-refusal-requires : tie.Need-lent-refusal-requires
 lent-refusal-requires c κs = search needs
 
--- src/lib.rt:61:9
 returns : tie.Need-returns
 unfolding shown
 returns c = let a = c .before .before .before .args in let d : lentNumber (state (a .pool .now) (a .reg)) ≡ 0 → ⊥ = λ z. c .if1 .taken (c .before .lent-refusal .ensures ∙ z) in rw (ne-eqb _ _ d) (rw (c .before .lent-refusal .ensures), refl)
 
--- src/lib.rt:55:1
 returns-2 : tie.Need-returns-2
 unfolding shown
 returns-2 c = let a = c .before .before .before .args in let e : lentNumber (state (a .pool .now) (a .reg)) ≡ 0 = sym (c .before .lent-refusal .ensures) ∙ c .if1 .left in rw (eq-eqb _ _ e) (refl, refl)

@@ -27,27 +27,21 @@ others lent (command.GiveUp s) h = refl
 others lent command.Show h = refl
 others lent command.Ill h = refl
 
--- src/lib.rt:102:27
 enum-known-c : tie.Need-enum-known-c
 enum-known-c c = search needs
 
--- src/lib.rt:104:20
 cast-result : tie.Need-cast-result
 cast-result c = search needs
 
--- src/lib.rt:104:20
 mul-result : tie.Need-mul-result
 mul-result c = search needs
 
--- src/lib.rt:104:13
 returns : tie.Need-returns
 returns c = rw (c .before .before .c .given .1, lt-ltb _ _ (c .if1 .taken))
 
--- src/lib.rt:106:9
 returns-2 : tie.Need-returns-2
 returns-2 c = rw (c .before .before .c .given .1, le-ltb _ _ (c .if1 .left))
 
--- src/lib.rt:99:1
 returns-3 : tie.Need-returns-3
 returns-3 c = others _ (c .before .args .c) (c .match .keys2)
 

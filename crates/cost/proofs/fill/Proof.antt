@@ -16,35 +16,27 @@ Inv-loop pool₀ n r₀ i₀ pool r i = (i ≤ n) × (length pool ≡ length poo
 abbrev μ-loop : tie.MeasureT-loop
 μ-loop pool₀ n r₀ i₀ pool r i = n - i
 
--- src/main.rt:72:5
 loop-holds : tie.Need-loop-holds Inv-loop μ-loop
 loop-holds c = search needs
 
--- src/main.rt:73:9
 add-i : tie.Need-add-i Inv-loop μ-loop
 add-i c = search needs
 
--- src/main.rt:74:29
 mul-insert : tie.Need-mul-insert Inv-loop μ-loop
 mul-insert c = search needs
 
--- src/main.rt:74:9
 insert-requires : tie.Need-insert-requires Inv-loop μ-loop
 insert-requires c κs = search needs
 
--- src/main.rt:72:5
 loop-less : tie.Need-loop-less Inv-loop μ-loop
 loop-less c = search needs
 
--- src/main.rt:72:5
 loop-again : tie.Need-loop-again Inv-loop μ-loop
 loop-again c = search needs
 
--- src/main.rt:69:1
 same-length : tie.Need-same-length Inv-loop μ-loop
 same-length c = search needs
 
--- src/main.rt:69:1
 returns : tie.Need-returns Inv-loop μ-loop
 returns c = search needs
 

@@ -17,31 +17,24 @@ Inv-loop pool₀ r₀ i₀ pool r i = (i ≤ 7) × (length pool ≡ length pool�
 abbrev μ-loop : tie.MeasureT-loop
 μ-loop pool₀ r₀ i₀ pool r i = 7 - i
 
--- src/main.rt:47:5
 loop-holds : tie.Need-loop-holds Inv-loop μ-loop
 loop-holds c = search needs
 
--- src/main.rt:48:13
 writer-turn-requires : tie.Need-writer-turn-requires Inv-loop μ-loop
 writer-turn-requires c κs = search needs
 
--- src/main.rt:50:9
 turns-after-requires : tie.Need-turns-after-requires Inv-loop μ-loop
 turns-after-requires c κs = search needs
 
--- src/main.rt:47:5
 loop-less : tie.Need-loop-less Inv-loop μ-loop
 loop-less c = search needs
 
--- src/main.rt:47:5
 loop-again : tie.Need-loop-again Inv-loop μ-loop
 loop-again c = search needs
 
--- src/main.rt:44:1
 same-length : tie.Need-same-length Inv-loop μ-loop
 same-length c = search needs
 
--- src/main.rt:44:1
 returns : tie.Need-returns Inv-loop μ-loop
 returns c = search needs
 

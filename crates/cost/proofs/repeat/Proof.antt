@@ -18,47 +18,36 @@ Inv-loop pool₀ kind times r₀ sum₀ i₀ pool r sum i = (i ≤ times) × (le
 abbrev μ-loop : tie.MeasureT-loop
 μ-loop pool₀ kind times r₀ sum₀ i₀ pool r sum i = times - i
 
--- src/main.rt:141:5
 loop-holds : tie.Need-loop-holds Inv-loop μ-loop
 loop-holds c = search needs
 
--- src/main.rt:142:40
 key-of-requires : tie.Need-key-of-requires Inv-loop μ-loop
 key-of-requires c κs = search needs
 
--- src/main.rt:142:13
 once-requires : tie.Need-once-requires Inv-loop μ-loop
 once-requires c κs = search needs
 
--- src/main.rt:143:15
 add-sum : tie.Need-add-sum Inv-loop μ-loop
 add-sum c = search needs
 
--- src/main.rt:143:15
 add-sum-2 : tie.Need-add-sum-2 Inv-loop μ-loop
 add-sum-2 c = search needs
 
--- src/main.rt:144:9
 kept-requires : tie.Need-kept-requires Inv-loop μ-loop
 kept-requires c κs = search needs
 
--- src/main.rt:145:9
 add-i : tie.Need-add-i Inv-loop μ-loop
 add-i c = let h = c .before .before .before .before .before .before .before .before .loop-test .taken in let f = c .before .before .before .before .before .before .before .before .before .before .before .fits .times in search needs
 
--- src/main.rt:141:5
 loop-less : tie.Need-loop-less Inv-loop μ-loop
 loop-less c = search needs
 
--- src/main.rt:141:5
 loop-again : tie.Need-loop-again Inv-loop μ-loop
 loop-again c = search needs
 
--- src/main.rt:137:1
 same-length : tie.Need-same-length Inv-loop μ-loop
 same-length c = search needs
 
--- src/main.rt:137:1
 returns : tie.Need-returns Inv-loop μ-loop
 returns c = search needs
 

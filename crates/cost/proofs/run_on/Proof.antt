@@ -9,23 +9,18 @@ use Rattle.cost.proofs.run_on.Reads as reads
 use Rattle.cost.proofs.run_on.Lts as lts
 use Rattle.cost.proofs.run.Reads as run-reads
 
--- src/main.rt:172:9
 slice-relend-prefix-run : tie.Need-slice-relend-prefix-run
 slice-relend-prefix-run c = search needs
 
--- src/main.rt:172:9
 slice-aggregate-run : tie.Need-slice-aggregate-run
 slice-aggregate-run c = sym (length-take-le (c .before .before .args .n) (c .before .before .args .words .now) (c .before .before .pre))
 
--- src/main.rt:172:5
 run-requires : tie.Need-run-requires
 run-requires c κs = search needs
 
--- src/main.rt:169:1
 same-length : tie.Need-same-length
 same-length c = search needs
 
--- src/main.rt:169:1
 returns : tie.Need-returns
 returns c = search needs
 

@@ -18,43 +18,33 @@ Inv-loop pool₀ top j₀ pool j = (j ≤ length pool₀) × (length pool ≡ le
 abbrev μ-loop : tie.MeasureT-loop
 μ-loop pool₀ top j₀ pool j = length pool₀ - j
 
--- src/lib.rt:29:9
 nodes-requires : tie.Need-nodes-requires Inv-loop μ-loop
 nodes-requires c κs = search needs
 
--- src/lib.rt:31:5
 loop-holds : tie.Need-loop-holds Inv-loop μ-loop
 loop-holds c = (search needs, refl, λ i h. absurd (omega arith))
 
--- src/lib.rt:32:19
 fresh-word-requires : tie.Need-fresh-word-requires Inv-loop μ-loop
 fresh-word-requires c κs = (omega arith, omega (arith, c .before .before .nodes .ensures))
 
--- src/lib.rt:32:9
 mul-pool : tie.Need-mul-pool Inv-loop μ-loop
 mul-pool c = search needs
 
--- src/lib.rt:32:9
 slice-write-pool : tie.Need-slice-write-pool Inv-loop μ-loop
 slice-write-pool c = search needs
 
--- src/lib.rt:33:9
 add-j : tie.Need-add-j Inv-loop μ-loop
 add-j c = search needs
 
--- src/lib.rt:31:5
 loop-less : tie.Need-loop-less Inv-loop μ-loop
 loop-less c = search needs
 
--- src/lib.rt:31:5
 loop-again : tie.Need-loop-again Inv-loop μ-loop
 loop-again c = let l = c .before .before .loop in (search needs, search needs, fill-next (l .pool) (freshWord (c .before .before .before .nodes .result) 1) (l .j) (c .fresh-word .result) (c .before .loop-test .taken) (c .fresh-word .ensures) (l .inv .2))
 
--- src/lib.rt:25:1
 same-length : tie.Need-same-length Inv-loop μ-loop
 same-length c = search needs
 
--- src/lib.rt:25:1
 returns : tie.Need-returns Inv-loop μ-loop
 returns c = let l = c .before .loop in rw (← (c .before .before .nodes .ensures)) (filled (l .pool) (c .before .before .nodes .result) (l .inv .1 ∙ rw (c .before .before .nodes .ensures) (c .before .before .before .before .before .pre .1)) (λ i h. l .inv .2 i (omega arith)))
 

@@ -7,23 +7,18 @@ use Rattle.fresh.proofs.fresh_word.Tie as tie
 use Rattle.fresh.proofs.fresh_word.Reads as reads
 use Rattle.fresh.proofs.fresh_word.Lts as lts
 
--- src/lib.rt:20:16
 cast-node : tie.Need-cast-node
 cast-node c = search needs
 
--- src/lib.rt:20:16
 add-node : tie.Need-add-node
 add-node c = search needs
 
--- src/lib.rt:21:53
 add-result : tie.Need-add-result
 add-result c = search needs
 
--- src/lib.rt:16:1
 returns : tie.Need-returns
 returns c = rw (c .if1 .taken) (omega arith)
 
--- src/lib.rt:16:1
 returns-2 : tie.Need-returns-2
 returns-2 c = rw (c .if1 .left)
 

@@ -16,22 +16,18 @@ use Rattle.index.proofs.begin.Lts as lts
 use Rattle.refusals.proofs.begin_refusal.Reads as begin-refusal-reads
 use Rattle.register.proofs.with_reader.Reads as with-reader-reads
 
--- src/lib.rt:80:9
 begin-refusal-requires : tie.Need-begin-refusal-requires
 begin-refusal-requires c κs = search needs
 
--- src/lib.rt:82:9
 returns : tie.Need-returns
 unfolding begin
 returns c = let st = state (c .before .before .before .args .pool .now) (c .before .before .before .args .reg) in let s = c .before .before .before .args .s in let e = unless-refused (beginTests st s) st (outcome ok (state (st .pool) (withReader (st .register) s (record { reading = true; key = c .before .before .before .args .k; node = 0 })))) (c .before .begin-refusal .result) (sym (c .before .begin-refusal .ensures)) (c .if1 .taken) in
     (sym (ap (λ (o : Outcome). o .answer) e), sym (ap (λ (o : Outcome). o .after) e))
 
--- src/lib.rt:92:9
 with-reader-requires : tie.Need-with-reader-requires
 unfolding begin
 with-reader-requires c κs = let st = state (c .before .before .before .args .pool .now) (c .before .before .before .args .reg) in let s = c .before .before .before .args .s in let z = sym (c .before .begin-refusal .ensures) ∙ c .if1 .left in slot-of st s (reading st s) 4 (omega arith) z
 
--- src/lib.rt:76:1
 returns-2 : tie.Need-returns-2
 unfolding begin
 returns-2 c = let st = state (c .before .before .before .before .args .pool .now) (c .before .before .before .before .args .reg) in let s = c .before .before .before .before .args .s in let e = unless-done (beginTests st s) st (outcome ok (state (st .pool) (withReader (st .register) s (record { reading = true; key = c .before .before .before .before .args .k; node = 0 })))) (sym (c .before .before .begin-refusal .ensures) ∙ c .before .if1 .left) in

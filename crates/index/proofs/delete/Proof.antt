@@ -16,66 +16,51 @@ use Rattle.accepts.proofs.refused.Reads as refused-reads
 use Rattle.refusals.proofs.lent_refusal.Reads as lent-refusal-reads
 use Rattle.search.proofs.seek.Reads as seek-reads
 
--- src/lib.rt:62:9
 lent-refusal-requires : tie.Need-lent-refusal-requires
 lent-refusal-requires c κs = search needs
 
--- src/lib.rt:64:9
 refused-requires : tie.Need-refused-requires
 refused-requires c κs = search needs
 
--- src/lib.rt:64:9
 returns : tie.Need-returns
 returns c = let a = c .before .before .before .before .args in let st = state (a .pool .now) (a .reg) in let e = delete-lent st (a .k) (λ z. c .before .if1 .taken (c .before .before .lent-refusal .ensures ∙ z)) in
     (c .refused .ensures .0 ∙ rw (c .before .before .lent-refusal .ensures) (sym (ap (λ (o : Outcome). o .answer) e)), rw (c .refused .ensures .1) (sym (ap (λ (o : Outcome). o .after) e)))
 
--- src/lib.rt:68:9
 refused-requires-2 : tie.Need-refused-requires-2
 refused-requires-2 c κs = search needs
 
--- src/lib.rt:68:9
 returns-2 : tie.Need-returns-2
 returns-2 c = let a = c .before .before .before .before .before .before .before .args in let st = state (a .pool .now) (a .reg) in let w : writeInHand st ≡ true = rw (ne-eqb _ _ (c .before .if2 .taken)) in let e = delete-writing st (a .k) (sym (c .before .before .before .before .before .lent-refusal .ensures) ∙ c .before .before .before .before .if1 .left) w in
     (c .refused2 .ensures .0 ∙ sym (ap (λ (o : Outcome). o .answer) e), rw (c .refused2 .ensures .1) (sym (ap (λ (o : Outcome). o .after) e)))
 
--- src/lib.rt:70:9
 seek-requires : tie.Need-seek-requires
 seek-requires c κs = search needs
 
--- src/lib.rt:72:21
 enum-known-place : tie.Need-enum-known-place
 enum-known-place c = search needs
 
--- src/lib.rt:72:30
 delete-at-requires : tie.Need-delete-at-requires
 delete-at-requires c κs = let a = c .before .before .before .before .before .before .before .before .before .before .args in let st = state (a .pool .now) (a .reg) in let w : writeInHand st ≡ false = rw (eq-eqb _ _ (c .before .before .before .before .if2 .left)) in (sym (c .before .before .before .before .before .before .before .before .lent-refusal .ensures) ∙ c .before .before .before .before .before .before .before .if1 .left, w, sym (c .before .before .before .seek .ensures) ∙ c .before .place .given .1)
 
--- src/lib.rt:73:28
 enum-told : tie.Need-enum-told
 enum-told c = search needs
 
--- src/lib.rt:73:28
 refused-requires-3 : tie.Need-refused-requires-3
 refused-requires-3 c κs = search needs
 
--- src/lib.rt:74:27
 enum-told-2 : tie.Need-enum-told-2
 enum-told-2 c = search needs
 
--- src/lib.rt:74:27
 refused-requires-4 : tie.Need-refused-requires-4
 refused-requires-4 c κs = search needs
 
--- src/lib.rt:58:1
 returns-3 : tie.Need-returns-3
 returns-3 c = c .delete-at .ensures
 
--- src/lib.rt:58:1
 returns-4 : tie.Need-returns-4
 returns-4 c = let a = c .before .before .before .before .before .before .before .before .before .before .args in let st = state (a .pool .now) (a .reg) in let w : writeInHand st ≡ false = rw (eq-eqb _ _ (c .before .before .before .before .if2 .left)) in let e = delete-absent st (a .k) (sym (c .before .before .before .before .before .before .before .before .lent-refusal .ensures) ∙ c .before .before .before .before .before .before .before .if1 .left) w (c .before .enum-told .given .0 .0) (sym (c .before .before .before .seek .ensures) ∙ c .before .enum-told .given .1) in
     (c .refused3 .ensures .0 ∙ sym (ap (λ (o : Outcome). o .answer) e), rw (c .refused3 .ensures .1) (sym (ap (λ (o : Outcome). o .after) e)))
 
--- src/lib.rt:58:1
 returns-5 : tie.Need-returns-5
 returns-5 c = let a = c .before .before .before .before .before .before .before .before .before .before .args in let st = state (a .pool .now) (a .reg) in let w : writeInHand st ≡ false = rw (eq-eqb _ _ (c .before .before .before .before .if2 .left)) in let e = delete-deep st (a .k) (sym (c .before .before .before .before .before .before .before .before .lent-refusal .ensures) ∙ c .before .before .before .before .before .before .before .if1 .left) w (sym (c .before .before .before .seek .ensures) ∙ c .before .enum-told2 .given .1) in
     (c .refused4 .ensures .0 ∙ sym (ap (λ (o : Outcome). o .answer) e), rw (c .refused4 .ensures .1) (sym (ap (λ (o : Outcome). o .after) e)))

@@ -15,66 +15,51 @@ use Rattle.refusals.proofs.lent_refusal.Reads as lent-refusal-reads
 use Rattle.accepts.proofs.refused.Reads as refused-reads
 use Rattle.search.proofs.seek.Reads as seek-reads
 
--- src/lib.rt:246:9
 lent-refusal-requires : tie.Need-lent-refusal-requires
 lent-refusal-requires c κs = search needs
 
--- src/lib.rt:248:9
 refused-requires : tie.Need-refused-requires
 refused-requires c κs = search needs
 
--- src/lib.rt:248:9
 returns : tie.Need-returns
 returns c = let a = c .before .before .before .before .args in let st = state (a .pool .now) (a .reg) in let e = insert-lent st (a .k) (a .v) (λ z. c .before .if1 .taken (c .before .before .lent-refusal .ensures ∙ z)) in
     (c .refused .ensures .0 ∙ rw (c .before .before .lent-refusal .ensures) (sym (ap (λ (o : Outcome). o .answer) e)), rw (c .refused .ensures .1) (sym (ap (λ (o : Outcome). o .after) e)))
 
--- src/lib.rt:252:9
 refused-requires-2 : tie.Need-refused-requires-2
 refused-requires-2 c κs = search needs
 
--- src/lib.rt:252:9
 returns-2 : tie.Need-returns-2
 returns-2 c = let a = c .before .before .before .before .before .before .before .args in let st = state (a .pool .now) (a .reg) in let w : writeInHand st ≡ true = rw (ne-eqb _ _ (c .before .if2 .taken)) in let e = insert-writing st (a .k) (a .v) (sym (c .before .before .before .before .before .lent-refusal .ensures) ∙ c .before .before .before .before .if1 .left) w in
     (c .refused2 .ensures .0 ∙ sym (ap (λ (o : Outcome). o .answer) e), rw (c .refused2 .ensures .1) (sym (ap (λ (o : Outcome). o .after) e)))
 
--- src/lib.rt:254:9
 seek-requires : tie.Need-seek-requires
 seek-requires c κs = search needs
 
--- src/lib.rt:256:30
 enum-told : tie.Need-enum-told
 enum-told c = search needs
 
--- src/lib.rt:256:30
 refused-requires-3 : tie.Need-refused-requires-3
 refused-requires-3 c κs = search needs
 
--- src/lib.rt:257:22
 enum-known-place : tie.Need-enum-known-place
 enum-known-place c = search needs
 
--- src/lib.rt:257:28
 insert-at-requires : tie.Need-insert-at-requires
 insert-at-requires c κs = let a = c .before .before .before .before .before .before .before .before .before .before .args in let st = state (a .pool .now) (a .reg) in let w : writeInHand st ≡ false = rw (eq-eqb _ _ (c .before .before .before .before .if2 .left)) in (sym (c .before .before .before .before .before .before .before .before .lent-refusal .ensures) ∙ c .before .before .before .before .before .before .before .if1 .left, w, sym (c .before .before .before .seek .ensures) ∙ c .before .place .given .1)
 
--- src/lib.rt:258:27
 enum-told-2 : tie.Need-enum-told-2
 enum-told-2 c = search needs
 
--- src/lib.rt:258:27
 refused-requires-4 : tie.Need-refused-requires-4
 refused-requires-4 c κs = search needs
 
--- src/lib.rt:242:1
 returns-3 : tie.Need-returns-3
 returns-3 c = let a = c .before .before .before .before .before .before .before .before .before .before .args in let st = state (a .pool .now) (a .reg) in let w : writeInHand st ≡ false = rw (eq-eqb _ _ (c .before .before .before .before .if2 .left)) in let e = insert-held st (a .k) (a .v) (sym (c .before .before .before .before .before .before .before .before .lent-refusal .ensures) ∙ c .before .before .before .before .before .before .before .if1 .left) w (c .before .enum-told .given .0 .0) (c .before .enum-told .given .0 .1 .0) (sym (c .before .before .before .seek .ensures) ∙ c .before .enum-told .given .1) in
     (c .refused3 .ensures .0 ∙ sym (ap (λ (o : Outcome). o .answer) e), rw (c .refused3 .ensures .1) (sym (ap (λ (o : Outcome). o .after) e)))
 
--- src/lib.rt:242:1
 returns-4 : tie.Need-returns-4
 returns-4 c = c .insert-at .ensures
 
--- src/lib.rt:242:1
 returns-5 : tie.Need-returns-5
 returns-5 c = let a = c .before .before .before .before .before .before .before .before .before .before .args in let st = state (a .pool .now) (a .reg) in let w : writeInHand st ≡ false = rw (eq-eqb _ _ (c .before .before .before .before .if2 .left)) in let e = insert-deep st (a .k) (a .v) (sym (c .before .before .before .before .before .before .before .before .lent-refusal .ensures) ∙ c .before .before .before .before .before .before .before .if1 .left) w (sym (c .before .before .before .seek .ensures) ∙ c .before .enum-told2 .given .1) in
     (c .refused4 .ensures .0 ∙ sym (ap (λ (o : Outcome). o .answer) e), rw (c .refused4 .ensures .1) (sym (ap (λ (o : Outcome). o .after) e)))

@@ -16,36 +16,28 @@ use Rattle.fresh.proofs.fresh_register.Reads as fresh-register-reads
 use Rattle.pool.proofs.length_right.Reads as length-right-reads
 use Rattle.pool.proofs.nodes.Reads as nodes-reads
 
--- src/lib.rt:186:8
 length-right-requires : tie.Need-length-right-requires
 length-right-requires c κs = search needs
 
--- src/lib.rt:187:9
 same-length : tie.Need-same-length
 same-length c = search needs
 
--- src/lib.rt:187:9
 returns : tie.Need-returns
 unfolding setUp fresh
 returns c = let e : lengthRight (c .before .before .before .before .args .pool .now) ≡ false = sym (c .before .length-right .ensures) ∙ c .if1 .left in rw e (refl, refl)
 
--- src/lib.rt:192:42
 nodes-requires : tie.Need-nodes-requires
 nodes-requires c κs = right-length (c .before .before .before .before .before .args .pool .now) (sym (c .before .before .length-right .ensures) ∙ c .before .if1 .taken)
 
--- src/lib.rt:192:9
 fresh-register-requires : tie.Need-fresh-register-requires
 fresh-register-requires c κs = search needs
 
--- src/lib.rt:193:5
 fresh-pool-requires : tie.Need-fresh-pool-requires
 fresh-pool-requires c κs = let e : lengthRight (c .before .before .before .before .before .before .before .before .args .pool .now) ≡ true = sym (c .before .before .before .before .before .length-right .ensures) ∙ c .before .before .before .before .if1 .taken in (right-length (c .before .before .before .before .before .before .before .before .args .pool .now) e, whole-length (c .before .before .before .before .before .before .before .before .args .pool .now) e)
 
--- src/lib.rt:182:1
 same-length-2 : tie.Need-same-length-2
 same-length-2 c = search needs
 
--- src/lib.rt:182:1
 returns-2 : tie.Need-returns-2
 unfolding setUp fresh
 returns-2 c = let e : lengthRight (c .before .before .before .before .before .before .before .before .before .before .before .args .pool .now) ≡ true = sym (c .before .before .before .before .before .before .before .before .length-right .ensures) ∙ c .before .before .before .before .before .before .before .if1 .taken in rw e (refl, rw (c .before .before .before .before .fresh-register .ensures, c .before .before .fresh-pool .ensures, c .before .before .before .before .before .nodes .ensures))

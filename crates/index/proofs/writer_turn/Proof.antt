@@ -14,54 +14,42 @@ use Rattle.refusals.proofs.lent_refusal.Reads as lent-refusal-reads
 use Rattle.turns.proofs.make_first.Reads as make-first-reads
 use Rattle.turns.proofs.refused.Reads as refused-reads
 
--- src/lib.rt:82:9
 lent-refusal-requires : tie.Need-lent-refusal-requires
 lent-refusal-requires c κs = search needs
 
--- src/lib.rt:84:9
 refused-requires : tie.Need-refused-requires
 refused-requires c κs = search needs
 
--- src/lib.rt:84:9
 same-length : tie.Need-same-length
 same-length c = search needs
 
--- src/lib.rt:84:9
 returns : tie.Need-returns
 returns c = let a = c .before .before .before .before .before .args in let st = state (a .pool .now) (a .reg) in let e = writer-lent st (λ z. c .before .if1 .taken (c .before .before .lent-refusal .ensures ∙ z)) in
     (c .refused .ensures .0 ∙ rw (c .before .before .lent-refusal .ensures) (sym (ap (λ (o : Outcome). o .answer) e)), rw (c .refused .ensures .1) (sym (ap (λ (o : Outcome). o .after) e)))
 
--- src/lib.rt:88:9
 refused-requires-2 : tie.Need-refused-requires-2
 refused-requires-2 c κs = search needs
 
--- src/lib.rt:88:9
 same-length-2 : tie.Need-same-length-2
 same-length-2 c = search needs
 
--- src/lib.rt:88:9
 returns-2 : tie.Need-returns-2
 returns-2 c = let a = c .before .before .before .before .before .before .before .before .args in let st = state (a .pool .now) (a .reg) in let w : writeInHand st ≡ false = rw (eq-eqb _ _ (c .before .if2 .taken)) in let e = writer-idle st (sym (c .before .before .before .before .before .lent-refusal .ensures) ∙ c .before .before .before .before .if1 .left) w in
     (c .refused2 .ensures .0 ∙ sym (ap (λ (o : Outcome). o .answer) e), rw (c .refused2 .ensures .1) (sym (ap (λ (o : Outcome). o .after) e)))
 
--- src/lib.rt:91:9
 same-length-3 : tie.Need-same-length-3
 same-length-3 c = search needs
 
--- src/lib.rt:91:9
 returns-3 : tie.Need-returns-3
 returns-3 c = let a = c .before .before .before .before .before .before .before .before .before .args in let st = state (a .pool .now) (a .reg) in let w : writeInHand st ≡ true = rw (ne-eqb _ _ (c .before .before .if2 .left)) in let e = writer-waits st (sym (c .before .before .before .before .before .before .lent-refusal .ensures) ∙ c .before .before .before .before .before .if1 .left) w (c .if3 .taken) in
     (sym (ap (λ (o : Outcome). o .answer) e), sym (ap (λ (o : Outcome). o .after) e))
 
--- src/lib.rt:96:5
 make-first-requires : tie.Need-make-first-requires
 make-first-requires c κs = let a = c .before .before .before .before .before .before .before .before .before .before .args in let st = state (a .pool .now) (a .reg) in let w : writeInHand st ≡ true = rw (ne-eqb _ _ (c .before .before .before .if2 .left)) in (sym (c .before .before .before .before .before .before .before .lent-refusal .ensures) ∙ c .before .before .before .before .before .before .if1 .left, w, c .before .if3 .left)
 
--- src/lib.rt:78:1
 same-length-4 : tie.Need-same-length-4
 same-length-4 c = search needs
 
--- src/lib.rt:78:1
 returns-4 : tie.Need-returns-4
 returns-4 c = c .before .before .make-first .ensures
 

@@ -9,23 +9,18 @@ use Rattle.lookups.proofs.load.Lts as lts
 use Rattle.queue.proofs.end_reading.Reads as end-reading-reads
 use Rattle.register.proofs.with_reader.Reads as with-reader-reads
 
--- src/lib.rt:106:13
 end-reading-requires : tie.Need-end-reading-requires
 end-reading-requires c κs = search needs
 
--- src/lib.rt:107:9
 same-length : tie.Need-same-length
 same-length c = search needs
 
--- src/lib.rt:107:9
 returns : tie.Need-returns
 returns c = rw (eq-eqb _ _ (c .before .before .before .before .if1 .taken)) (refl, rw (c .before .before .end-reading .ensures .0, c .before .before .end-reading .ensures .1))
 
--- src/lib.rt:117:9
 with-reader-requires : tie.Need-with-reader-requires
 with-reader-requires c κs = search needs
 
--- src/lib.rt:100:1
 returns-2 : tie.Need-returns-2
 returns-2 c = rw (ne-eqb _ _ (c .before .if1 .left)) (refl, rw (c .with-reader .ensures))
 

@@ -16,61 +16,47 @@ use Rattle.pool.proofs.word.Reads as word-reads
 use Rattle.queue.proofs.end_reading.Reads as end-reading-reads
 use Rattle.search.proofs.child_towards.Reads as child-towards-reads
 
--- src/lib.rt:131:13
 mul-x : tie.Need-mul-x
 mul-x c = search needs
 
--- src/lib.rt:131:13
 element-copy-out-x : tie.Need-element-copy-out-x
 element-copy-out-x c = search needs
 
--- src/lib.rt:135:9
 load-requires : tie.Need-load-requires
 load-requires c κs = search needs
 
--- src/lib.rt:135:9
 same-length : tie.Need-same-length
 same-length c = search needs
 
--- src/lib.rt:135:9
 returns : tie.Need-returns
 unfolding readerStep
 returns c = rw (eq-eqb _ _ (c .before .before .before .before .if1 .taken)) (c .before .before .load .ensures)
 
--- src/lib.rt:137:9
 word-requires : tie.Need-word-requires
 word-requires c κs = search needs
 
--- src/lib.rt:139:13
 word-requires-2 : tie.Need-word-requires-2
 word-requires-2 c κs = search needs
 
--- src/lib.rt:140:13
 end-reading-requires : tie.Need-end-reading-requires
 end-reading-requires c κs = search needs
 
--- src/lib.rt:141:9
 same-length-2 : tie.Need-same-length-2
 same-length-2 c = search needs
 
--- src/lib.rt:141:9
 returns-2 : tie.Need-returns-2
 unfolding readerStep
 returns-2 c = rw (ne-eqb _ _ (c .before .before .before .before .before .before .before .before .before .if1 .left), ← (c .before .before .before .before .before .before .before .word .ensures), eq-eqb _ _ (c .before .before .before .before .before .before .if2 .taken), ← (c .before .before .before .before .word2 .ensures)) (refl, rw (c .before .before .end-reading .ensures .0, c .before .before .end-reading .ensures .1))
 
--- src/lib.rt:146:9
 child-towards-requires : tie.Need-child-towards-requires
 child-towards-requires c κs = search needs
 
--- src/lib.rt:147:5
 load-requires-2 : tie.Need-load-requires-2
 load-requires-2 c κs = search needs
 
--- src/lib.rt:125:1
 same-length-3 : tie.Need-same-length-3
 same-length-3 c = search needs
 
--- src/lib.rt:125:1
 returns-3 : tie.Need-returns-3
 unfolding readerStep
 returns-3 c = let x = readerOf (c .before .before .before .before .before .before .before .before .before .before .before .before .args .t2) (c .before .before .before .before .before .before .before .before .before .before .before .before .args .s) in let e : eqb (x .key) (word (c .before .before .before .before .before .before .before .before .before .before .before .before .args .pool .now) (x .node) keyWord) ≡ false = rw (← (c .before .before .before .before .before .before .before .word .ensures)) (ne-eqb _ _ (c .before .before .before .before .before .before .if2 .left)) in

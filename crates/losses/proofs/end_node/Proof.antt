@@ -11,32 +11,25 @@ use Rattle.losses.proofs.end_node.Lts as lts
 use Rattle.paths.proofs.link_in.Reads as link-in-reads
 use Rattle.register.proofs.node_at.Reads as node-at-reads
 
--- src/lib.rt:50:9
 returns : tie.Need-returns
 returns c = rw (eq-eqb (c .before .before .before .args .m) 0 (c .if1 .taken))
 
--- src/lib.rt:53:9
 returns-2 : tie.Need-returns-2
 unfolding nodeAt
 returns-2 c = rw (ne-eqb (c .before .before .before .before .args .m) 0 (c .before .if1 .left), link-past (c .before .before .before .before .args .path .now) (c .before .before .before .before .args .c) (c .before .before .before .before .args .m) (c .if2 .taken))
 
--- src/lib.rt:55:56
 sub-link-in : tie.Need-sub-link-in
 sub-link-in c = search needs
 
--- src/lib.rt:55:56
 sub-link-in-2 : tie.Need-sub-link-in-2
 sub-link-in-2 c = search needs
 
--- src/lib.rt:55:35
 link-in-requires : tie.Need-link-in-requires
 link-in-requires c κs = search needs
 
--- src/lib.rt:55:5
 node-at-requires : tie.Need-node-at-requires
 node-at-requires c κs = search needs
 
--- src/lib.rt:45:1
 returns-3 : tie.Need-returns-3
 returns-3 c = rw (ne-eqb (c .before .before .before .before .before .before .args .m) 0 (c .before .before .before .if1 .left), link-at-level (c .before .before .before .before .before .before .args .path .now) (c .before .before .before .before .before .before .args .c) (c .before .before .before .before .before .before .args .m) (c .before .before .if2 .left), c .node-at .ensures, c .before .link-in .ensures)
 

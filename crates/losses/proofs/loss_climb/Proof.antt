@@ -13,24 +13,19 @@ use Rattle.climbs.proofs.climb.Reads as climb-reads
 use Rattle.climbs.proofs.sink.Reads as sink-reads
 use Rattle.pool.proofs.is_red.Reads as is-red-reads
 
--- src/lib.rt:38:8
 is-red-requires : tie.Need-is-red-requires
 is-red-requires c κs = search needs
 
--- src/lib.rt:39:9
 climb-requires : tie.Need-climb-requires
 climb-requires c κs = search needs
 
--- src/lib.rt:39:9
 returns : tie.Need-returns
 unfolding lossClimb
 returns c = let e : isRed (c .before .before .before .before .before .args .pool .now) (c .before .before .before .before .before .args .n) ≡ true = sym (c .before .before .is-red .ensures) ∙ c .before .if1 .taken in rw (e, c .climb .ensures)
 
--- src/lib.rt:41:5
 sink-requires : tie.Need-sink-requires
 sink-requires c κs = search needs
 
--- src/lib.rt:34:1
 returns-2 : tie.Need-returns-2
 unfolding lossClimb
 returns-2 c = let e : isRed (c .before .before .before .before .before .args .pool .now) (c .before .before .before .before .before .args .n) ≡ false = sym (c .before .before .is-red .ensures) ∙ c .before .if1 .left in rw e (c .sink .ensures)

@@ -9,19 +9,15 @@ use Rattle.losses.proofs.only_child.Lts as lts
 use Rattle.pool.proofs.child.Reads as child-reads
 use Rattle.register.proofs.choose.Reads as choose-reads
 
--- src/lib.rt:28:9
 child-requires : tie.Need-child-requires
 child-requires c κs = search needs
 
--- src/lib.rt:29:9
 child-requires-2 : tie.Need-child-requires-2
 child-requires-2 c κs = search needs
 
--- src/lib.rt:30:5
 choose-requires : tie.Need-choose-requires
 choose-requires c κs = search needs
 
--- src/lib.rt:25:1
 returns : tie.Need-returns
 returns c = rw (c .choose .ensures, c .before .child2 .ensures, c .before .before .child .ensures)
 

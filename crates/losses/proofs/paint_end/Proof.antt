@@ -11,11 +11,9 @@ use Rattle.pool.proofs.set_word.Reads as set-word-reads
 enum-told : tie.Need-enum-told
 enum-told c = search needs
 
--- src/lib.rt:64:43
 enum-told-2 : tie.Need-enum-told-2
 enum-told-2 c = search needs
 
--- src/lib.rt:64:28
 set-word-requires : tie.Need-set-word-requires
 set-word-requires c κs = search needs
 
@@ -28,27 +26,21 @@ enum-told-4 c = search needs
 enum-told-5 : tie.Need-enum-told-5
 enum-told-5 c = search needs
 
--- src/lib.rt:59:1
 returns : tie.Need-returns
 returns c = λ reg. rw (c .enum-told .given .1)
 
--- src/lib.rt:59:1
 same-length : tie.Need-same-length
 same-length c = search needs
 
--- src/lib.rt:59:1
 returns-2 : tie.Need-returns-2
 returns-2 c = λ reg. rw (c .before .before .before .before .enum-told2 .given .1) (c .before .before .set-word .ensures)
 
--- src/lib.rt:59:1
 returns-3 : tie.Need-returns-3
 returns-3 c = λ reg. rw (c .enum-told3 .given .1)
 
--- src/lib.rt:59:1
 returns-4 : tie.Need-returns-4
 returns-4 c = λ reg. rw (c .enum-told4 .given .1)
 
--- src/lib.rt:59:1
 returns-5 : tie.Need-returns-5
 returns-5 c = λ reg. rw (c .enum-told5 .given .1)
 

@@ -11,23 +11,18 @@ use Rattle.climbs.proofs.paint_sink.Reads as paint-sink-reads
 use Rattle.losses.proofs.end_node.Reads as end-node-reads
 use Rattle.losses.proofs.paint_end.Reads as paint-end-reads
 
--- src/lib.rt:76:9
 end-node-requires : tie.Need-end-node-requires
 end-node-requires c κs = search needs
 
--- src/lib.rt:77:5
 paint-sink-requires : tie.Need-paint-sink-requires
 paint-sink-requires c κs = search needs
 
--- src/lib.rt:79:5
 paint-end-requires : tie.Need-paint-end-requires
 paint-end-requires c κs = search needs
 
--- src/lib.rt:72:1
 same-length : tie.Need-same-length
 same-length c = search needs
 
--- src/lib.rt:72:1
 returns : tie.Need-returns
 unfolding paintLoss
 returns c = λ reg e. rw (c .before .before .paint-end .ensures reg, c .before .before .before .before .before .before .paint-sink .ensures, c .before .before .before .before .before .before .before .before .end-node .ensures, e)

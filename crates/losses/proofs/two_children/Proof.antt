@@ -8,15 +8,12 @@ use Rattle.losses.proofs.two_children.Reads as reads
 use Rattle.losses.proofs.two_children.Lts as lts
 use Rattle.pool.proofs.child.Reads as child-reads
 
--- src/lib.rt:19:9
 child-requires : tie.Need-child-requires
 child-requires c κs = search needs
 
--- src/lib.rt:20:9
 child-requires-2 : tie.Need-child-requires-2
 child-requires-2 c κs = search needs
 
--- src/lib.rt:16:1
 returns : tie.Need-returns
 returns c = rw (c .child2 .ensures, c .before .child .ensures)
 

@@ -30,7 +30,6 @@ trail-at t = and 2 trail-kinds.ps (is 2 trail-kinds.ps μ-trail t) trail.Pre
 abbrev trail-below : ℕ → In 2 trail-kinds.ps
 trail-below t = and 2 trail-kinds.ps (falls 2 trail-kinds.ps _<_ μ-trail t) trail.Pre
 
--- src/lib.rt:89:15
 trail-code-of-requires : (t : ℕ) → trail-lts.Need-code-of-requires (
   code-of-reads.Asked,
   code-of-reads.Learnt,
@@ -47,7 +46,6 @@ trail-code-of-requires : (t : ℕ) → trail-lts.Need-code-of-requires (
 ) (trail-at t) trail.Post
 trail-code-of-requires t c κs = search needs
 
--- src/lib.rt:89:5
 trail-mul-path : (t : ℕ) → trail-lts.Need-mul-path (
   code-of-reads.Asked,
   code-of-reads.Learnt,
@@ -64,7 +62,6 @@ trail-mul-path : (t : ℕ) → trail-lts.Need-mul-path (
 ) (trail-at t) trail.Post
 trail-mul-path t c = search needs
 
--- src/lib.rt:89:5
 trail-slice-write-path : (t : ℕ) → trail-lts.Need-slice-write-path (
   code-of-reads.Asked,
   code-of-reads.Learnt,
@@ -81,7 +78,6 @@ trail-slice-write-path : (t : ℕ) → trail-lts.Need-slice-write-path (
 ) (trail-at t) trail.Post
 trail-slice-write-path t c = search needs
 
--- src/lib.rt:90:8
 trail-same-link-requires : (t : ℕ) → trail-lts.Need-same-link-requires (
   code-of-reads.Asked,
   code-of-reads.Learnt,
@@ -98,7 +94,6 @@ trail-same-link-requires : (t : ℕ) → trail-lts.Need-same-link-requires (
 ) (trail-at t) trail.Post
 trail-same-link-requires t c κs = search needs
 
--- src/lib.rt:91:16
 trail-add-result : (t : ℕ) → trail-lts.Need-add-result (
   code-of-reads.Asked,
   code-of-reads.Learnt,
@@ -115,7 +110,6 @@ trail-add-result : (t : ℕ) → trail-lts.Need-add-result (
 ) (trail-at t) trail.Post
 trail-add-result t c = search needs
 
--- src/lib.rt:91:9
 trail-same-length : (t : ℕ) → trail-lts.Need-same-length (
   code-of-reads.Asked,
   code-of-reads.Learnt,
@@ -132,7 +126,6 @@ trail-same-length : (t : ℕ) → trail-lts.Need-same-length (
 ) (trail-at t) trail.Post
 trail-same-length t c = search needs
 
--- src/lib.rt:91:9
 trail-returns : (t : ℕ) → trail-lts.Need-returns (
   code-of-reads.Asked,
   code-of-reads.Learnt,
@@ -150,7 +143,6 @@ trail-returns : (t : ℕ) → trail-lts.Need-returns (
 trail-returns t c = let a = c .before .before .before .before .before .args in let e : sameLink (a .l) (a .t) ≡ true = sym (c .before .same-link .ensures) ∙ c .if1 .taken in
     (rw (c .before .before .code-of .ensures) (upward-push (a .path .now) (a .c) (a .l) (omega (arith, c .before .before .before .before .before .pre)) (c .before .before .before .before .before .pre .1 .1) ∙ sym (trail-here (a .pool .now) (a .k) (a .t) (a .l) (a .n) (upward (a .path .now) (a .c)) (64 - a .c) e)), omega (arith, c .before .before .before .before .before .pre))
 
--- src/lib.rt:94:9
 trail-same-length-2 : (t : ℕ) → trail-lts.Need-same-length-2 (
   code-of-reads.Asked,
   code-of-reads.Learnt,
@@ -167,7 +159,6 @@ trail-same-length-2 : (t : ℕ) → trail-lts.Need-same-length-2 (
 ) (trail-at t) trail.Post
 trail-same-length-2 t c = search needs
 
--- src/lib.rt:94:9
 trail-returns-2 : (t : ℕ) → trail-lts.Need-returns-2 (
   code-of-reads.Asked,
   code-of-reads.Learnt,
@@ -185,7 +176,6 @@ trail-returns-2 : (t : ℕ) → trail-lts.Need-returns-2 (
 trail-returns-2 t c = let a = c .before .before .before .before .before .before .args in let e : sameLink (a .l) (a .t) ≡ false = sym (c .before .before .same-link .ensures) ∙ c .before .if1 .left in
     (upward-none _ ∙ sym (trail-end (a .pool .now) (a .k) (a .t) (a .l) (a .n) (upward (a .path .now) (a .c)) (64 - a .c) e (c .if2 .taken)), omega arith)
 
--- src/lib.rt:97:9
 trail-same-length-3 : (t : ℕ) → trail-lts.Need-same-length-3 (
   code-of-reads.Asked,
   code-of-reads.Learnt,
@@ -202,7 +192,6 @@ trail-same-length-3 : (t : ℕ) → trail-lts.Need-same-length-3 (
 ) (trail-at t) trail.Post
 trail-same-length-3 t c = search needs
 
--- src/lib.rt:97:9
 trail-returns-3 : (t : ℕ) → trail-lts.Need-returns-3 (
   code-of-reads.Asked,
   code-of-reads.Learnt,
@@ -220,7 +209,6 @@ trail-returns-3 : (t : ℕ) → trail-lts.Need-returns-3 (
 trail-returns-3 t c = let a = c .before .before .before .before .before .before .before .args in let e : sameLink (a .l) (a .t) ≡ false = sym (c .before .before .before .same-link .ensures) ∙ c .before .before .if1 .left in
     (upward-none _ ∙ sym (trail-deep (a .pool .now) (a .k) (a .t) (a .l) (a .n) (upward (a .path .now) (a .c)) (64 - a .c) e (let h = c .if3 .taken in omega arith)), omega arith)
 
--- src/lib.rt:99:9
 trail-towards-requires : (t : ℕ) → trail-lts.Need-towards-requires (
   code-of-reads.Asked,
   code-of-reads.Learnt,
@@ -237,7 +225,6 @@ trail-towards-requires : (t : ℕ) → trail-lts.Need-towards-requires (
 ) (trail-at t) trail.Post
 trail-towards-requires t c κs = search needs
 
--- src/lib.rt:100:9
 trail-child-requires : (t : ℕ) → trail-lts.Need-child-requires (
   code-of-reads.Asked,
   code-of-reads.Learnt,
@@ -254,7 +241,6 @@ trail-child-requires : (t : ℕ) → trail-lts.Need-child-requires (
 ) (trail-at t) trail.Post
 trail-child-requires t c κs = search needs
 
--- src/lib.rt:101:9
 trail-link-at-requires : (t : ℕ) → trail-lts.Need-link-at-requires (
   code-of-reads.Asked,
   code-of-reads.Learnt,
@@ -271,7 +257,6 @@ trail-link-at-requires : (t : ℕ) → trail-lts.Need-link-at-requires (
 ) (trail-at t) trail.Post
 trail-link-at-requires t c κs = search needs
 
--- src/lib.rt:102:42
 trail-add-trail : (t : ℕ) → trail-lts.Need-add-trail (
   code-of-reads.Asked,
   code-of-reads.Learnt,
@@ -288,7 +273,6 @@ trail-add-trail : (t : ℕ) → trail-lts.Need-add-trail (
 ) (trail-at t) trail.Post
 trail-add-trail t c = search needs
 
--- src/lib.rt:102:5
 trail-trail-requires : (t : ℕ) → trail-lts.Need-trail-requires (
   code-of-reads.Asked,
   code-of-reads.Learnt,
@@ -305,7 +289,6 @@ trail-trail-requires : (t : ℕ) → trail-lts.Need-trail-requires (
 ) (trail-at t) trail.Post
 trail-trail-requires t c κs = let a = c .before .before .before .before .before .before .before .before .before .before .before .args in let h = c .before .before .before .before .if3 .left in (omega (arith, c .before .before .before .before .before .before .before .before .before .before .before .pre), (omega (arith, c .before .before .before .before .before .before .before .before .before .before .before .pre), rw (c .before .link-at .ensures, owner-at) (omega (arith, c .before .before .before .before .before .before .before .before .before .before .before .fits .n)), length-set (a .path .now) (a .c) (c .before .before .before .before .before .before .before .before .code-of .result) ∙ c .before .before .before .before .before .before .before .before .before .before .before .pre .1 .2))
 
--- src/lib.rt:83:1
 trail-same-length-4 : (t : ℕ) → trail-lts.Need-same-length-4 (
   code-of-reads.Asked,
   code-of-reads.Learnt,
@@ -322,7 +305,6 @@ trail-same-length-4 : (t : ℕ) → trail-lts.Need-same-length-4 (
 ) (trail-at t) trail.Post
 trail-same-length-4 t c = let a = c .before .before .before .before .before .before .before .before .before .before .before .before .before .before .args in omega (arith, c .before .before .trail .kept .1 .1 .1 .1 .1 .0, length-set (a .path .now) (a .c) (c .before .before .before .before .before .before .before .before .before .before .before .code-of .result))
 
--- src/lib.rt:83:1
 trail-returns-4 : (t : ℕ) → trail-lts.Need-returns-4 (
   code-of-reads.Asked,
   code-of-reads.Learnt,

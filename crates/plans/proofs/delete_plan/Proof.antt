@@ -17,52 +17,40 @@ use Rattle.plans.proofs.successor_plan.Reads as successor-plan-reads
 use Rattle.plans.proofs.unlink_plan.Reads as unlink-plan-reads
 use Rattle.pool.proofs.word.Reads as word-reads
 
--- src/lib.rt:186:9
 word-requires : tie.Need-word-requires
 word-requires c κs = search needs
 
--- src/lib.rt:187:52
 slice-aggregate-path-to : tie.Need-slice-aggregate-path-to
 slice-aggregate-path-to c = search needs
 
--- src/lib.rt:187:9
 path-to-requires : tie.Need-path-to-requires
 path-to-requires c κs = search needs
 
--- src/lib.rt:188:8
 two-children-requires : tie.Need-two-children-requires
 two-children-requires c κs = search needs
 
--- src/lib.rt:189:48
 slice-aggregate-successor-path : tie.Need-slice-aggregate-successor-path
 slice-aggregate-successor-path c = search needs
 
--- src/lib.rt:189:13
 successor-path-requires : tie.Need-successor-path-requires
 successor-path-requires c κs = search needs
 
--- src/lib.rt:190:48
 slice-aggregate-successor-plan : tie.Need-slice-aggregate-successor-plan
 slice-aggregate-successor-plan c = search needs
 
--- src/lib.rt:190:9
 successor-plan-requires : tie.Need-successor-plan-requires
 successor-plan-requires c κs = search needs
 
--- src/lib.rt:190:9
 returns : tie.Need-returns
 returns c = let a = c .before .before .before .before .before .before .before .before .before .before .before .before .args in let e : twoChildren (a .pool .now) (a .b) ≡ true = sym (c .before .before .before .before .before .before .two-children .ensures) ∙ c .before .before .before .before .before .if1 .taken in
     rw (delete-two (state (a .pool .now) (a .reg)) (a .l) (a .b) e, ← (c .before .before .before .before .before .before .before .before .before .before .word .ensures), ← (c .before .before .before .before .before .before .before .before .path-to .ensures .0), ← (c .before .before .before .successor-path .ensures .0)) (c .successor-plan .ensures)
 
--- src/lib.rt:192:34
 slice-aggregate-unlink-plan : tie.Need-slice-aggregate-unlink-plan
 slice-aggregate-unlink-plan c = search needs
 
--- src/lib.rt:192:5
 unlink-plan-requires : tie.Need-unlink-plan-requires
 unlink-plan-requires c κs = search needs
 
--- src/lib.rt:181:1
 returns-2 : tie.Need-returns-2
 returns-2 c = let a = c .before .before .before .before .before .before .before .before .before .args in let e : twoChildren (a .pool .now) (a .b) ≡ false = sym (c .before .before .before .two-children .ensures) ∙ c .before .before .if1 .left in
     rw (delete-one (state (a .pool .now) (a .reg)) (a .l) (a .b) e, ← (c .before .before .before .before .before .before .before .word .ensures), ← (c .before .before .before .before .before .path-to .ensures .0)) (c .unlink-plan .ensures)

@@ -15,39 +15,30 @@ use Rattle.paths.proofs.path_to.Reads as path-to-reads
 use Rattle.pool.proofs.is_red.Reads as is-red-reads
 use Rattle.register.proofs.owner.Reads as owner-reads
 
--- src/lib.rt:96:27
 owner-requires : tie.Need-owner-requires
 owner-requires c κs = search needs
 
--- src/lib.rt:96:8
 is-red-requires : tie.Need-is-red-requires
 is-red-requires c κs = search needs
 
--- src/lib.rt:97:9
 climb-requires : tie.Need-climb-requires
 climb-requires c κs = search needs
 
--- src/lib.rt:97:9
 returns : tie.Need-returns
 returns c = let e : isRed (c .before .before .before .before .before .args .pool .now) (owner (c .before .before .before .before .before .args .l)) ≡ false = rw (← (c .before .before .before .owner .ensures), ← (c .before .before .is-red .ensures)) (c .before .if1 .left) in rw (e, c .climb .ensures)
 
--- src/lib.rt:100:46
 slice-aggregate-path-to : tie.Need-slice-aggregate-path-to
 slice-aggregate-path-to c = search needs
 
--- src/lib.rt:100:9
 path-to-requires : tie.Need-path-to-requires
 path-to-requires c κs = search needs
 
--- src/lib.rt:101:24
 slice-aggregate-rise : tie.Need-slice-aggregate-rise
 slice-aggregate-rise c = search needs
 
--- src/lib.rt:101:5
 rise-requires : tie.Need-rise-requires
 rise-requires c κs = search needs
 
--- src/lib.rt:93:1
 returns-2 : tie.Need-returns-2
 returns-2 c = let e : isRed (c .before .before .before .before .before .before .before .before .before .args .pool .now) (owner (c .before .before .before .before .before .before .before .before .before .args .l)) ≡ true = rw (← (c .before .before .before .before .before .before .before .owner .ensures), ← (c .before .before .before .before .before .before .is-red .ensures)) (c .before .before .before .before .before .if1 .taken) in rw (e, c .rise .ensures, c .before .before .before .path-to .ensures .0)
 

@@ -15,20 +15,16 @@ use Rattle.plans.proofs.insert_climb.Reads as insert-climb-reads
 use Rattle.plans.proofs.one_store.Reads as one-store-reads
 use Rattle.plans.proofs.plan.Reads as plan-reads
 
--- src/lib.rt:140:9
 insert-climb-requires : tie.Need-insert-climb-requires
 insert-climb-requires c κs = search needs
 
--- src/lib.rt:142:10
 one-store-requires : tie.Need-one-store-requires
 one-store-requires c κs = search needs
 
--- src/lib.rt:142:5
 plan-requires : tie.Need-plan-requires
 unfolding writeOf insertClimb
 plan-requires c κs = let a = c .before .before .before .args in let h = insert-short (state (a .pool .now) (a .reg)) (a .k) (a .l) in rw (c .one-store .ensures, c .before .insert-climb .ensures) (omega arith)
 
--- src/lib.rt:136:1
 returns : tie.Need-returns
 unfolding insertPlan insertClimb
 returns c = let a = c .before .before .before .before .args in let st = state (a .pool .now) (a .reg) in let h = insert-short st (a .k) (a .l) in

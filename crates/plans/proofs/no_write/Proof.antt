@@ -8,7 +8,6 @@ use Rattle.plans.proofs.no_write.Tie as tie
 use Rattle.plans.proofs.no_write.Reads as reads
 use Rattle.plans.proofs.no_write.Lts as lts
 
--- src/lib.rt:33:1
 returns : tie.Need-returns
 unfolding writeOf
 returns c = refl

@@ -13,16 +13,13 @@ use Rattle.plans.proofs.one_store.Lts as lts
 use Rattle.plans.proofs.no_write.Reads as no-write-reads
 use Rattle.plans.proofs.push.Reads as push-reads
 
--- src/lib.rt:61:10
 no-write-requires : tie.Need-no-write-requires
 no-write-requires c κs = search needs
 
--- src/lib.rt:61:5
 push-requires : tie.Need-push-requires
 unfolding writeOf
 push-requires c κs = rw (c .no-write .ensures) (omega arith)
 
--- src/lib.rt:58:1
 returns : tie.Need-returns
 returns c = rw (c .push .ensures, c .before .no-write .ensures) (push-write [] (store (c .before .before .args .l) (c .before .before .args .s) ∷ []) (omega arith))
 

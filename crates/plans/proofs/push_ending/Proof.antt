@@ -11,55 +11,42 @@ use Rattle.plans.proofs.push_ending.Reads as reads
 use Rattle.plans.proofs.push_ending.Lts as lts
 use Rattle.plans.proofs.push_rotation.Reads as push-rotation-reads
 
--- src/lib.rt:110:25
 enum-told : tie.Need-enum-told
 enum-told c = search needs
 
--- src/lib.rt:111:28
 enum-told-2 : tie.Need-enum-told-2
 enum-told-2 c = search needs
 
--- src/lib.rt:112:24
 enum-known-e : tie.Need-enum-known-e
 enum-known-e c = search needs
 
--- src/lib.rt:112:30
 push-rotation-requires : tie.Need-push-rotation-requires
 push-rotation-requires c κs = rw (c .before .e .given .1) at (c .before .before .before .pre)
 
--- src/lib.rt:113:29
 enum-known-e-2 : tie.Need-enum-known-e-2
 enum-known-e-2 c = search needs
 
--- src/lib.rt:114:17
 push-rotation-requires-2 : tie.Need-push-rotation-requires-2
 push-rotation-requires-2 c κs = let h = rw (c .before .e2 .given .1) at (c .before .before .before .pre) in let n = length-append (rotationStores (c .before .e2 .given .0 .0)) (rotationStores (c .before .e2 .given .0 .1 .0)) in omega arith
 
--- src/lib.rt:115:13
 push-rotation-requires-3 : tie.Need-push-rotation-requires-3
 push-rotation-requires-3 c κs = let h = rw (c .before .before .e2 .given .1) at (c .before .before .before .before .pre) in let n = length-append (rotationStores (c .before .before .e2 .given .0 .0)) (rotationStores (c .before .before .e2 .given .0 .1 .0)) in rw (c .push-rotation2 .ensures, push-count) (omega arith)
 
--- src/lib.rt:117:28
 enum-told-3 : tie.Need-enum-told-3
 enum-told-3 c = search needs
 
--- src/lib.rt:105:1
 returns : tie.Need-returns
 returns c = search needs
 
--- src/lib.rt:105:1
 returns-2 : tie.Need-returns-2
 returns-2 c = search needs
 
--- src/lib.rt:105:1
 returns-3 : tie.Need-returns-3
 returns-3 c = rw (c .before .before .e .given .1) (c .push-rotation .ensures)
 
--- src/lib.rt:105:1
 returns-4 : tie.Need-returns-4
 returns-4 c = rw (c .before .before .before .e2 .given .1) (rw (c .push-rotation3 .ensures, c .before .push-rotation2 .ensures) (sym (push-append (c .before .before .before .before .before .args .w) (rotationStores (c .before .before .before .e2 .given .0 .0)) (rotationStores (c .before .before .before .e2 .given .0 .1 .0)))))
 
--- src/lib.rt:105:1
 returns-5 : tie.Need-returns-5
 returns-5 c = search needs
 

@@ -8,39 +8,30 @@ use Rattle.plans.proofs.push_rotation.Reads as reads
 use Rattle.plans.proofs.push_rotation.Lts as lts
 use Rattle.plans.proofs.push.Reads as push-reads
 
--- src/lib.rt:81:35
 enum-told : tie.Need-enum-told
 enum-told c = search needs
 
--- src/lib.rt:81:17
 push-requires : tie.Need-push-requires
 push-requires c κs = let h = rw (c .enum-told .given .1) at (c .before .before .pre) in omega arith
 
--- src/lib.rt:82:13
 push-requires-2 : tie.Need-push-requires-2
 push-requires-2 c κs = let h = rw (c .before .enum-told .given .1) at (c .before .before .before .pre) in rw (c .push .ensures) (omega arith)
 
--- src/lib.rt:85:35
 enum-told-2 : tie.Need-enum-told-2
 enum-told-2 c = search needs
 
--- src/lib.rt:85:17
 push-requires-3 : tie.Need-push-requires-3
 push-requires-3 c κs = let h = rw (c .enum-told2 .given .1) at (c .before .before .pre) in omega arith
 
--- src/lib.rt:86:17
 push-requires-4 : tie.Need-push-requires-4
 push-requires-4 c κs = let h = rw (c .before .enum-told2 .given .1) at (c .before .before .before .pre) in rw (c .push3 .ensures) (omega arith)
 
--- src/lib.rt:87:13
 push-requires-5 : tie.Need-push-requires-5
 push-requires-5 c κs = let h = rw (c .before .before .enum-told2 .given .1) at (c .before .before .before .before .pre) in rw (c .push4 .ensures, c .before .push3 .ensures) (omega arith)
 
--- src/lib.rt:71:1
 returns : tie.Need-returns
 returns c = rw (c .push2 .ensures, c .before .push .ensures, c .before .before .enum-told .given .1)
 
--- src/lib.rt:71:1
 returns-2 : tie.Need-returns-2
 returns-2 c = rw (c .push5 .ensures, c .before .push4 .ensures, c .before .before .push3 .ensures, c .before .before .before .enum-told2 .given .1)
 

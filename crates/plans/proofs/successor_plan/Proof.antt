@@ -24,48 +24,37 @@ use Rattle.pool.proofs.child.Reads as child-reads
 use Rattle.pool.proofs.word.Reads as word-reads
 use Rattle.register.proofs.node_at.Reads as node-at-reads
 
--- src/lib.rt:166:20
 no-write-requires : tie.Need-no-write-requires
 no-write-requires c κs = search needs
 
--- src/lib.rt:164:9
 returns : tie.Need-returns
 returns c = rw (upward-zero (c .before .before .before .before .args .path .now) (c .before .before .before .before .args .c) (c .before .if1 .taken)) (refl, c .no-write .ensures)
 
--- src/lib.rt:169:47
 nearest-requires : tie.Need-nearest-requires
 nearest-requires c κs = search needs
 
--- src/lib.rt:169:9
 node-at-requires : tie.Need-node-at-requires
 node-at-requires c κs = search needs
 
--- src/lib.rt:170:41
 child-requires : tie.Need-child-requires
 child-requires c κs = search needs
 
--- src/lib.rt:170:9
 loss-climb-requires : tie.Need-loss-climb-requires
 loss-climb-requires c κs = search needs
 
--- src/lib.rt:172:9
 child-requires-2 : tie.Need-child-requires-2
 child-requires-2 c κs = search needs
 
--- src/lib.rt:173:8
 child-requires-3 : tie.Need-child-requires-3
 child-requires-3 c κs = search needs
 
--- src/lib.rt:174:21
 two-stores-requires : tie.Need-two-stores-requires
 two-stores-requires c κs = search needs
 
--- src/lib.rt:174:9
 plan-requires : tie.Need-plan-requires
 unfolding writeOf
 plan-requires c κs = let a = c .before .before .before .before .before .before .before .before .before .before .before .args in rw (c .two-stores .ensures, c .before .before .before .before .loss-climb .ensures) (omega (arith, loss-short (a .pool .now) (c .before .before .before .before .before .before .node-at .result) (c .before .before .before .before .before .child .result) (upward (a .path .now) (a .c))))
 
--- src/lib.rt:174:9
 returns-2 : tie.Need-returns-2
 returns-2 c = let a = c .before .before .before .before .before .before .before .before .before .before .before .before .args in let p = a .pool .now in let st = state p (a .reg) in let path = upward (a .path .now) (a .c) in
     let n : c .before .before .before .before .before .before .before .node-at .result ≡ nextNode st path = rw (c .before .before .before .before .before .before .before .node-at .ensures, c .before .before .before .before .before .before .before .before .nearest .ensures) in
@@ -75,20 +64,16 @@ returns-2 c = let a = c .before .before .before .before .before .before .before 
     rw (successor-near st (a .l) (a .b) path (upward-some (a .path .now) (a .c) (c .before .before .before .before .before .before .before .before .before .if1 .left)) z)
     (rw (c .plan .ensures .0, i), rw (c .plan .ensures .1, c .before .two-stores .ensures, i) (push-write (store (a .l) Adopt ∷ store (a .l) Replace ∷ []) (endingStores (nextLoss st path)) (omega arith)))
 
--- src/lib.rt:176:9
 word-requires : tie.Need-word-requires
 word-requires c κs = search needs
 
--- src/lib.rt:177:10
 two-stores-requires-2 : tie.Need-two-stores-requires-2
 two-stores-requires-2 c κs = search needs
 
--- src/lib.rt:177:5
 plan-requires-2 : tie.Need-plan-requires-2
 unfolding writeOf
 plan-requires-2 c κs = let a = c .before .before .before .before .before .before .before .before .before .before .before .before .args in rw (c .two-stores2 .ensures, c .before .before .before .before .before .loss-climb .ensures) (omega (arith, loss-short (a .pool .now) (c .before .before .before .before .before .before .before .node-at .result) (c .before .before .before .before .before .before .child .result) (upward (a .path .now) (a .c))))
 
--- src/lib.rt:158:1
 returns-3 : tie.Need-returns-3
 returns-3 c = let a = c .before .before .before .before .before .before .before .before .before .before .before .before .before .args in let p = a .pool .now in let st = state p (a .reg) in let path = upward (a .path .now) (a .c) in
     let n : c .before .before .before .before .before .before .before .before .node-at .result ≡ nextNode st path = rw (c .before .before .before .before .before .before .before .before .node-at .ensures, c .before .before .before .before .before .before .before .before .before .nearest .ensures) in

@@ -13,16 +13,13 @@ use Rattle.plans.proofs.two_stores.Lts as lts
 use Rattle.plans.proofs.one_store.Reads as one-store-reads
 use Rattle.plans.proofs.push.Reads as push-reads
 
--- src/lib.rt:67:10
 one-store-requires : tie.Need-one-store-requires
 one-store-requires c κs = search needs
 
--- src/lib.rt:67:5
 push-requires : tie.Need-push-requires
 unfolding writeOf
 push-requires c κs = rw (c .one-store .ensures) (omega arith)
 
--- src/lib.rt:64:1
 returns : tie.Need-returns
 returns c = rw (c .push .ensures, c .before .one-store .ensures) (push-write (store (c .before .before .args .l) (c .before .before .args .s) ∷ []) (store (c .before .before .args .l) (c .before .before .args .t) ∷ []) (omega arith))
 

@@ -17,24 +17,19 @@ use Rattle.losses.proofs.only_child.Reads as only-child-reads
 use Rattle.plans.proofs.one_store.Reads as one-store-reads
 use Rattle.plans.proofs.plan.Reads as plan-reads
 
--- src/lib.rt:151:9
 only-child-requires : tie.Need-only-child-requires
 only-child-requires c κs = search needs
 
--- src/lib.rt:152:9
 loss-climb-requires : tie.Need-loss-climb-requires
 loss-climb-requires c κs = search needs
 
--- src/lib.rt:154:10
 one-store-requires : tie.Need-one-store-requires
 one-store-requires c κs = search needs
 
--- src/lib.rt:154:5
 plan-requires : tie.Need-plan-requires
 unfolding writeOf
 plan-requires c κs = let a = c .before .before .before .before .before .args in let h = loss-short (a .pool .now) (a .b) (onlyChild (a .pool .now) (a .b)) (upward (a .path .now) (a .c)) in rw (c .one-store .ensures, c .before .loss-climb .ensures, c .before .before .only-child .ensures) (omega arith)
 
--- src/lib.rt:146:1
 returns : tie.Need-returns
 unfolding unlinkPlan
 returns c = let a = c .before .before .before .before .before .before .args in let p = a .pool .now in let h = loss-short p (a .b) (onlyChild p (a .b)) (upward (a .path .now) (a .c)) in

@@ -8,11 +8,9 @@ use Rattle.pool.proofs.fault.Tie as tie
 use Rattle.pool.proofs.fault.Reads as reads
 use Rattle.pool.proofs.fault.Lts as lts
 
--- src/lib.rt:99:5
 cast-result : tie.Need-cast-result
 cast-result c = search needs
 
--- src/lib.rt:96:1
 returns : tie.Need-returns
 returns c = fault-zero (c .args .w) (c .args .limit)
 

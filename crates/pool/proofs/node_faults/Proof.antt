@@ -10,131 +10,99 @@ use Rattle.pool.proofs.node_faults.Reads as reads
 use Rattle.pool.proofs.node_faults.Lts as lts
 use Rattle.pool.proofs.fault.Reads as fault-reads
 
--- src/lib.rt:107:13
 mul-i : tie.Need-mul-i
 mul-i c = search needs
 
--- src/lib.rt:107:13
 sub-i : tie.Need-sub-i
 sub-i c = search needs
 
--- src/lib.rt:108:24
 add-fault : tie.Need-add-fault
 add-fault c = search needs
 
--- src/lib.rt:108:19
 mul-fault : tie.Need-mul-fault
 mul-fault c = search needs
 
--- src/lib.rt:108:19
 shared-slice-read-fault : tie.Need-shared-slice-read-fault
 shared-slice-read-fault c = search needs
 
--- src/lib.rt:108:13
 fault-requires : tie.Need-fault-requires
 fault-requires c κs = search needs
 
--- src/lib.rt:108:50
 add-fault-2 : tie.Need-add-fault-2
 add-fault-2 c = search needs
 
--- src/lib.rt:108:45
 mul-fault-2 : tie.Need-mul-fault-2
 mul-fault-2 c = search needs
 
--- src/lib.rt:108:45
 shared-slice-read-fault-2 : tie.Need-shared-slice-read-fault-2
 shared-slice-read-fault-2 c = search needs
 
--- src/lib.rt:108:39
 fault-requires-2 : tie.Need-fault-requires-2
 fault-requires-2 c κs = search needs
 
--- src/lib.rt:108:13
 add-a : tie.Need-add-a
 add-a c = search needs
 
--- src/lib.rt:109:24
 add-fault-3 : tie.Need-add-fault-3
 add-fault-3 c = search needs
 
--- src/lib.rt:109:19
 mul-fault-3 : tie.Need-mul-fault-3
 mul-fault-3 c = search needs
 
--- src/lib.rt:109:19
 shared-slice-read-fault-3 : tie.Need-shared-slice-read-fault-3
 shared-slice-read-fault-3 c = search needs
 
--- src/lib.rt:109:13
 fault-requires-3 : tie.Need-fault-requires-3
 fault-requires-3 c κs = search needs
 
--- src/lib.rt:109:48
 add-fault-4 : tie.Need-add-fault-4
 add-fault-4 c = search needs
 
--- src/lib.rt:109:43
 mul-fault-4 : tie.Need-mul-fault-4
 mul-fault-4 c = search needs
 
--- src/lib.rt:109:43
 shared-slice-read-fault-4 : tie.Need-shared-slice-read-fault-4
 shared-slice-read-fault-4 c = search needs
 
--- src/lib.rt:109:37
 fault-requires-4 : tie.Need-fault-requires-4
 fault-requires-4 c κs = search needs
 
--- src/lib.rt:109:13
 add-b : tie.Need-add-b
 add-b c = search needs
 
--- src/lib.rt:110:24
 add-fault-5 : tie.Need-add-fault-5
 add-fault-5 c = search needs
 
--- src/lib.rt:110:19
 mul-fault-5 : tie.Need-mul-fault-5
 mul-fault-5 c = search needs
 
--- src/lib.rt:110:19
 shared-slice-read-fault-5 : tie.Need-shared-slice-read-fault-5
 shared-slice-read-fault-5 c = search needs
 
--- src/lib.rt:110:13
 fault-requires-5 : tie.Need-fault-requires-5
 fault-requires-5 c κs = search needs
 
--- src/lib.rt:110:56
 add-fault-6 : tie.Need-add-fault-6
 add-fault-6 c = search needs
 
--- src/lib.rt:110:51
 mul-fault-6 : tie.Need-mul-fault-6
 mul-fault-6 c = search needs
 
--- src/lib.rt:110:51
 shared-slice-read-fault-6 : tie.Need-shared-slice-read-fault-6
 shared-slice-read-fault-6 c = search needs
 
--- src/lib.rt:110:45
 fault-requires-6 : tie.Need-fault-requires-6
 fault-requires-6 c κs = search needs
 
--- src/lib.rt:110:13
 add-c : tie.Need-add-c
 add-c c = search needs
 
--- src/lib.rt:111:5
 add-result : tie.Need-add-result
 add-result c = search needs
 
--- src/lib.rt:111:5
 add-result-2 : tie.Need-add-result-2
 add-result-2 c = search needs
 
--- src/lib.rt:103:1
 returns : tie.Need-returns
 unfolding nodeInRange
 returns c = let l = c .before .before .before .before .before .before .before .before .before .before .before .before .before .pre .low in (rw (sum-zero, sum-zero, sum-zero, sum-zero, sum-zero, c .before .before .before .before .before .before .before .before .before .before .fault .ensures .0, c .before .before .before .before .before .before .before .before .fault2 .ensures .0, c .before .before .before .before .before .before .fault3 .ensures .0, c .before .before .before .before .fault4 .ensures .0, c .before .before .fault5 .ensures .0, c .fault6 .ensures .0, word-at _ _ 2 l, word-at _ _ 3 l, word-at _ _ 4 l, word-at _ _ 5 l, word-at _ _ 6 l, word-at _ _ 7 l), search needs)

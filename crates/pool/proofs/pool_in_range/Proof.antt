@@ -22,36 +22,28 @@ Inv-loop pool top faults₀ n₀ faults n = (1 ≤ n) × (n ≤ top + 1) × (fau
 abbrev μ-loop : tie.MeasureT-loop
 μ-loop pool top faults₀ n₀ faults n = top + 1 - n
 
--- src/lib.rt:115:9
 nodes-requires : tie.Need-nodes-requires Inv-loop μ-loop
 nodes-requires c κs = search needs
 
--- src/lib.rt:118:5
 loop-holds : tie.Need-loop-holds Inv-loop μ-loop
 unfolding poolInRange
 loop-holds c = (search needs, search needs, search needs, rw (c .nodes .ensures))
 
--- src/lib.rt:119:19
 node-faults-requires : tie.Need-node-faults-requires Inv-loop μ-loop
 node-faults-requires c κs = search needs
 
--- src/lib.rt:119:9
 add-faults : tie.Need-add-faults Inv-loop μ-loop
 add-faults c = search needs
 
--- src/lib.rt:120:9
 add-n : tie.Need-add-n Inv-loop μ-loop
 add-n c = search needs
 
--- src/lib.rt:118:5
 loop-less : tie.Need-loop-less Inv-loop μ-loop
 loop-less c = search needs
 
--- src/lib.rt:118:5
 loop-again : tie.Need-loop-again Inv-loop μ-loop
 loop-again c = let l = c .before .before .loop in let f = nodeInRange (c .before .before .before .before .before .args .pool .now) (c .before .before .before .nodes .result) in (search needs, search needs, search needs, rw (sum-zero, c .node-faults .ensures .0, and-assoc) (rw (sym (all-and f (l .n) (c .before .before .before .nodes .result + 1) (omega arith))) (l .inv .3)))
 
--- src/lib.rt:111:1
 returns : tie.Need-returns Inv-loop μ-loop
 returns c = let l = c .before .loop in sym (and-true _) ∙ (rw (all-end (nodeInRange (c .before .before .before .before .args .pool .now) (c .before .before .nodes .result)) (l .n) (c .before .before .nodes .result + 1) (omega arith)) at (l .inv .3))
 

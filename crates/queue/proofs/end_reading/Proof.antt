@@ -26,43 +26,33 @@ Inv-loop pool₀ s top r₀ n₀ pool r n = (1 ≤ n) × (length pool ≡ length
 abbrev μ-loop : tie.MeasureT-loop
 μ-loop pool₀ s top r₀ n₀ pool r n = top + 1 - n
 
--- src/lib.rt:121:9
 nodes-requires : tie.Need-nodes-requires Inv-loop μ-loop
 nodes-requires c κs = search needs
 
--- src/lib.rt:122:9
 with-reader-requires : tie.Need-with-reader-requires Inv-loop μ-loop
 with-reader-requires c κs = search needs
 
--- src/lib.rt:123:47
 drop-slot-requires : tie.Need-drop-slot-requires Inv-loop μ-loop
 drop-slot-requires c κs = search needs
 
--- src/lib.rt:123:9
 with-awaited-requires : tie.Need-with-awaited-requires Inv-loop μ-loop
 with-awaited-requires c κs = search needs
 
--- src/lib.rt:125:5
 loop-holds : tie.Need-loop-holds Inv-loop μ-loop
 loop-holds c = (search needs, refl, refl)
 
--- src/lib.rt:126:12
 is-retired-requires : tie.Need-is-retired-requires Inv-loop μ-loop
 is-retired-requires c κs = search needs
 
--- src/lib.rt:127:13
 release-requires : tie.Need-release-requires Inv-loop μ-loop
 release-requires c κs = (search needs, search needs, sym (c .before .before .is-retired .ensures) ∙ c .before .if1 .taken)
 
--- src/lib.rt:129:9
 add-n : tie.Need-add-n Inv-loop μ-loop
 add-n c = search needs
 
--- src/lib.rt:125:5
 loop-less : tie.Need-loop-less Inv-loop μ-loop
 loop-less c = search needs
 
--- src/lib.rt:125:5
 loop-again : tie.Need-loop-again Inv-loop μ-loop
 loop-again c = let l = c .before .before .before .before .loop in let s = c .before .before .before .before .before .before .before .before .before .before .before .args .s in let e = c .before .before .before .before .before .before .before .before .nodes .result + 1 in let now = state (l .pool) (l .r) in let h = c .before .before .before .loop-test .taken in
     ⊎-elim
@@ -70,11 +60,9 @@ loop-again c = let l = c .before .before .before .before .loop in let s = c .bef
     (λ w. rw (w .1, w .2) (omega arith, l .inv .1, sym (fold-step (release s) (l .n) e now (omega arith) ∙ rw (release-other s now (l .n) (sym (c .before .is-retired .ensures) ∙ w .0 .left))) ∙ l .inv .2))
     (c .if1 .came)
 
--- src/lib.rt:111:1
 same-length : tie.Need-same-length Inv-loop μ-loop
 same-length c = search needs
 
--- src/lib.rt:111:1
 returns : tie.Need-returns Inv-loop μ-loop
 unfolding endReading
 returns c = let l = c .before .loop in let s = c .before .before .before .before .before .before .before .before .args .s in let e = c .before .before .before .before .before .nodes .result + 1 in let now = state (l .pool) (l .r) in

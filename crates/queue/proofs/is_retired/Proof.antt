@@ -11,23 +11,18 @@ use Rattle.queue.proofs.is_retired.Tie as tie
 use Rattle.queue.proofs.is_retired.Reads as reads
 use Rattle.queue.proofs.is_retired.Lts as lts
 
--- src/lib.rt:93:10
 mul-result : tie.Need-mul-result
 mul-result c = search needs
 
--- src/lib.rt:93:10
 sub-result : tie.Need-sub-result
 sub-result c = search needs
 
--- src/lib.rt:93:5
 mul-result-2 : tie.Need-mul-result-2
 mul-result-2 c = search needs
 
--- src/lib.rt:93:5
 shared-slice-read-result : tie.Need-shared-slice-read-result
 shared-slice-read-result c = search needs
 
--- src/lib.rt:89:1
 returns : tie.Need-returns
 returns c = let i : c .before .args .n * 8 - 3 ≡ c .before .args .n * 8 - 8 + 5 = (let l = c .before .pre .low in omega arith) in rw (word-at (c .before .args .pool .now) (c .before .args .n) 5 (c .before .pre .low), i)
 

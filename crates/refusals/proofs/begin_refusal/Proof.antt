@@ -13,31 +13,24 @@ use Rattle.refusals.proofs.begin_refusal.Reads as reads
 use Rattle.refusals.proofs.begin_refusal.Lts as lts
 use Rattle.refusals.proofs.lent_refusal.Reads as lent-refusal-reads
 
--- src/lib.rt:62:9
 lent-refusal-requires : tie.Need-lent-refusal-requires
 lent-refusal-requires c κs = search needs
 
--- src/lib.rt:64:9
 returns : tie.Need-returns
 returns c = let st = state (c .before .before .before .args .pool .now) (c .before .before .before .args .t2) in c .before .lent-refusal .ensures ∙ sym (lent-refused st (slotTooHigh (c .before .before .before .args .s) gives 3 ∷ reading st (c .before .before .before .args .s) gives 4 ∷ []) (λ z. c .if1 .taken (c .before .lent-refusal .ensures ∙ z)))
 
--- src/lib.rt:67:9
 returns-2 : tie.Need-returns-2
 returns-2 c = let st = state (c .before .before .before .before .args .pool .now) (c .before .before .before .before .args .t2) in sym (lent-passes st (slotTooHigh (c .before .before .before .before .args .s) gives 3 ∷ reading st (c .before .before .before .before .args .s) gives 4 ∷ []) (sym (c .before .before .lent-refusal .ensures) ∙ c .before .if1 .left) ∙ rw (le-leb _ _ (c .if2 .taken)))
 
--- src/lib.rt:70:8
 mul-if3 : tie.Need-mul-if3
 mul-if3 c = search needs
 
--- src/lib.rt:70:8
 element-copy-out-if3 : tie.Need-element-copy-out-if3
 element-copy-out-if3 c = search needs
 
--- src/lib.rt:71:9
 returns-3 : tie.Need-returns-3
 returns-3 c = let st = state (c .before .before .before .before .before .args .pool .now) (c .before .before .before .before .before .args .t2) in sym (lent-passes st (slotTooHigh (c .before .before .before .before .before .args .s) gives 3 ∷ reading st (c .before .before .before .before .before .args .s) gives 4 ∷ []) (sym (c .before .before .before .lent-refusal .ensures) ∙ c .before .before .if1 .left) ∙ rw (lt-leb _ _ (c .before .if2 .left), c .if3 .taken))
 
--- src/lib.rt:59:1
 returns-4 : tie.Need-returns-4
 returns-4 c = let st = state (c .before .before .before .before .before .args .pool .now) (c .before .before .before .before .before .args .t2) in sym (lent-passes st (slotTooHigh (c .before .before .before .before .before .args .s) gives 3 ∷ reading st (c .before .before .before .before .before .args .s) gives 4 ∷ []) (sym (c .before .before .before .lent-refusal .ensures) ∙ c .before .before .if1 .left) ∙ rw (lt-leb _ _ (c .before .if2 .left), c .if3 .left))
 

@@ -15,32 +15,25 @@ use Rattle.pool.proofs.nodes.Reads as nodes-reads
 use Rattle.pool.proofs.pool_in_range.Reads as pool-in-range-reads
 use Rattle.register.proofs.register_in_range.Reads as register-in-range-reads
 
--- src/lib.rt:30:8
 length-right-requires : tie.Need-length-right-requires
 length-right-requires c κs = search needs
 
--- src/lib.rt:31:9
 returns : tie.Need-returns
 returns c = rw (sym (c .before .length-right .ensures) ∙ c .if1 .left)
 
--- src/lib.rt:33:9
 nodes-requires : tie.Need-nodes-requires
 nodes-requires c κs = right-length (c .before .before .before .args .pool .now) (sym (c .before .length-right .ensures) ∙ c .if1 .taken)
 
--- src/lib.rt:34:8
 pool-in-range-requires : tie.Need-pool-in-range-requires
 pool-in-range-requires c κs = right-length (c .before .before .before .before .args .pool .now) (sym (c .before .before .length-right .ensures) ∙ c .before .if1 .taken)
 
--- src/lib.rt:34:36
 register-in-range-requires : tie.Need-register-in-range-requires
 register-in-range-requires c κs = search needs
 
--- src/lib.rt:35:9
 returns-2 : tie.Need-returns-2
 returns-2 c = let a : lengthRight (c .before .before .before .before .before .before .before .args .pool .now) ≡ true = sym (c .before .before .before .before .before .length-right .ensures) ∙ c .before .before .before .before .if1 .taken in
     let b : (poolInRange (c .before .before .before .before .before .before .before .args .pool .now) && registerInRange (nodes (c .before .before .before .before .before .before .before .args .pool .now)) (c .before .before .before .before .before .before .before .args .reg)) ≡ false = rw (← (c .before .before .pool-in-range .ensures), ← (c .before .before .before .nodes .ensures), ← (c .before .register-in-range .ensures)) (c .if2 .left) in rw (a, b)
 
--- src/lib.rt:27:1
 returns-3 : tie.Need-returns-3
 returns-3 c = let a : lengthRight (c .before .before .before .before .before .before .before .args .pool .now) ≡ true = sym (c .before .before .before .before .before .length-right .ensures) ∙ c .before .before .before .before .if1 .taken in
     let b : (poolInRange (c .before .before .before .before .before .before .before .args .pool .now) && registerInRange (nodes (c .before .before .before .before .before .before .before .args .pool .now)) (c .before .before .before .before .before .before .before .args .reg)) ≡ true = rw (← (c .before .before .pool-in-range .ensures), ← (c .before .before .before .nodes .ensures), ← (c .before .register-in-range .ensures)) (c .if2 .taken) in rw (a, b)

@@ -8,15 +8,12 @@ use Rattle.register.proofs.add_slot.Reads as reads
 use Rattle.register.proofs.add_slot.Lts as lts
 use Rattle.register.proofs.put_slot.Reads as put-slot-reads
 
--- src/lib.rt:171:18
 put-slot-requires : tie.Need-put-slot-requires
 put-slot-requires c κs = search needs
 
--- src/lib.rt:167:1
 returns : tie.Need-returns
 returns c = rw (c .before .if1 .taken) (c .put-slot .ensures)
 
--- src/lib.rt:167:1
 returns-2 : tie.Need-returns-2
 returns-2 c = rw (c .if1 .left)
 

@@ -7,15 +7,12 @@ use Rattle.register.proofs.count_up.Tie as tie
 use Rattle.register.proofs.count_up.Reads as reads
 use Rattle.register.proofs.count_up.Lts as lts
 
--- src/lib.rt:74:18
 add-result : tie.Need-add-result
 add-result c = search needs
 
--- src/lib.rt:71:1
 returns : tie.Need-returns
 returns c = simp (lt-leb _ _ (c .if1 .taken), lt-ltb _ _ (c .if1 .taken))
 
--- src/lib.rt:71:1
 returns-2 : tie.Need-returns-2
 returns-2 c = simp (le-ltb _ _ (c .if1 .left), le-leb _ _ (c .if1 .left))
 

@@ -10,25 +10,20 @@ use Rattle.register.proofs.drop_slot.Reads as reads
 use Rattle.register.proofs.drop_slot.Lts as lts
 use Rattle.register.proofs.has_slot.Reads as has-slot-reads
 
--- src/lib.rt:161:8
 has-slot-requires : tie.Need-has-slot-requires
 has-slot-requires c κs = search needs
 
--- src/lib.rt:161:30
 shl-result : tie.Need-shl-result
 shl-result c = search needs
 
--- src/lib.rt:161:25
 sub-result : tie.Need-sub-result
 unfolding dropSlot
 sub-result c = rw (shifted (c .before .before .args .s) (c .before .before .pre)) (bit-le (c .before .before .args .s) (c .before .before .args .m) (bit-in (c .before .before .args .m) (c .before .before .args .s) (sym (c .before .has-slot .ensures) ∙ c .if1 .taken)))
 
--- src/lib.rt:157:1
 returns : tie.Need-returns
 unfolding dropSlot
 returns c = rw (shifted (c .before .before .args .s) (c .before .before .pre), sym (c .before .has-slot .ensures) ∙ c .if1 .taken)
 
--- src/lib.rt:157:1
 returns-2 : tie.Need-returns-2
 unfolding dropSlot
 returns-2 c = rw (sym (c .before .has-slot .ensures) ∙ c .if1 .left)

@@ -7,19 +7,15 @@ use Rattle.register.proofs.link_at.Tie as tie
 use Rattle.register.proofs.link_at.Reads as reads
 use Rattle.register.proofs.link_at.Lts as lts
 
--- src/lib.rt:88:20
 enum-told : tie.Need-enum-told
 enum-told c = search needs
 
--- src/lib.rt:89:20
 enum-told-2 : tie.Need-enum-told-2
 enum-told-2 c = search needs
 
--- src/lib.rt:84:1
 returns : tie.Need-returns
 returns c = rw (c .enum-told .given .1)
 
--- src/lib.rt:84:1
 returns-2 : tie.Need-returns-2
 returns-2 c = rw (c .enum-told2 .given .1)
 

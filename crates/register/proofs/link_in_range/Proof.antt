@@ -8,35 +8,27 @@ use Rattle.register.proofs.link_in_range.Reads as reads
 use Rattle.register.proofs.link_in_range.Lts as lts
 use Rattle.register.proofs.node_number.Reads as node-number-reads
 
--- src/lib.rt:198:23
 enum-told : tie.Need-enum-told
 enum-told c = search needs
 
--- src/lib.rt:199:20
 enum-known-l : tie.Need-enum-known-l
 enum-known-l c = search needs
 
--- src/lib.rt:199:26
 node-number-requires : tie.Need-node-number-requires
 node-number-requires c κs = search needs
 
--- src/lib.rt:200:21
 enum-known-l-2 : tie.Need-enum-known-l-2
 enum-known-l-2 c = search needs
 
--- src/lib.rt:200:27
 node-number-requires-2 : tie.Need-node-number-requires-2
 node-number-requires-2 c κs = search needs
 
--- src/lib.rt:194:1
 returns : tie.Need-returns
 returns c = search needs
 
--- src/lib.rt:194:1
 returns-2 : tie.Need-returns-2
 returns-2 c = rw (c .before .before .l .given .1) (c .node-number .ensures)
 
--- src/lib.rt:194:1
 returns-3 : tie.Need-returns-3
 returns-3 c = rw (c .before .before .l2 .given .1) (c .node-number2 .ensures)
 

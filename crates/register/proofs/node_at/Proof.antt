@@ -9,37 +9,29 @@ use Rattle.register.proofs.node_at.Reads as reads
 use Rattle.register.proofs.node_at.Lts as lts
 use Rattle.pool.proofs.word.Reads as word-reads
 
--- src/lib.rt:118:23
 enum-told : tie.Need-enum-told
 enum-told c = search needs
 
--- src/lib.rt:119:20
 enum-known-l : tie.Need-enum-known-l
 enum-known-l c = search needs
 
--- src/lib.rt:119:26
 word-requires : tie.Need-word-requires
 word-requires c κs = search needs
 
--- src/lib.rt:120:21
 enum-known-l-2 : tie.Need-enum-known-l-2
 enum-known-l-2 c = search needs
 
--- src/lib.rt:120:27
 word-requires-2 : tie.Need-word-requires-2
 word-requires-2 c κs = search needs
 
--- src/lib.rt:114:1
 returns : tie.Need-returns
 unfolding nodeAt
 returns c = rw (c .enum-told .given .1)
 
--- src/lib.rt:114:1
 returns-2 : tie.Need-returns-2
 unfolding nodeAt
 returns-2 c = rw (c .before .before .l .given .1) (c .word .ensures)
 
--- src/lib.rt:114:1
 returns-3 : tie.Need-returns-3
 unfolding nodeAt
 returns-3 c = rw (c .before .before .l2 .given .1) (c .word2 .ensures)

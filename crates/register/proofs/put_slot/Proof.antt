@@ -11,25 +11,20 @@ use Rattle.register.proofs.put_slot.Reads as reads
 use Rattle.register.proofs.put_slot.Lts as lts
 use Rattle.register.proofs.has_slot.Reads as has-slot-reads
 
--- src/lib.rt:154:8
 has-slot-requires : tie.Need-has-slot-requires
 has-slot-requires c κs = search needs
 
--- src/lib.rt:154:41
 shl-result : tie.Need-shl-result
 shl-result c = search needs
 
--- src/lib.rt:154:36
 add-result : tie.Need-add-result
 unfolding putSlot
 add-result c = let a : c .before .before .args .m < 2 ^ 32 = omega (arith, c .before .before .fits .m) in let b = add-below 32 (c .before .before .args .s) (c .before .before .args .m) a (c .before .before .pre) (bit-out (c .before .before .args .m) (c .before .before .args .s) (sym (c .before .has-slot .ensures) ∙ c .if1 .left)) in rw (shifted (c .before .before .args .s) (c .before .before .pre)) (omega arith)
 
--- src/lib.rt:150:1
 returns : tie.Need-returns
 unfolding putSlot
 returns c = rw (sym (c .before .has-slot .ensures) ∙ c .if1 .taken)
 
--- src/lib.rt:150:1
 returns-2 : tie.Need-returns-2
 unfolding putSlot
 returns-2 c = rw (shifted (c .before .before .args .s) (c .before .before .pre), sym (c .before .has-slot .ensures) ∙ c .if1 .left)

@@ -18,35 +18,27 @@ Inv-loop top reg ok₀ s₀ ok s = (s ≤ slots) × ((ok && allIn (readerInRange
 abbrev μ-loop : tie.MeasureT-loop
 μ-loop top reg ok₀ s₀ ok s = slots - s
 
--- src/lib.rt:270:5
 loop-holds : tie.Need-loop-holds Inv-loop μ-loop
 loop-holds c = (search needs, refl)
 
--- src/lib.rt:271:17
 cast-i : tie.Need-cast-i Inv-loop μ-loop
 cast-i c = search needs
 
--- src/lib.rt:272:20
 mul-ok : tie.Need-mul-ok Inv-loop μ-loop
 mul-ok c = search needs
 
--- src/lib.rt:272:20
 element-copy-out-ok : tie.Need-element-copy-out-ok Inv-loop μ-loop
 element-copy-out-ok c = search needs
 
--- src/lib.rt:273:9
 add-s : tie.Need-add-s Inv-loop μ-loop
 add-s c = search needs
 
--- src/lib.rt:270:5
 loop-less : tie.Need-loop-less Inv-loop μ-loop
 loop-less c = search needs
 
--- src/lib.rt:270:5
 loop-again : tie.Need-loop-again Inv-loop μ-loop
 loop-again c = let l = c .before .loop in (search needs, rw and-assoc (rw (sym (all-and (readerInRange (c .before .before .args .top) (c .before .before .args .t1)) (l .s) slots (c .loop-test .taken))) (l .inv .1)))
 
--- src/lib.rt:265:1
 returns : tie.Need-returns Inv-loop μ-loop
 returns c = let l = c .before .loop in sym (and-true _) ∙ (rw (all-end (readerInRange (c .before .before .args .top) (c .before .before .args .t1)) (l .s) slots (c .loop-test .left)) at (l .inv .1))
 

@@ -18,40 +18,31 @@ Inv-loop reg m₀ s₀ m s = (s ≤ slots) × (foldIn (addReading reg) s slots m
 abbrev μ-loop : tie.MeasureT-loop
 μ-loop reg m₀ s₀ m s = slots - s
 
--- src/lib.rt:180:5
 loop-holds : tie.Need-loop-holds Inv-loop μ-loop
 unfolding readingSlots
 loop-holds c = (search needs, refl)
 
--- src/lib.rt:181:17
 cast-i : tie.Need-cast-i Inv-loop μ-loop
 cast-i c = search needs
 
--- src/lib.rt:182:28
 mul-add-slot : tie.Need-mul-add-slot Inv-loop μ-loop
 mul-add-slot c = search needs
 
--- src/lib.rt:182:28
 element-copy-out-add-slot : tie.Need-element-copy-out-add-slot Inv-loop μ-loop
 element-copy-out-add-slot c = search needs
 
--- src/lib.rt:182:9
 add-slot-requires : tie.Need-add-slot-requires Inv-loop μ-loop
 add-slot-requires c κs = search needs
 
--- src/lib.rt:183:9
 add-s : tie.Need-add-s Inv-loop μ-loop
 add-s c = search needs
 
--- src/lib.rt:180:5
 loop-less : tie.Need-loop-less Inv-loop μ-loop
 loop-less c = search needs
 
--- src/lib.rt:180:5
 loop-again : tie.Need-loop-again Inv-loop μ-loop
 loop-again c = let l = c .before .before .loop in (search needs, rw (c .add-slot .ensures) (sym (fold-step (addReading (c .before .before .before .args .t1)) (l .s) slots (l .m) (c .before .loop-test .taken)) ∙ l .inv .1))
 
--- src/lib.rt:175:1
 returns : tie.Need-returns Inv-loop μ-loop
 returns c = let l = c .before .loop in sym (fold-end (addReading (c .before .before .args .t1)) (l .s) slots (l .m) (c .loop-test .left)) ∙ l .inv .1
 

@@ -10,15 +10,12 @@ use Rattle.register.proofs.register_in_range.Lts as lts
 use Rattle.register.proofs.readers_in_range.Reads as readers-in-range-reads
 use Rattle.register.proofs.stores_in_range.Reads as stores-in-range-reads
 
--- src/lib.rt:300:40
 readers-in-range-requires : tie.Need-readers-in-range-requires
 readers-in-range-requires c κs = search needs
 
--- src/lib.rt:300:69
 stores-in-range-requires : tie.Need-stores-in-range-requires
 stores-in-range-requires c κs = search needs
 
--- src/lib.rt:294:1
 returns : tie.Need-returns
 unfolding registerInRange
 returns c = rw (c .before .readers-in-range .ensures, c .stores-in-range .ensures)

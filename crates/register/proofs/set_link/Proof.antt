@@ -10,49 +10,38 @@ use Rattle.register.proofs.set_link.Lts as lts
 use Rattle.pool.proofs.set_word.Reads as set-word-reads
 use Rattle.register.proofs.with_root.Reads as with-root-reads
 
--- src/lib.rt:130:23
 enum-told : tie.Need-enum-told
 enum-told c = search needs
 
--- src/lib.rt:130:23
 with-root-requires : tie.Need-with-root-requires
 with-root-requires c κs = search needs
 
--- src/lib.rt:131:20
 enum-known-l : tie.Need-enum-known-l
 enum-known-l c = search needs
 
--- src/lib.rt:132:13
 set-word-requires : tie.Need-set-word-requires
 set-word-requires c κs = search needs
 
--- src/lib.rt:135:21
 enum-known-l-2 : tie.Need-enum-known-l-2
 enum-known-l-2 c = search needs
 
--- src/lib.rt:136:13
 set-word-requires-2 : tie.Need-set-word-requires-2
 set-word-requires-2 c κs = search needs
 
--- src/lib.rt:125:1
 returns : tie.Need-returns
 unfolding setLink
 returns c = rw (c .before .enum-told .given .1) (c .with-root .ensures, refl)
 
--- src/lib.rt:125:1
 same-length : tie.Need-same-length
 same-length c = search needs
 
--- src/lib.rt:125:1
 returns-2 : tie.Need-returns-2
 unfolding setLink
 returns-2 c = rw (c .before .before .before .before .before .l .given .1) (refl, c .before .before .set-word .ensures)
 
--- src/lib.rt:125:1
 same-length-2 : tie.Need-same-length-2
 same-length-2 c = search needs
 
--- src/lib.rt:125:1
 returns-3 : tie.Need-returns-3
 unfolding setLink
 returns-3 c = rw (c .before .before .before .before .before .l2 .given .1) (refl, c .before .before .set-word2 .ensures)

@@ -11,27 +11,21 @@ use Rattle.register.proofs.is_vacant.Reads as is-vacant-reads
 use Rattle.register.proofs.link_in_range.Reads as link-in-range-reads
 use Rattle.register.proofs.step_in_range.Reads as step-in-range-reads
 
--- src/lib.rt:259:9
 link-in-range-requires : tie.Need-link-in-range-requires
 link-in-range-requires c κs = search needs
 
--- src/lib.rt:259:36
 step-in-range-requires : tie.Need-step-in-range-requires
 step-in-range-requires c κs = search needs
 
--- src/lib.rt:261:9
 is-root-requires : tie.Need-is-root-requires
 is-root-requires c κs = search needs
 
--- src/lib.rt:261:25
 is-vacant-requires : tie.Need-is-vacant-requires
 is-vacant-requires c κs = search needs
 
--- src/lib.rt:253:1
 returns : tie.Need-returns
 returns c = rw (c .before .before .if1 .taken, c .before .link-in-range .ensures, c .step-in-range .ensures)
 
--- src/lib.rt:253:1
 returns-2 : tie.Need-returns-2
 returns-2 c = rw (c .before .before .if1 .left, c .before .is-root .ensures, c .is-vacant .ensures)
 

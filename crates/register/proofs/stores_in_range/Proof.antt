@@ -18,40 +18,31 @@ Inv-loop top w count ok₀ i₀ ok i = (i ≤ mostStores) × ((ok && allIn (stor
 abbrev μ-loop : tie.MeasureT-loop
 μ-loop top w count ok₀ i₀ ok i = mostStores - i
 
--- src/lib.rt:284:5
 loop-holds : tie.Need-loop-holds Inv-loop μ-loop
 loop-holds c = (search needs, refl)
 
--- src/lib.rt:285:18
 cast-at : tie.Need-cast-at Inv-loop μ-loop
 cast-at c = search needs
 
--- src/lib.rt:286:17
 mul-x : tie.Need-mul-x Inv-loop μ-loop
 mul-x c = search needs
 
--- src/lib.rt:286:17
 element-copy-out-x : tie.Need-element-copy-out-x Inv-loop μ-loop
 element-copy-out-x c = search needs
 
--- src/lib.rt:287:19
 store-in-range-requires : tie.Need-store-in-range-requires Inv-loop μ-loop
 store-in-range-requires c κs = search needs
 
--- src/lib.rt:288:9
 add-i : tie.Need-add-i Inv-loop μ-loop
 add-i c = search needs
 
--- src/lib.rt:284:5
 loop-less : tie.Need-loop-less Inv-loop μ-loop
 loop-less c = search needs
 
--- src/lib.rt:284:5
 loop-again : tie.Need-loop-again Inv-loop μ-loop
 unfolding storeInRange
 loop-again c = let l = c .before .before .before .loop in let f = storeInRange (c .before .before .before .before .args .top) (c .before .before .before .before .args .t1) in (search needs, rw (c .store-in-range .ensures) (and-assoc (l .ok) (f (l .i)) (allIn f (l .i + 1) mostStores) ∙ (ap (λ (b : Bool). l .ok && b) (sym (all-and f (l .i) mostStores (c .before .before .loop-test .taken))) ∙ l .inv .1)))
 
--- src/lib.rt:278:1
 returns : tie.Need-returns Inv-loop μ-loop
 returns c = let l = c .before .loop in sym (and-true _) ∙ (rw (all-end (storeInRange (c .before .before .args .top) (c .before .before .args .t1)) (l .i) mostStores (c .loop-test .left)) at (l .inv .1))
 

@@ -8,7 +8,6 @@ use Rattle.register.proofs.with_awaited.Tie as tie
 use Rattle.register.proofs.with_awaited.Reads as reads
 use Rattle.register.proofs.with_awaited.Lts as lts
 
--- src/lib.rt:54:1
 returns : tie.Need-returns
 unfolding withAwaited
 returns c = search needs

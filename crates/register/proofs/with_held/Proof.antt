@@ -8,7 +8,6 @@ use Rattle.register.proofs.with_held.Tie as tie
 use Rattle.register.proofs.with_held.Reads as reads
 use Rattle.register.proofs.with_held.Lts as lts
 
--- src/lib.rt:36:1
 returns : tie.Need-returns
 unfolding withHeld
 returns c = search needs

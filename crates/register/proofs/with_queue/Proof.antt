@@ -8,7 +8,6 @@ use Rattle.register.proofs.with_queue.Tie as tie
 use Rattle.register.proofs.with_queue.Reads as reads
 use Rattle.register.proofs.with_queue.Lts as lts
 
--- src/lib.rt:26:1
 returns : tie.Need-returns
 unfolding withQueue
 returns c = search needs

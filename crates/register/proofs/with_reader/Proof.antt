@@ -8,15 +8,12 @@ use Rattle.register.proofs.with_reader.Tie as tie
 use Rattle.register.proofs.with_reader.Reads as reads
 use Rattle.register.proofs.with_reader.Lts as lts
 
--- src/lib.rt:50:5
 mul-x : tie.Need-mul-x
 mul-x c = search needs
 
--- src/lib.rt:50:5
 element-set-from-x : tie.Need-element-set-from-x
 element-set-from-x c = search needs
 
--- src/lib.rt:44:1
 returns : tie.Need-returns
 unfolding withReader
 returns c = search needs

@@ -8,7 +8,6 @@ use Rattle.register.proofs.with_root.Tie as tie
 use Rattle.register.proofs.with_root.Reads as reads
 use Rattle.register.proofs.with_root.Lts as lts
 
--- src/lib.rt:18:1
 returns : tie.Need-returns
 unfolding withRoot
 returns c = search needs

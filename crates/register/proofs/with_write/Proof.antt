@@ -8,7 +8,6 @@ use Rattle.register.proofs.with_write.Tie as tie
 use Rattle.register.proofs.with_write.Reads as reads
 use Rattle.register.proofs.with_write.Lts as lts
 
--- src/lib.rt:62:1
 returns : tie.Need-returns
 unfolding withWrite
 returns c = search needs

@@ -23,86 +23,66 @@ use Rattle.climbs.proofs.calmly.Reads as calmly-reads
 use Rattle.register.proofs.missed.Reads as missed-reads
 use Rattle.removals.proofs.settle.Reads as settle-reads
 
--- src/lib.rt:127:9
 node-at-requires : tie.Need-node-at-requires
 node-at-requires c κs = search needs
 
--- src/lib.rt:129:56
 slice-aggregate-path-to : tie.Need-slice-aggregate-path-to
 slice-aggregate-path-to c = search needs
 
--- src/lib.rt:129:9
 path-to-requires : tie.Need-path-to-requires
 path-to-requires c κs = search needs
 
--- src/lib.rt:130:44
 slice-aggregate-successor-path : tie.Need-slice-aggregate-successor-path
 slice-aggregate-successor-path c = search needs
 
--- src/lib.rt:130:9
 successor-path-requires : tie.Need-successor-path-requires
 successor-path-requires c κs = search needs
 
--- src/lib.rt:131:31
 slice-aggregate-nearest : tie.Need-slice-aggregate-nearest
 slice-aggregate-nearest c = search needs
 
--- src/lib.rt:131:9
 nearest-requires : tie.Need-nearest-requires
 nearest-requires c κs = search needs
 
--- src/lib.rt:132:9
 node-at-requires-2 : tie.Need-node-at-requires-2
 node-at-requires-2 c κs = search needs
 
--- src/lib.rt:133:9
 child-requires : tie.Need-child-requires
 child-requires c κs = search needs
 
--- src/lib.rt:134:44
 slice-aggregate-loss-climb : tie.Need-slice-aggregate-loss-climb
 slice-aggregate-loss-climb c = search needs
 
--- src/lib.rt:134:9
 loss-climb-requires : tie.Need-loss-climb-requires
 loss-climb-requires c κs = search needs
 
--- src/lib.rt:135:39
 calmly-requires : tie.Need-calmly-requires
 calmly-requires c κs = search needs
 
--- src/lib.rt:137:9
 missed-requires : tie.Need-missed-requires
 missed-requires c κs = search needs
 
--- src/lib.rt:137:9
 same-length : tie.Need-same-length
 same-length c = search needs
 
--- src/lib.rt:137:9
 returns : tie.Need-returns
 unfolding stepFinds
 returns c = let a = c .before .before .before .before .before .before .before .before .before .before .before .before .before .before .before .before .before .before .before .before .before .before .before .args in let st = state (a .pool .now) (a .reg) in
     let f : stepFinds st (a .l) (Detach (a .key)) ≡ false = rw (← (c .before .before .before .before .before .before .before .before .before .before .before .before .before .before .before .before .before .before .before .before .node-at .ensures), ← (c .before .before .before .before .before .before .before .before .before .before .before .before .before .before .before .before .before .path-to .ensures .0), ← (c .before .before .before .before .before .before .before .before .before .before .before .before .before .successor-path .ensures .0), reached-some, ← (c .before .before .before .before .before .before .before .before .before .before .nearest .ensures), ← (c .before .before .before .before .before .before .before .before .node-at2 .ensures), ← (c .before .before .before .before .before .before .child .ensures), ← (c .before .before .before .loss-climb .ensures), ← (c .before .before .calmly .ensures)) (c .before .if1 .left) in
     tells-missed st (a .l) (Detach (a .key)) (c .missed .result) f (c .missed .ensures)
 
--- src/lib.rt:139:9
 set-link-requires : tie.Need-set-link-requires
 set-link-requires c κs = search needs
 
--- src/lib.rt:140:47
 slice-aggregate-settle : tie.Need-slice-aggregate-settle
 slice-aggregate-settle c = search needs
 
--- src/lib.rt:140:9
 settle-requires : tie.Need-settle-requires
 settle-requires c κs = (omega (arith, c .before .before .before .before .before .before .before .before .before .before .before .before .before .before .before .before .before .before .before .before .before .before .before .before .before .before .before .before .pre, c .before .before .before .before .set-link .kept .0), omega (arith, c .before .before .before .before .before .before .before .before .before .before .before .before .before .before .before .before .before .before .successor-path .ensures .1, c .before .before .before .before .before .before .before .before .before .before .before .before .before .before .before .before .before .before .successor-path .kept .1 .1 .0, c .before .before .before .before .before .before .before .before .before .before .before .before .before .before .before .before .before .before .before .before .before .before .path-to .kept .1 .1 .1 .1 .0))
 
--- src/lib.rt:122:1
 same-length-2 : tie.Need-same-length-2
 same-length-2 c = search needs
 
--- src/lib.rt:122:1
 returns-2 : tie.Need-returns-2
 unfolding stepFinds stepMade detachStore
 returns-2 c = let a = c .before .before .before .before .before .before .before .before .before .before .before .before .before .before .before .before .before .before .before .before .before .before .before .before .before .before .before .before .before .before .before .args in let st = state (a .pool .now) (a .reg) in

@@ -22,86 +22,66 @@ use Rattle.register.proofs.missed.Reads as missed-reads
 use Rattle.removals.proofs.settle.Reads as settle-reads
 use Rattle.removals.proofs.store_successor.Reads as store-successor-reads
 
--- src/lib.rt:98:9
 node-at-requires : tie.Need-node-at-requires
 node-at-requires c κs = search needs
 
--- src/lib.rt:99:9
 child-requires : tie.Need-child-requires
 child-requires c κs = search needs
 
--- src/lib.rt:100:9
 child-requires-2 : tie.Need-child-requires-2
 child-requires-2 c κs = search needs
 
--- src/lib.rt:102:9
 word-requires : tie.Need-word-requires
 word-requires c κs = search needs
 
--- src/lib.rt:103:56
 slice-aggregate-path-to : tie.Need-slice-aggregate-path-to
 slice-aggregate-path-to c = search needs
 
--- src/lib.rt:103:9
 path-to-requires : tie.Need-path-to-requires
 path-to-requires c κs = search needs
 
--- src/lib.rt:104:32
 slice-aggregate-below-right : tie.Need-slice-aggregate-below-right
 slice-aggregate-below-right c = search needs
 
--- src/lib.rt:104:9
 below-right-requires : tie.Need-below-right-requires
 below-right-requires c κs = search needs
 
--- src/lib.rt:105:44
 slice-aggregate-loss-climb : tie.Need-slice-aggregate-loss-climb
 slice-aggregate-loss-climb c = search needs
 
--- src/lib.rt:105:9
 loss-climb-requires : tie.Need-loss-climb-requires
 loss-climb-requires c κs = search needs
 
--- src/lib.rt:106:28
 calmly-requires : tie.Need-calmly-requires
 calmly-requires c κs = search needs
 
--- src/lib.rt:108:9
 missed-requires : tie.Need-missed-requires
 missed-requires c κs = search needs
 
--- src/lib.rt:108:9
 same-length : tie.Need-same-length
 same-length c = search needs
 
--- src/lib.rt:108:9
 returns : tie.Need-returns
 unfolding stepFinds
 returns c = let a = c .before .before .before .before .before .before .before .before .before .before .before .before .before .before .before .before .before .before .before .before .before .before .args in let st = state (a .pool .now) (a .reg) in
     let f : stepFinds st (a .l) Replace ≡ false = rw (← (c .before .before .before .before .before .before .before .before .before .before .before .before .before .before .before .before .before .before .before .node-at .ensures), ← (c .before .before .before .before .before .before .before .before .before .before .before .before .before .before .before .before .before .child .ensures), ← (c .before .before .before .before .before .before .before .before .before .before .before .before .before .before .before .child2 .ensures), ← (c .before .before .before .before .before .before .before .before .before .before .before .before .before .word .ensures), ← (c .before .before .before .before .before .before .before .before .before .before .path-to .ensures .0), ← (c .before .before .before .before .before .before .before .below-right .ensures .0), ← (c .before .before .before .loss-climb .ensures), ← (c .before .before .calmly .ensures)) (c .before .if1 .left) in
     tells-missed st (a .l) Replace (c .missed .result) f (c .missed .ensures)
 
--- src/lib.rt:110:9
 word-requires-2 : tie.Need-word-requires-2
 word-requires-2 c κs = search needs
 
--- src/lib.rt:111:9
 store-successor-requires : tie.Need-store-successor-requires
 store-successor-requires c κs = search needs
 
--- src/lib.rt:112:45
 slice-aggregate-settle : tie.Need-slice-aggregate-settle
 slice-aggregate-settle c = search needs
 
--- src/lib.rt:112:9
 settle-requires : tie.Need-settle-requires
 settle-requires c κs = (omega (arith, c .before .before .before .before .before .before .before .before .before .before .before .before .before .before .before .before .before .before .before .before .before .before .before .before .before .before .before .before .before .pre, c .before .before .before .before .store-successor .kept .0), search needs)
 
--- src/lib.rt:93:1
 same-length-2 : tie.Need-same-length-2
 same-length-2 c = search needs
 
--- src/lib.rt:93:1
 returns-2 : tie.Need-returns-2
 unfolding stepFinds stepMade replaceStore
 returns-2 c = let a = c .before .before .before .before .before .before .before .before .before .before .before .before .before .before .before .before .before .before .before .before .before .before .before .before .before .before .before .before .before .before .before .before .args in let st = state (a .pool .now) (a .reg) in

@@ -10,19 +10,15 @@ use Rattle.removals.proofs.settle.Lts as lts
 use Rattle.losses.proofs.paint_loss.Reads as paint-loss-reads
 use Rattle.queue.proofs.retire.Reads as retire-reads
 
--- src/lib.rt:45:5
 paint-loss-requires : tie.Need-paint-loss-requires
 paint-loss-requires c κs = search needs
 
--- src/lib.rt:46:5
 retire-requires : tie.Need-retire-requires
 retire-requires c κs = search needs
 
--- src/lib.rt:33:1
 same-length : tie.Need-same-length
 same-length c = search needs
 
--- src/lib.rt:33:1
 returns : tie.Need-returns
 unfolding paintLoss
 returns c = rw (c .before .before .retire .ensures .0, c .before .before .retire .ensures .1, c .before .before .before .before .before .before .paint-loss .ensures (c .before .before .before .before .before .before .before .before .before .before .args .reg) refl)

@@ -10,23 +10,18 @@ use Rattle.register.proofs.count_down.Reads as count-down-reads
 use Rattle.register.proofs.set_link.Reads as set-link-reads
 use Rattle.register.proofs.with_held.Reads as with-held-reads
 
--- src/lib.rt:53:9
 set-link-requires : tie.Need-set-link-requires
 set-link-requires c κs = search needs
 
--- src/lib.rt:54:28
 count-down-requires : tie.Need-count-down-requires
 count-down-requires c κs = search needs
 
--- src/lib.rt:54:5
 with-held-requires : tie.Need-with-held-requires
 with-held-requires c κs = search needs
 
--- src/lib.rt:50:1
 same-length : tie.Need-same-length
 same-length c = search needs
 
--- src/lib.rt:50:1
 returns : tie.Need-returns
 returns c = rw (c .with-held .ensures, c .before .count-down .ensures, c .before .before .before .before .set-link .ensures .0, c .before .before .before .before .set-link .ensures .1)
 

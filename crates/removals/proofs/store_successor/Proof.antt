@@ -11,19 +11,15 @@ use Rattle.removals.proofs.store_successor.Lts as lts
 use Rattle.pool.proofs.set_word.Reads as set-word-reads
 use Rattle.removals.proofs.store_less.Reads as store-less-reads
 
--- src/lib.rt:87:9
 store-less-requires : tie.Need-store-less-requires
 store-less-requires c κs = search needs
 
--- src/lib.rt:88:5
 set-word-requires : tie.Need-set-word-requires
 set-word-requires c κs = search needs
 
--- src/lib.rt:84:1
 same-length : tie.Need-same-length
 same-length c = search needs
 
--- src/lib.rt:84:1
 returns : tie.Need-returns
 returns c = rw (c .before .before .set-word .ensures) (ap (λ (st : State). painted st (c .before .before .before .before .before .before .before .before .before .args .n) (c .before .before .before .before .before .before .before .before .before .args .colour)) (c .before .before .before .before .before .before .store-less .ensures))
 

@@ -21,70 +21,54 @@ use Rattle.register.proofs.missed.Reads as missed-reads
 use Rattle.removals.proofs.settle.Reads as settle-reads
 use Rattle.removals.proofs.store_less.Reads as store-less-reads
 
--- src/lib.rt:63:9
 node-at-requires : tie.Need-node-at-requires
 node-at-requires c κs = search needs
 
--- src/lib.rt:64:9
 only-child-requires : tie.Need-only-child-requires
 only-child-requires c κs = search needs
 
--- src/lib.rt:66:9
 word-requires : tie.Need-word-requires
 word-requires c κs = search needs
 
--- src/lib.rt:67:52
 slice-aggregate-path-to : tie.Need-slice-aggregate-path-to
 slice-aggregate-path-to c = search needs
 
--- src/lib.rt:67:9
 path-to-requires : tie.Need-path-to-requires
 path-to-requires c κs = search needs
 
--- src/lib.rt:68:44
 slice-aggregate-loss-climb : tie.Need-slice-aggregate-loss-climb
 slice-aggregate-loss-climb c = search needs
 
--- src/lib.rt:68:9
 loss-climb-requires : tie.Need-loss-climb-requires
 loss-climb-requires c κs = search needs
 
--- src/lib.rt:69:28
 calmly-requires : tie.Need-calmly-requires
 calmly-requires c κs = search needs
 
--- src/lib.rt:71:9
 missed-requires : tie.Need-missed-requires
 missed-requires c κs = search needs
 
--- src/lib.rt:71:9
 same-length : tie.Need-same-length
 same-length c = search needs
 
--- src/lib.rt:71:9
 returns : tie.Need-returns
 unfolding stepFinds
 returns c = let a = c .before .before .before .before .before .before .before .before .before .before .before .before .before .before .before .before .before .args in let st = state (a .pool .now) (a .reg) in
     let f : stepFinds st (a .l) Unlink ≡ false = rw (← (c .before .before .before .before .before .before .before .before .before .before .before .before .before .before .node-at .ensures), ← (c .before .before .before .before .before .before .before .before .before .before .before .before .only-child .ensures), ← (c .before .before .before .before .before .before .before .before .before .before .word .ensures), ← (c .before .before .before .before .before .before .before .path-to .ensures .0), ← (c .before .before .before .loss-climb .ensures), ← (c .before .before .calmly .ensures)) (c .before .if1 .left) in
     tells-missed st (a .l) Unlink (c .missed .result) f (c .missed .ensures)
 
--- src/lib.rt:73:9
 store-less-requires : tie.Need-store-less-requires
 store-less-requires c κs = search needs
 
--- src/lib.rt:74:45
 slice-aggregate-settle : tie.Need-slice-aggregate-settle
 slice-aggregate-settle c = search needs
 
--- src/lib.rt:74:9
 settle-requires : tie.Need-settle-requires
 settle-requires c κs = (omega (arith, c .before .before .before .before .before .before .before .before .before .before .before .before .before .before .before .before .before .before .before .before .before .before .pre, c .before .before .before .before .store-less .kept .0), search needs)
 
--- src/lib.rt:58:1
 same-length-2 : tie.Need-same-length-2
 same-length-2 c = search needs
 
--- src/lib.rt:58:1
 returns-2 : tie.Need-returns-2
 unfolding stepFinds stepMade unlinkStore
 returns-2 c = let a = c .before .before .before .before .before .before .before .before .before .before .before .before .before .before .before .before .before .before .before .before .before .before .before .before .before .args in let st = state (a .pool .now) (a .reg) in

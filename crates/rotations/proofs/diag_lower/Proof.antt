@@ -19,69 +19,53 @@ use Rattle.rotations.proofs.copy_colour.Reads as copy-colour-reads
 use Rattle.rotations.proofs.hang_copy.Reads as hang-copy-reads
 use Rattle.register.proofs.missed.Reads as missed-reads
 
--- src/lib.rt:85:9
 node-at-requires : tie.Need-node-at-requires
 node-at-requires c κs = search needs
 
--- src/lib.rt:86:9
 child-requires : tie.Need-child-requires
 child-requires c κs = search needs
 
--- src/lib.rt:88:9
 missed-requires : tie.Need-missed-requires
 missed-requires c κs = search needs
 
--- src/lib.rt:88:9
 same-length : tie.Need-same-length
 same-length c = search needs
 
--- src/lib.rt:88:9
 returns : tie.Need-returns
 unfolding stepFinds
 returns c = let a = c .before .before .before .before .before .before .before .args in let st = state (a .pool .now) (a .reg) in let e : diagChild st (a .l) (a .s) ≡ 0 = rw (← (c .before .before .before .before .node-at .ensures), ← (c .before .before .child .ensures)) (c .before .if1 .taken) in tells-missed st (a .l) (DiagLower (a .s) (a .rule)) (c .missed .result) (no-node (diagChild st (a .l) (a .s)) _ e) (c .missed .ensures)
 
--- src/lib.rt:91:9
 missed-requires-2 : tie.Need-missed-requires-2
 missed-requires-2 c κs = search needs
 
--- src/lib.rt:91:9
 same-length-2 : tie.Need-same-length-2
 same-length-2 c = search needs
 
--- src/lib.rt:91:9
 returns-2 : tie.Need-returns-2
 unfolding stepFinds
 returns-2 c = let a = c .before .before .before .before .before .before .before .before .before .args in let st = state (a .pool .now) (a .reg) in tells-missed st (a .l) (DiagLower (a .s) (a .rule)) (c .missed2 .result) (no-free st (diagChild st (a .l) (a .s)) (c .before .if2 .taken)) (c .missed2 .ensures)
 
--- src/lib.rt:93:9
 other-requires : tie.Need-other-requires
 other-requires c κs = search needs
 
--- src/lib.rt:94:9
 child-requires-2 : tie.Need-child-requires-2
 child-requires-2 c κs = search needs
 
--- src/lib.rt:95:9
 child-requires-3 : tie.Need-child-requires-3
 child-requires-3 c κs = search needs
 
--- src/lib.rt:96:26
 link-at-requires : tie.Need-link-at-requires
 link-at-requires c κs = search needs
 
--- src/lib.rt:96:63
 copy-colour-requires : tie.Need-copy-colour-requires
 copy-colour-requires c κs = search needs
 
--- src/lib.rt:96:5
 hang-copy-requires : tie.Need-hang-copy-requires
 hang-copy-requires c κs = search needs
 
--- src/lib.rt:81:1
 same-length-3 : tie.Need-same-length-3
 same-length-3 c = search needs
 
--- src/lib.rt:81:1
 returns-3 : tie.Need-returns-3
 unfolding stepFinds stepMade diagLower
 returns-3 c = let a = c .before .before .before .before .before .before .before .before .before .before .before .before .before .before .before .before .before .before .before .args in let st = state (a .pool .now) (a .reg) in let d : diagChild st (a .l) (a .s) ≡ 0 → ⊥ = rw (← (c .before .before .before .before .before .before .before .before .before .before .before .before .before .before .before .before .node-at .ensures), ← (c .before .before .before .before .before .before .before .before .before .before .before .before .before .before .child .ensures)) (c .before .before .before .before .before .before .before .before .before .before .before .before .before .if1 .left) in tells-made st (a .l) (DiagLower (a .s) (a .rule)) _ (c .before .before .hang-copy .result) (takes-node st (diagChild st (a .l) (a .s)) d (c .before .before .before .before .before .before .before .before .before .before .before .if2 .left)) (c .before .before .hang-copy .ensures .0)

@@ -23,65 +23,50 @@ use Rattle.register.proofs.missed.Reads as missed-reads
 use Rattle.rotations.proofs.raise.Reads as raise-reads
 use Rattle.rotations.proofs.risen_colour.Reads as risen-colour-reads
 
--- src/lib.rt:191:9
 node-at-requires : tie.Need-node-at-requires
 node-at-requires c κs = search needs
 
--- src/lib.rt:192:9
 child-requires : tie.Need-child-requires
 child-requires c κs = search needs
 
--- src/lib.rt:194:9
 missed-requires : tie.Need-missed-requires
 missed-requires c κs = search needs
 
--- src/lib.rt:194:9
 same-length : tie.Need-same-length
 same-length c = search needs
 
--- src/lib.rt:194:9
 returns : tie.Need-returns
 unfolding stepFinds
 returns c = let a = c .before .before .before .before .before .before .before .args in let st = state (a .pool .now) (a .reg) in let e : diagChild st (a .l) (a .s) ≡ 0 = rw (← (c .before .before .before .before .node-at .ensures), ← (c .before .before .child .ensures)) (c .before .if1 .taken) in tells-missed st (a .l) (DiagRaise (a .s) (a .rule)) (c .missed .result) (no-node (diagChild st (a .l) (a .s)) _ e) (c .missed .ensures)
 
--- src/lib.rt:196:8
 end-diag-finds-requires : tie.Need-end-diag-finds-requires
 end-diag-finds-requires c κs = search needs
 
--- src/lib.rt:197:9
 missed-requires-2 : tie.Need-missed-requires-2
 missed-requires-2 c κs = search needs
 
--- src/lib.rt:197:9
 same-length-2 : tie.Need-same-length-2
 same-length-2 c = search needs
 
--- src/lib.rt:197:9
 returns-2 : tie.Need-returns-2
 unfolding stepFinds
 returns-2 c = let a = c .before .before .before .before .before .before .before .before .before .before .args in let st = state (a .pool .now) (a .reg) in let b = diagChild st (a .l) (a .s) in let e : endDiagFinds (a .rule) st (a .s) (diagChild st (a .l) (a .s)) ≡ false = rw (← (c .before .before .before .before .before .before .before .node-at .ensures), ← (c .before .before .before .before .before .child .ensures)) (sym (c .before .before .end-diag-finds .ensures (a .reg)) ∙ c .before .if2 .left) in tells-missed st (a .l) (DiagRaise (a .s) (a .rule)) (c .missed2 .result) (and-false (isNode b) (endDiagFinds (a .rule) st (a .s) b) e) (c .missed2 .ensures)
 
--- src/lib.rt:199:9
 risen-colour-requires : tie.Need-risen-colour-requires
 risen-colour-requires c κs = search needs
 
--- src/lib.rt:200:9
 raise-requires : tie.Need-raise-requires
 raise-requires c κs = search needs
 
--- src/lib.rt:201:5
 end-diag-requires : tie.Need-end-diag-requires
 end-diag-requires c κs = search needs
 
--- src/lib.rt:202:9
 retire-requires : tie.Need-retire-requires
 retire-requires c κs = search needs
 
--- src/lib.rt:186:1
 same-length-3 : tie.Need-same-length-3
 same-length-3 c = search needs
 
--- src/lib.rt:186:1
 returns-3 : tie.Need-returns-3
 unfolding stepFinds stepMade
 returns-3 c = let a = c .before .before .before .before .before .before .before .before .before .before .before .before .before .before .before .before .before .before .before .before .before .before .before .args in let st = state (a .pool .now) (a .reg) in let b = diagChild st (a .l) (a .s) in let d : diagChild st (a .l) (a .s) ≡ 0 → ⊥ = rw (← (c .before .before .before .before .before .before .before .before .before .before .before .before .before .before .before .before .before .before .before .before .node-at .ensures), ← (c .before .before .before .before .before .before .before .before .before .before .before .before .before .before .before .before .before .before .child .ensures)) (c .before .before .before .before .before .before .before .before .before .before .before .before .before .before .before .before .before .if1 .left) in let e : endDiagFinds (a .rule) st (a .s) (diagChild st (a .l) (a .s)) ≡ true = rw (← (c .before .before .before .before .before .before .before .before .before .before .before .before .before .before .before .before .before .before .before .before .node-at .ensures), ← (c .before .before .before .before .before .before .before .before .before .before .before .before .before .before .before .before .before .before .child .ensures)) (sym (c .before .before .before .before .before .before .before .before .before .before .before .before .before .before .before .end-diag-finds .ensures (a .reg)) ∙ c .before .before .before .before .before .before .before .before .before .before .before .before .before .before .if2 .taken) in tells-made st (a .l) (DiagRaise (a .s) (a .rule)) _ _ (node-there b (endDiagFinds (a .rule) st (a .s) b) d e) refl

@@ -11,63 +11,48 @@ use Rattle.pool.proofs.other.Reads as other-reads
 use Rattle.pool.proofs.set_word.Reads as set-word-reads
 use Rattle.rotations.proofs.under_copy.Reads as under-copy-reads
 
--- src/lib.rt:162:38
 enum-told : tie.Need-enum-told
 enum-told c = search needs
 
--- src/lib.rt:162:23
 set-word-requires : tie.Need-set-word-requires
 set-word-requires c κs = search needs
 
--- src/lib.rt:164:36
 enum-told-2 : tie.Need-enum-told-2
 enum-told-2 c = search needs
 
--- src/lib.rt:164:42
 other-requires : tie.Need-other-requires
 other-requires c κs = search needs
 
--- src/lib.rt:164:17
 child-requires : tie.Need-child-requires
 child-requires c κs = search needs
 
--- src/lib.rt:165:13
 under-copy-requires : tie.Need-under-copy-requires
 under-copy-requires c κs = search needs
 
--- src/lib.rt:168:37
 enum-told-3 : tie.Need-enum-told-3
 enum-told-3 c = search needs
 
--- src/lib.rt:168:17
 child-requires-2 : tie.Need-child-requires-2
 child-requires-2 c κs = search needs
 
--- src/lib.rt:169:13
 set-word-requires-2 : tie.Need-set-word-requires-2
 set-word-requires-2 c κs = search needs
 
--- src/lib.rt:158:1
 same-length : tie.Need-same-length
 same-length c = search needs
 
--- src/lib.rt:158:1
 returns : tie.Need-returns
 returns c = λ q e. rw (c .before .before .before .before .enum-told .given .1, c .before .before .set-word .ensures, e)
 
--- src/lib.rt:158:1
 same-length-2 : tie.Need-same-length-2
 same-length-2 c = search needs
 
--- src/lib.rt:158:1
 returns-2 : tie.Need-returns-2
 returns-2 c = λ q e. rw (c .before .before .before .before .before .before .before .enum-told2 .given .1) (c .before .before .under-copy .ensures q ∙ rw (c .before .before .before .before .child .ensures, c .before .before .before .before .before .other .ensures))
 
--- src/lib.rt:158:1
 same-length-3 : tie.Need-same-length-3
 same-length-3 c = search needs
 
--- src/lib.rt:158:1
 returns-3 : tie.Need-returns-3
 returns-3 c = λ q e. rw (c .before .before .before .before .before .before .enum-told3 .given .1, c .before .before .set-word2 .ensures, c .before .before .before .before .child2 .ensures)
 

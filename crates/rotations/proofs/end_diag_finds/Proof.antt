@@ -9,43 +9,33 @@ use Rattle.rotations.proofs.end_diag_finds.Lts as lts
 use Rattle.pool.proofs.child.Reads as child-reads
 use Rattle.pool.proofs.other.Reads as other-reads
 
--- src/lib.rt:179:23
 enum-told : tie.Need-enum-told
 enum-told c = search needs
 
--- src/lib.rt:180:62
 enum-told-2 : tie.Need-enum-told-2
 enum-told-2 c = search needs
 
--- src/lib.rt:180:62
 other-requires : tie.Need-other-requires
 other-requires c κs = search needs
 
--- src/lib.rt:180:44
 child-requires : tie.Need-child-requires
 child-requires c κs = search needs
 
--- src/lib.rt:180:23
 child-requires-2 : tie.Need-child-requires-2
 child-requires-2 c κs = search needs
 
--- src/lib.rt:181:25
 enum-told-3 : tie.Need-enum-told-3
 enum-told-3 c = search needs
 
--- src/lib.rt:181:25
 child-requires-3 : tie.Need-child-requires-3
 child-requires-3 c κs = search needs
 
--- src/lib.rt:175:1
 returns : tie.Need-returns
 returns c = λ q. rw (c .enum-told .given .1)
 
--- src/lib.rt:175:1
 returns-2 : tie.Need-returns-2
 returns-2 c = λ q. rw (c .before .before .before .enum-told2 .given .1, c .child2 .ensures, c .before .child .ensures, c .before .before .other .ensures)
 
--- src/lib.rt:175:1
 returns-3 : tie.Need-returns-3
 returns-3 c = λ q. rw (c .before .enum-told3 .given .1, c .child3 .ensures)
 

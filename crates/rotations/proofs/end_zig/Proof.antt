@@ -8,11 +8,9 @@ use Rattle.rotations.proofs.end_zig.Reads as reads
 use Rattle.rotations.proofs.end_zig.Lts as lts
 use Rattle.pool.proofs.set_word.Reads as set-word-reads
 
--- src/lib.rt:216:38
 enum-told : tie.Need-enum-told
 enum-told c = search needs
 
--- src/lib.rt:216:23
 set-word-requires : tie.Need-set-word-requires
 set-word-requires c κs = search needs
 
@@ -22,19 +20,15 @@ enum-told-2 c = search needs
 enum-told-3 : tie.Need-enum-told-3
 enum-told-3 c = search needs
 
--- src/lib.rt:212:1
 same-length : tie.Need-same-length
 same-length c = search needs
 
--- src/lib.rt:212:1
 returns : tie.Need-returns
 returns c = λ q e. rw (c .before .before .before .before .enum-told .given .1, c .before .before .set-word .ensures, e)
 
--- src/lib.rt:212:1
 returns-2 : tie.Need-returns-2
 returns-2 c = λ q e. rw (c .enum-told2 .given .1)
 
--- src/lib.rt:212:1
 returns-3 : tie.Need-returns-3
 returns-3 c = λ q e. rw (c .enum-told3 .given .1)
 

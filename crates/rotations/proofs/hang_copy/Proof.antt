@@ -11,27 +11,21 @@ use Rattle.pool.proofs.word.Reads as word-reads
 use Rattle.queue.proofs.take_node.Reads as take-node-reads
 use Rattle.register.proofs.set_link.Reads as set-link-reads
 
--- src/lib.rt:47:9
 word-requires : tie.Need-word-requires
 word-requires c κs = search needs
 
--- src/lib.rt:48:9
 word-requires-2 : tie.Need-word-requires-2
 word-requires-2 c κs = search needs
 
--- src/lib.rt:49:9
 take-node-requires : tie.Need-take-node-requires
 take-node-requires c κs = search needs
 
--- src/lib.rt:50:9
 set-link-requires : tie.Need-set-link-requires
 set-link-requires c κs = search needs
 
--- src/lib.rt:33:1
 same-length : tie.Need-same-length
 same-length c = search needs
 
--- src/lib.rt:33:1
 returns : tie.Need-returns
 returns c = let e = c .before .before .set-link .ensures in (refl, rw (e .0, e .1, c .before .before .before .before .before .before .take-node .ensures .0, c .before .before .before .before .before .before .take-node .ensures .1, c .before .before .before .before .before .before .before .before .word2 .ensures, c .before .before .before .before .before .before .before .before .before .before .word .ensures))
 

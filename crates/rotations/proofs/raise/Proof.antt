@@ -10,19 +10,15 @@ use Rattle.rotations.proofs.raise.Lts as lts
 use Rattle.pool.proofs.set_word.Reads as set-word-reads
 use Rattle.register.proofs.set_link.Reads as set-link-reads
 
--- src/lib.rt:140:9
 set-link-requires : tie.Need-set-link-requires
 set-link-requires c κs = search needs
 
--- src/lib.rt:141:5
 set-word-requires : tie.Need-set-word-requires
 set-word-requires c κs = search needs
 
--- src/lib.rt:137:1
 same-length : tie.Need-same-length
 same-length c = search needs
 
--- src/lib.rt:137:1
 returns : tie.Need-returns
 returns c = rw (c .before .before .set-word .ensures, c .before .before .before .before .before .before .set-link .ensures .0, c .before .before .before .before .before .before .set-link .ensures .1)
 

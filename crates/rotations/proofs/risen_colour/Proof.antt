@@ -8,31 +8,24 @@ use Rattle.rotations.proofs.risen_colour.Reads as reads
 use Rattle.rotations.proofs.risen_colour.Lts as lts
 use Rattle.pool.proofs.word.Reads as word-reads
 
--- src/lib.rt:74:23
 enum-told : tie.Need-enum-told
 enum-told c = search needs
 
--- src/lib.rt:75:23
 enum-told-2 : tie.Need-enum-told-2
 enum-told-2 c = search needs
 
--- src/lib.rt:76:25
 enum-told-3 : tie.Need-enum-told-3
 enum-told-3 c = search needs
 
--- src/lib.rt:76:25
 word-requires : tie.Need-word-requires
 word-requires c κs = search needs
 
--- src/lib.rt:70:1
 returns : tie.Need-returns
 returns c = λ q. rw (c .enum-told .given .1)
 
--- src/lib.rt:70:1
 returns-2 : tie.Need-returns-2
 returns-2 c = λ q. rw (c .enum-told2 .given .1)
 
--- src/lib.rt:70:1
 returns-3 : tie.Need-returns-3
 returns-3 c = λ q. rw (c .before .enum-told3 .given .1, c .word .ensures)
 

@@ -23,56 +23,43 @@ use Rattle.register.proofs.missed.Reads as missed-reads
 use Rattle.rotations.proofs.raise.Reads as raise-reads
 use Rattle.rotations.proofs.risen_colour.Reads as risen-colour-reads
 
--- src/lib.rt:228:9
 node-at-requires : tie.Need-node-at-requires
 node-at-requires c κs = search needs
 
--- src/lib.rt:229:9
 child-requires : tie.Need-child-requires
 child-requires c κs = search needs
 
--- src/lib.rt:230:31
 other-requires : tie.Need-other-requires
 other-requires c κs = search needs
 
--- src/lib.rt:230:9
 child-requires-2 : tie.Need-child-requires-2
 child-requires-2 c κs = search needs
 
--- src/lib.rt:232:9
 missed-requires : tie.Need-missed-requires
 missed-requires c κs = search needs
 
--- src/lib.rt:232:9
 same-length : tie.Need-same-length
 same-length c = search needs
 
--- src/lib.rt:232:9
 returns : tie.Need-returns
 unfolding stepFinds
 returns c = let a = c .before .before .before .before .before .before .before .before .before .before .args in let st = state (a .pool .now) (a .reg) in let e : zigChild st (a .l) (a .s) ≡ 0 = rw (← (c .before .before .before .before .before .before .before .node-at .ensures), ← (c .before .before .before .before .before .child .ensures), ← (c .before .before .before .other .ensures), ← (c .before .before .child2 .ensures)) (c .before .if1 .taken) in tells-missed st (a .l) (ZigRaise (a .s) (a .rule)) (c .missed .result) (rw (eq-eqb (zigChild st (a .l) (a .s)) 0 e)) (c .missed .ensures)
 
--- src/lib.rt:234:9
 risen-colour-requires : tie.Need-risen-colour-requires
 risen-colour-requires c κs = search needs
 
--- src/lib.rt:235:9
 raise-requires : tie.Need-raise-requires
 raise-requires c κs = search needs
 
--- src/lib.rt:236:5
 end-zig-requires : tie.Need-end-zig-requires
 end-zig-requires c κs = search needs
 
--- src/lib.rt:237:9
 retire-two-requires : tie.Need-retire-two-requires
 retire-two-requires c κs = search needs
 
--- src/lib.rt:223:1
 same-length-2 : tie.Need-same-length-2
 same-length-2 c = search needs
 
--- src/lib.rt:223:1
 returns-2 : tie.Need-returns-2
 unfolding stepFinds stepMade
 returns-2 c = let a = c .before .before .before .before .before .before .before .before .before .before .before .before .before .before .before .before .before .before .before .before .before .before .before .args in let st = state (a .pool .now) (a .reg) in let d : zigChild st (a .l) (a .s) ≡ 0 → ⊥ = rw (← (c .before .before .before .before .before .before .before .before .before .before .before .before .before .before .before .before .before .before .before .before .node-at .ensures), ← (c .before .before .before .before .before .before .before .before .before .before .before .before .before .before .before .before .before .before .child .ensures), ← (c .before .before .before .before .before .before .before .before .before .before .before .before .before .before .before .before .other .ensures), ← (c .before .before .before .before .before .before .before .before .before .before .before .before .before .before .before .child2 .ensures)) (c .before .before .before .before .before .before .before .before .before .before .before .before .before .before .if1 .left) in tells-made st (a .l) (ZigRaise (a .s) (a .rule)) _ _ (rw (ne-eqb (zigChild st (a .l) (a .s)) 0 d)) refl

@@ -28,7 +28,6 @@ seek-at t = and 1 seek-kinds.ps (is 1 seek-kinds.ps μ-seek t) seek.Pre
 abbrev seek-below : ℕ → In 1 seek-kinds.ps
 seek-below t = and 1 seek-kinds.ps (falls 1 seek-kinds.ps _<_ μ-seek t) seek.Pre
 
--- src/lib.rt:30:9
 seek-returns : (t : ℕ) → seek-lts.Need-returns (
   word-reads.Asked,
   word-reads.Learnt,
@@ -43,7 +42,6 @@ seek-returns : (t : ℕ) → seek-lts.Need-returns (
 ) (seek-at t) seek.Post
 seek-returns t c = sym (seek-empty (c .before .before .args .pool .now) (c .before .before .args .k) (c .before .before .args .allowed) (c .before .before .args .l) (c .before .before .args .n) (c .if1 .taken))
 
--- src/lib.rt:33:9
 seek-returns-2 : (t : ℕ) → seek-lts.Need-returns-2 (
   word-reads.Asked,
   word-reads.Learnt,
@@ -58,7 +56,6 @@ seek-returns-2 : (t : ℕ) → seek-lts.Need-returns-2 (
 ) (seek-at t) seek.Post
 seek-returns-2 t c = sym (seek-deep (c .before .before .before .args .pool .now) (c .before .before .before .args .k) (c .before .before .before .args .allowed) (c .before .before .before .args .l) (c .before .before .before .args .n) (c .before .if1 .left) (c .if2 .taken))
 
--- src/lib.rt:35:13
 seek-word-requires : (t : ℕ) → seek-lts.Need-word-requires (
   word-reads.Asked,
   word-reads.Learnt,
@@ -73,7 +70,6 @@ seek-word-requires : (t : ℕ) → seek-lts.Need-word-requires (
 ) (seek-at t) seek.Post
 seek-word-requires t c κs = search needs
 
--- src/lib.rt:36:9
 seek-returns-3 : (t : ℕ) → seek-lts.Need-returns-3 (
   word-reads.Asked,
   word-reads.Learnt,
@@ -88,7 +84,6 @@ seek-returns-3 : (t : ℕ) → seek-lts.Need-returns-3 (
 ) (seek-at t) seek.Post
 seek-returns-3 t c = sym (seek-step (c .before .before .before .before .before .args .pool .now) (c .before .before .before .before .before .args .k) (c .before .before .before .before .before .args .allowed) (c .before .before .before .before .before .args .l) (c .before .before .before .before .before .args .n) (c .before .before .before .if1 .left) (c .before .before .if2 .left) ∙ rw (← (c .before .word .ensures), eq-eqb _ _ (c .if3 .taken)))
 
--- src/lib.rt:38:9
 seek-towards-requires : (t : ℕ) → seek-lts.Need-towards-requires (
   word-reads.Asked,
   word-reads.Learnt,
@@ -103,7 +98,6 @@ seek-towards-requires : (t : ℕ) → seek-lts.Need-towards-requires (
 ) (seek-at t) seek.Post
 seek-towards-requires t c κs = search needs
 
--- src/lib.rt:39:9
 seek-child-requires : (t : ℕ) → seek-lts.Need-child-requires (
   word-reads.Asked,
   word-reads.Learnt,
@@ -118,7 +112,6 @@ seek-child-requires : (t : ℕ) → seek-lts.Need-child-requires (
 ) (seek-at t) seek.Post
 seek-child-requires t c κs = search needs
 
--- src/lib.rt:40:19
 seek-link-at-requires : (t : ℕ) → seek-lts.Need-link-at-requires (
   word-reads.Asked,
   word-reads.Learnt,
@@ -133,7 +126,6 @@ seek-link-at-requires : (t : ℕ) → seek-lts.Need-link-at-requires (
 ) (seek-at t) seek.Post
 seek-link-at-requires t c κs = search needs
 
--- src/lib.rt:40:50
 seek-sub-seek : (t : ℕ) → seek-lts.Need-sub-seek (
   word-reads.Asked,
   word-reads.Learnt,
@@ -148,7 +140,6 @@ seek-sub-seek : (t : ℕ) → seek-lts.Need-sub-seek (
 ) (seek-at t) seek.Post
 seek-sub-seek t c = search needs
 
--- src/lib.rt:40:5
 seek-seek-requires : (t : ℕ) → seek-lts.Need-seek-requires (
   word-reads.Asked,
   word-reads.Learnt,
@@ -163,7 +154,6 @@ seek-seek-requires : (t : ℕ) → seek-lts.Need-seek-requires (
 ) (seek-at t) seek.Post
 seek-seek-requires t c κs = (omega arith, search needs)
 
--- src/lib.rt:26:1
 seek-returns-4 : (t : ℕ) → seek-lts.Need-returns-4 (
   word-reads.Asked,
   word-reads.Learnt,

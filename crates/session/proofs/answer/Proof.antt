@@ -15,39 +15,30 @@ use Rattle.lines.proofs.write_line.Reads as write-line-reads
 use Rattle.session.proofs.next_number.Reads as next-number-reads
 use Rattle.session.proofs.to_show.Reads as to-show-reads
 
--- src/lib.rt:125:9
 next-number-requires : tie.Need-next-number-requires
 next-number-requires c κs = search needs
 
--- src/lib.rt:127:9
 perform-requires : tie.Need-perform-requires
 perform-requires c κs = search needs
 
--- src/lib.rt:129:50
 letter-of-requires : tie.Need-letter-of-requires
 letter-of-requires c κs = search needs
 
--- src/lib.rt:129:9
 write-line-requires : tie.Need-write-line-requires
 write-line-requires c κs = search needs
 
--- src/lib.rt:135:18
 start-requires : tie.Need-start-requires
 start-requires c κs = search needs
 
--- src/lib.rt:137:18
 to-show-requires : tie.Need-to-show-requires
 to-show-requires c κs = search needs
 
--- src/lib.rt:121:1
 same-length : tie.Need-same-length
 same-length c = search needs
 
--- src/lib.rt:121:1
 same-length-2 : tie.Need-same-length-2
 same-length-2 c = search needs
 
--- src/lib.rt:121:1
 returns : tie.Need-returns
 returns c = let a = c .before .before .before .before .before .before .before .before .before .before .before .before .before .before .before .before .args in let p = c .before .before .before .before .before .before .before .before .before .before .perform in let h = c .before .before .before .before .before .before .before .before .before .before .before .before .before .before .before .before .pre .0 .lent in
     let fits = kept-fits (a .s .lent) (triedWords (a .s .lent) (a .c)) (says (p .result .said)) h (tried-fits (a .s .lent) (a .c) h) in

@@ -8,37 +8,29 @@ use Rattle.session.proofs.show_node.Reads as reads
 use Rattle.session.proofs.show_node.Lts as lts
 use Rattle.lines.proofs.write_node.Reads as write-node-reads
 
--- src/lib.rt:172:16
 sub-node : tie.Need-sub-node
 sub-node c = search needs
 
--- src/lib.rt:172:16
 add-node : tie.Need-add-node
 add-node c = search needs
 
--- src/lib.rt:173:42
 slice-aggregate-write-node : tie.Need-slice-aggregate-write-node
 slice-aggregate-write-node c =
     let a = c .before .before .before .before .before in
     sym (length-take-le (a .args .s .lent) (a .args .words .now) (omega (arith, a .pre)))
 
--- src/lib.rt:173:58
 cast-write-node : tie.Need-cast-write-node
 cast-write-node c = search needs
 
--- src/lib.rt:173:9
 write-node-requires : tie.Need-write-node-requires
 write-node-requires c κs = search needs
 
--- src/lib.rt:175:23
 sub-session : tie.Need-sub-session
 sub-session c = search needs
 
--- src/lib.rt:167:1
 same-length : tie.Need-same-length
 same-length c = search needs
 
--- src/lib.rt:167:1
 returns : tie.Need-returns
 returns c = search needs
 

@@ -17,40 +17,31 @@ use Rattle.register.proofs.node_at.Reads as node-at-reads
 use Rattle.register.proofs.set_link.Reads as set-link-reads
 use Rattle.register.proofs.missed.Reads as missed-reads
 
--- src/lib.rt:111:9
 node-at-requires : tie.Need-node-at-requires
 node-at-requires c κs = search needs
 
--- src/lib.rt:112:9
 child-requires : tie.Need-child-requires
 child-requires c κs = search needs
 
--- src/lib.rt:114:9
 missed-requires : tie.Need-missed-requires
 missed-requires c κs = search needs
 
--- src/lib.rt:114:9
 same-length : tie.Need-same-length
 same-length c = search needs
 
--- src/lib.rt:114:9
 returns : tie.Need-returns
 unfolding stepFinds
 returns c = let a = c .before .before .before .before .before .before .before .args in let st = state (a .pool .now) (a .reg) in let e : child (a .pool .now) R (linkNode st (a .l)) ≡ 0 = rw (← (c .before .before .before .before .node-at .ensures), ← (c .before .before .child .ensures)) (c .before .if1 .taken) in tells-missed st (a .l) Adopt (c .missed .result) (rw (eq-eqb _ 0 e)) (c .missed .ensures)
 
--- src/lib.rt:116:9
 child-requires-2 : tie.Need-child-requires-2
 child-requires-2 c κs = search needs
 
--- src/lib.rt:118:9
 set-link-requires : tie.Need-set-link-requires
 set-link-requires c κs = search needs
 
--- src/lib.rt:107:1
 same-length-2 : tie.Need-same-length-2
 same-length-2 c = search needs
 
--- src/lib.rt:107:1
 returns-2 : tie.Need-returns-2
 unfolding stepFinds stepMade adoptStore
 returns-2 c = let a = c .before .before .before .before .before .before .before .before .before .before .before .before .args in let st = state (a .pool .now) (a .reg) in let e : child (a .pool .now) R (linkNode st (a .l)) ≡ 0 → ⊥ = rw (← (c .before .before .before .before .before .before .before .before .before .node-at .ensures), ← (c .before .before .before .before .before .before .before .child .ensures)) (c .before .before .before .before .before .before .if1 .left) in tells-made st (a .l) Adopt _ _ (rw (ne-eqb _ 0 e)) refl (rw (c .before .before .set-link .ensures .0, c .before .before .set-link .ensures .1, c .before .before .before .before .child2 .ensures, c .before .before .before .before .before .before .before .child .ensures, c .before .before .before .before .before .before .before .before .before .node-at .ensures))

@@ -14,31 +14,24 @@ use Rattle.register.proofs.with_held.Reads as with-held-reads
 use Rattle.register.proofs.with_write.Reads as with-write-reads
 use Rattle.stores.proofs.moved_write.Reads as moved-write-reads
 
--- src/lib.rt:166:38
 count-down-requires : tie.Need-count-down-requires
 count-down-requires c κs = search needs
 
--- src/lib.rt:166:9
 with-held-requires : tie.Need-with-held-requires
 with-held-requires c κs = search needs
 
--- src/lib.rt:167:46
 reading-slots-requires : tie.Need-reading-slots-requires
 reading-slots-requires c κs = search needs
 
--- src/lib.rt:167:9
 with-awaited-requires : tie.Need-with-awaited-requires
 with-awaited-requires c κs = search needs
 
--- src/lib.rt:169:9
 moved-write-requires : tie.Need-moved-write-requires
 moved-write-requires c κs = search needs
 
--- src/lib.rt:170:5
 with-write-requires : tie.Need-with-write-requires
 with-write-requires c κs = search needs
 
--- src/lib.rt:163:1
 returns : tie.Need-returns
 returns c = rw (c .with-write .ensures, c .before .moved-write .ensures, c .before .before .before .with-awaited .ensures, c .before .before .before .before .reading-slots .ensures, c .before .before .before .before .before .with-held .ensures, c .before .before .before .before .before .before .count-down .ensures)
 

@@ -13,19 +13,15 @@ use Rattle.stores.proofs.insert_calm.Lts as lts
 use Rattle.pool.proofs.set_word.Reads as set-word-reads
 use Rattle.stores.proofs.link_new.Reads as link-new-reads
 
--- src/lib.rt:56:9
 link-new-requires : tie.Need-link-new-requires
 link-new-requires c κs = search needs
 
--- src/lib.rt:57:5
 set-word-requires : tie.Need-set-word-requires
 set-word-requires c κs = search needs
 
--- src/lib.rt:50:1
 same-length : tie.Need-same-length
 same-length c = search needs
 
--- src/lib.rt:50:1
 returns : tie.Need-returns
 returns c = let a = c .before .before .before .before .before .before .before .before .before .args in let st = state (a .pool .now) (a .reg) in tells-made st (a .l) (Insert (a .k) (a .v)) _ _ (c .before .before .before .before .before .before .before .before .before .pre .2) refl (rw (c .before .before .set-word .ensures) (calm-made st (a .l) (a .k) (a .v) (c .before .before .before .before .before .before .before .before .before .pre .1) (c .before .before .before .before .before .before .link-new .last .0) (c .before .before .before .before .before .before .link-new .result) (c .before .before .before .before .before .before .link-new .ensures)))
 

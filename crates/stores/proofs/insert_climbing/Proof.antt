@@ -21,59 +21,45 @@ use Rattle.register.proofs.missed.Reads as missed-reads
 use Rattle.stores.proofs.end_insert.Reads as end-insert-reads
 use Rattle.stores.proofs.link_new.Reads as link-new-reads
 
--- src/lib.rt:74:50
 slice-aggregate-path-to : tie.Need-slice-aggregate-path-to
 slice-aggregate-path-to c = search needs
 
--- src/lib.rt:74:9
 path-to-requires : tie.Need-path-to-requires
 path-to-requires c κs = search needs
 
--- src/lib.rt:75:36
 slice-aggregate-rise : tie.Need-slice-aggregate-rise
 slice-aggregate-rise c = search needs
 
--- src/lib.rt:75:9
 rise-requires : tie.Need-rise-requires
 rise-requires c κs = search needs
 
--- src/lib.rt:77:8
 missing-requires : tie.Need-missing-requires
 missing-requires c κs = search needs
 
--- src/lib.rt:78:9
 missed-requires : tie.Need-missed-requires
 missed-requires c κs = search needs
 
--- src/lib.rt:78:9
 same-length : tie.Need-same-length
 same-length c = search needs
 
--- src/lib.rt:78:9
 returns : tie.Need-returns
 returns c = let a = c .before .before .before .before .before .before .before .before .before .before .before .args in let st = state (a .pool .now) (a .reg) in let k = c .before .before .before .rise .result in let e : k ≡ rise (a .pool .now) 0 (pathTo (a .pool .now) (a .reg .root) (a .k) (a .l)) = rw (c .before .before .before .rise .ensures, c .before .before .before .before .before .before .before .path-to .ensures .0) in let m : missing (k .ending) ≡ true = sym (c .before .before .missing .ensures) ∙ c .before .if1 .taken in tells-missed st (a .l) (Insert (a .k) (a .v)) (c .missed .result) (climb-missing st (a .l) (a .k) (a .v) (c .before .before .before .before .before .before .before .before .before .before .before .pre .1) k e m) (c .missed .ensures)
 
--- src/lib.rt:81:9
 link-new-requires : tie.Need-link-new-requires
 link-new-requires c κs = search needs
 
--- src/lib.rt:82:30
 slice-aggregate-paint-rise : tie.Need-slice-aggregate-paint-rise
 slice-aggregate-paint-rise c = search needs
 
--- src/lib.rt:82:5
 paint-rise-requires : tie.Need-paint-rise-requires
 paint-rise-requires c κs = search needs
 
--- src/lib.rt:83:5
 end-insert-requires : tie.Need-end-insert-requires
 end-insert-requires c κs = search needs
 
--- src/lib.rt:68:1
 same-length-2 : tie.Need-same-length-2
 same-length-2 c = search needs
 
--- src/lib.rt:68:1
 returns-2 : tie.Need-returns-2
 returns-2 c = let a = c .before .before .before .before .before .before .before .before .before .before .before .before .before .before .before .before .before .before .before .before .before .before .before .args in let st = state (a .pool .now) (a .reg) in let k = c .before .before .before .before .before .before .before .before .before .before .before .before .before .before .before .rise .result in let path = pathTo (a .pool .now) (a .reg .root) (a .k) (a .l) in let e : k ≡ rise (a .pool .now) 0 path = rw (c .before .before .before .before .before .before .before .before .before .before .before .before .before .before .before .rise .ensures, c .before .before .before .before .before .before .before .before .before .before .before .before .before .before .before .before .before .before .before .path-to .ensures .0) in let m : missing (k .ending) ≡ false = sym (c .before .before .before .before .before .before .before .before .before .before .before .before .before .before .missing .ensures) ∙ c .before .before .before .before .before .before .before .before .before .before .before .before .before .if1 .left in
     let f : c .before .before .before .before .before .before .paint-rise .last .0 ≡ paintRise (k .levels) path (c .before .before .before .before .before .before .before .before .before .before .before .link-new .last .0) = rw (c .before .before .before .before .before .before .paint-rise .ensures, c .before .before .before .before .before .before .before .before .before .before .before .before .before .before .before .before .before .before .before .path-to .ensures .0) in

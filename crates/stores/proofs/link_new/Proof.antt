@@ -13,31 +13,24 @@ use Rattle.register.proofs.count_up.Reads as count-up-reads
 use Rattle.register.proofs.set_link.Reads as set-link-reads
 use Rattle.register.proofs.with_held.Reads as with-held-reads
 
--- src/lib.rt:30:9
 take-node-requires : tie.Need-take-node-requires
 take-node-requires c κs = search needs
 
--- src/lib.rt:31:9
 set-link-requires : tie.Need-set-link-requires
 set-link-requires c κs = search needs
 
--- src/lib.rt:32:9
 nodes-requires : tie.Need-nodes-requires
 nodes-requires c κs = search needs
 
--- src/lib.rt:33:33
 count-up-requires : tie.Need-count-up-requires
 count-up-requires c κs = search needs
 
--- src/lib.rt:33:5
 with-held-requires : tie.Need-with-held-requires
 with-held-requires c κs = search needs
 
--- src/lib.rt:25:1
 same-length : tie.Need-same-length
 same-length c = search needs
 
--- src/lib.rt:25:1
 returns : tie.Need-returns
 returns c = rw (c .with-held .ensures, c .before .count-up .ensures, c .before .before .nodes .ensures, c .before .before .before .before .before .before .set-link .ensures .0, c .before .before .before .before .before .before .set-link .ensures .1, c .before .before .before .before .before .before .before .before .before .before .take-node .ensures .0, c .before .before .before .before .before .before .before .before .before .before .take-node .ensures .1)
 

@@ -8,31 +8,24 @@ use Rattle.stores.proofs.moved_link.Reads as reads
 use Rattle.stores.proofs.moved_link.Lts as lts
 use Rattle.register.proofs.choose.Reads as choose-reads
 
--- src/lib.rt:132:23
 enum-told : tie.Need-enum-told
 enum-told c = search needs
 
--- src/lib.rt:133:26
 enum-told-2 : tie.Need-enum-told-2
 enum-told-2 c = search needs
 
--- src/lib.rt:134:21
 enum-known-l : tie.Need-enum-known-l
 enum-known-l c = search needs
 
--- src/lib.rt:134:39
 choose-requires : tie.Need-choose-requires
 choose-requires c κs = search needs
 
--- src/lib.rt:128:1
 returns : tie.Need-returns
 returns c = search needs
 
--- src/lib.rt:128:1
 returns-2 : tie.Need-returns-2
 returns-2 c = search needs
 
--- src/lib.rt:128:1
 returns-3 : tie.Need-returns-3
 returns-3 c = rw (c .before .before .l .given .1, c .choose .ensures)
 

@@ -8,11 +8,9 @@ use Rattle.stores.proofs.moved_store.Reads as reads
 use Rattle.stores.proofs.moved_store.Lts as lts
 use Rattle.stores.proofs.moved_link.Reads as moved-link-reads
 
--- src/lib.rt:143:9
 moved-link-requires : tie.Need-moved-link-requires
 moved-link-requires c κs = search needs
 
--- src/lib.rt:138:1
 returns : tie.Need-returns
 returns c = rw (c .moved-link .ensures)
 

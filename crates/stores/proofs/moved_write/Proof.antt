@@ -20,47 +20,36 @@ Inv-loop b n r₀ i₀ r i = (i ≤ mostStores) × (r .count ≡ r₀ .count) ×
 abbrev μ-loop : tie.MeasureT-loop
 μ-loop b n r₀ i₀ r i = mostStores - i
 
--- src/lib.rt:152:5
 loop-holds : tie.Need-loop-holds Inv-loop μ-loop
 loop-holds c = (search needs, refl, simp length-map at (c .good .1 .1 .0 .1 .1 .0 .1 .0 .1), map-all (movedStore (c .args .b) (c .args .n)) (c .args .w .stores))
 
--- src/lib.rt:153:18
 cast-at : tie.Need-cast-at Inv-loop μ-loop
 cast-at c = search needs
 
--- src/lib.rt:154:17
 mul-x : tie.Need-mul-x Inv-loop μ-loop
 mul-x c = search needs
 
--- src/lib.rt:154:17
 element-copy-out-x : tie.Need-element-copy-out-x Inv-loop μ-loop
 element-copy-out-x c = search needs
 
--- src/lib.rt:155:24
 moved-store-requires : tie.Need-moved-store-requires Inv-loop μ-loop
 moved-store-requires c κs = search needs
 
--- src/lib.rt:155:9
 mul-t9 : tie.Need-mul-t9 Inv-loop μ-loop
 mul-t9 c = search needs
 
--- src/lib.rt:155:9
 element-set-from-r : tie.Need-element-set-from-r Inv-loop μ-loop
 element-set-from-r c = search needs
 
--- src/lib.rt:156:9
 add-i : tie.Need-add-i Inv-loop μ-loop
 add-i c = search needs
 
--- src/lib.rt:152:5
 loop-less : tie.Need-loop-less Inv-loop μ-loop
 loop-less c = search needs
 
--- src/lib.rt:152:5
 loop-again : tie.Need-loop-again Inv-loop μ-loop
 loop-again c = let l = c .before .before .before .loop in let f = movedStore (c .before .before .before .before .args .b) (c .before .before .before .before .args .n) in (search needs, l .inv .1, rw length-set (l .inv .2), rw (c .moved-store .ensures) (map-next f (l .i) (l .r .stores) ∙ l .inv .3))
 
--- src/lib.rt:147:1
 returns : tie.Need-returns Inv-loop μ-loop
 unfolding movedWrite
 returns c = let l = c .before .loop in let f = movedStore (c .before .before .args .b) (c .before .before .args .n) in let e = sym (map-none f (l .i) (l .r .stores) (omega arith)) ∙ l .inv .3 in λ i. record { stores = e i; count = l .inv .1 i }

@@ -19,65 +19,50 @@ use Rattle.rotations.proofs.hang_copy.Reads as hang-copy-reads
 use Rattle.register.proofs.missed.Reads as missed-reads
 use Rattle.stores.proofs.await_readers.Reads as await-readers-reads
 
--- src/lib.rt:179:9
 node-at-requires : tie.Need-node-at-requires
 node-at-requires c κs = search needs
 
--- src/lib.rt:181:9
 missed-requires : tie.Need-missed-requires
 missed-requires c κs = search needs
 
--- src/lib.rt:181:9
 same-length : tie.Need-same-length
 same-length c = search needs
 
--- src/lib.rt:181:9
 returns : tie.Need-returns
 unfolding stepFinds
 returns c = let a = c .before .before .before .before .before .args in let st = state (a .pool .now) (a .reg) in let e : linkNode st (a .l) ≡ 0 = rw (← (c .before .before .node-at .ensures)) (c .before .if1 .taken) in tells-missed st (a .l) (Publish (a .c)) (c .missed .result) (no-node (linkNode st (a .l)) _ e) (c .missed .ensures)
 
--- src/lib.rt:185:9
 missed-requires-2 : tie.Need-missed-requires-2
 missed-requires-2 c κs = search needs
 
--- src/lib.rt:185:9
 same-length-2 : tie.Need-same-length-2
 same-length-2 c = search needs
 
--- src/lib.rt:185:9
 returns-2 : tie.Need-returns-2
 unfolding stepFinds
 returns-2 c = let a = c .before .before .before .before .before .before .args in let st = state (a .pool .now) (a .reg) in tells-missed st (a .l) (Publish (a .c)) (c .missed2 .result) (no-free st (linkNode st (a .l)) (c .before .if2 .taken)) (c .missed2 .ensures)
 
--- src/lib.rt:187:9
 child-requires : tie.Need-child-requires
 child-requires c κs = search needs
 
--- src/lib.rt:188:9
 child-requires-2 : tie.Need-child-requires-2
 child-requires-2 c κs = search needs
 
--- src/lib.rt:189:9
 word-requires : tie.Need-word-requires
 word-requires c κs = search needs
 
--- src/lib.rt:190:9
 hang-copy-requires : tie.Need-hang-copy-requires
 hang-copy-requires c κs = search needs
 
--- src/lib.rt:192:9
 await-readers-requires : tie.Need-await-readers-requires
 await-readers-requires c κs = search needs
 
--- src/lib.rt:193:9
 retire-requires : tie.Need-retire-requires
 retire-requires c κs = omega (arith, c .before .before .before .before .before .before .before .before .before .before .before .before .before .before .before .before .before .before .pre, c .before .before .before .before .before .hang-copy .kept .0)
 
--- src/lib.rt:174:1
 same-length-3 : tie.Need-same-length-3
 same-length-3 c = search needs
 
--- src/lib.rt:174:1
 returns-3 : tie.Need-returns-3
 unfolding stepFinds stepMade
 returns-3 c = let a = c .before .before .before .before .before .before .before .before .before .before .before .before .before .before .before .before .before .before .before .before .before .args in let st = state (a .pool .now) (a .reg) in let d : linkNode st (a .l) ≡ 0 → ⊥ = rw (← (c .before .before .before .before .before .before .before .before .before .before .before .before .before .before .before .before .before .before .node-at .ensures)) (c .before .before .before .before .before .before .before .before .before .before .before .before .before .before .before .before .before .if1 .left) in tells-made st (a .l) (Publish (a .c)) _ _ (takes-node st (linkNode st (a .l)) d (c .before .before .before .before .before .before .before .before .before .before .before .before .before .before .before .before .if2 .left)) refl

@@ -26,47 +26,36 @@ Inv-loop words₀ input₀ out₀ session₀ at₀ turns₀ words input out sess
 abbrev μ-loop : tie.MeasureT-loop
 μ-loop words₀ input₀ out₀ session₀ at₀ turns₀ words input out session at turns = turns
 
--- src/main.rt:104:9
 start-requires : tie.Need-start-requires Inv-loop μ-loop
 start-requires c κs = search needs
 
--- src/main.rt:107:5
 loop-holds : tie.Need-loop-holds Inv-loop μ-loop
 loop-holds c = search needs
 
--- src/main.rt:108:13
 read-some-requires : tie.Need-read-some-requires Inv-loop μ-loop
 read-some-requires c κs = search needs
 
--- src/main.rt:112:9
 turns-left-requires : tie.Need-turns-left-requires Inv-loop μ-loop
 turns-left-requires c κs = search needs
 
--- src/main.rt:107:5
 loop-less : tie.Need-loop-less Inv-loop μ-loop
 loop-less c = search needs
 
--- src/main.rt:107:5
 loop-again : tie.Need-loop-again Inv-loop μ-loop
 loop-again c = search needs
 
--- src/main.rt:114:5
 end-input-requires : tie.Need-end-input-requires Inv-loop μ-loop
 end-input-requires c κs = search needs
 
--- src/main.rt:101:1
 same-length : tie.Need-same-length Inv-loop μ-loop
 same-length c = search needs
 
--- src/main.rt:101:1
 same-length-2 : tie.Need-same-length-2 Inv-loop μ-loop
 same-length-2 c = search needs
 
--- src/main.rt:101:1
 same-length-3 : tie.Need-same-length-3 Inv-loop μ-loop
 same-length-3 c = search needs
 
--- src/main.rt:101:1
 returns : tie.Need-returns Inv-loop μ-loop
 returns c = search needs
 

@@ -7,15 +7,12 @@ use Rattle.trace.proofs.write_out.Reads as reads
 use Rattle.trace.proofs.write_out.Lts as lts
 use Rattle.io.proofs.write_all.Reads as write-all-reads
 
--- src/main.rt:17:34
 slice-aggregate-write-all : tie.Need-slice-aggregate-write-all
 slice-aggregate-write-all c = sym (length-take-le (c .before .before .args .at) (c .before .before .args .out .now) (c .before .before .pre))
 
--- src/main.rt:17:5
 write-all-requires : tie.Need-write-all-requires
 write-all-requires c κs = search needs
 
--- src/main.rt:14:1
 returns : tie.Need-returns
 returns c = search needs
 

@@ -22,63 +22,48 @@ Inv-loop words₀ input₀ want₀ out₀ count left₀ runs₀ same₀ words in
 abbrev μ-loop : tie.MeasureT-loop
 μ-loop words₀ input₀ want₀ out₀ count left₀ runs₀ same₀ words input want out left runs same = left
 
--- src/main.rt:146:5
 loop-holds : tie.Need-loop-holds Inv-loop μ-loop
 loop-holds c = search needs
 
--- src/main.rt:147:50
 sub-compare : tie.Need-sub-compare Inv-loop μ-loop
 sub-compare c = search needs
 
--- src/main.rt:147:50
 add-compare : tie.Need-add-compare Inv-loop μ-loop
 add-compare c = search needs
 
--- src/main.rt:147:17
 compare-requires : tie.Need-compare-requires Inv-loop μ-loop
 compare-requires c κs = search needs
 
--- src/main.rt:147:9
 add-same : tie.Need-add-same Inv-loop μ-loop
 add-same c = search needs
 
--- src/main.rt:148:9
 add-runs : tie.Need-add-runs Inv-loop μ-loop
 add-runs c = search needs
 
--- src/main.rt:149:9
 sub-left : tie.Need-sub-left Inv-loop μ-loop
 sub-left c = search needs
 
--- src/main.rt:146:5
 loop-less : tie.Need-loop-less Inv-loop μ-loop
 loop-less c = search needs
 
--- src/main.rt:146:5
 loop-again : tie.Need-loop-again Inv-loop μ-loop
 loop-again c = search needs
 
--- src/main.rt:151:5
 total-requires : tie.Need-total-requires Inv-loop μ-loop
 total-requires c κs = search needs
 
--- src/main.rt:140:1
 same-length : tie.Need-same-length Inv-loop μ-loop
 same-length c = search needs
 
--- src/main.rt:140:1
 same-length-2 : tie.Need-same-length-2 Inv-loop μ-loop
 same-length-2 c = search needs
 
--- src/main.rt:140:1
 same-length-3 : tie.Need-same-length-3 Inv-loop μ-loop
 same-length-3 c = search needs
 
--- src/main.rt:140:1
 same-length-4 : tie.Need-same-length-4 Inv-loop μ-loop
 same-length-4 c = search needs
 
--- src/main.rt:140:1
 returns : tie.Need-returns Inv-loop μ-loop
 returns c = search needs
 

@@ -7,15 +7,12 @@ use Rattle.traces.proofs.part_difference.Reads as reads
 use Rattle.traces.proofs.part_difference.Lts as lts
 use Rattle.traces.proofs.difference.Reads as difference-reads
 
--- src/main.rt:128:16
 slice-aggregate-difference : tie.Need-slice-aggregate-difference
 slice-aggregate-difference c = sym (length-take-le (c .before .before .before .args .end) (c .before .before .before .args .out .now) (c .before .before .before .pre))
 
--- src/main.rt:128:5
 difference-requires : tie.Need-difference-requires
 difference-requires c κs = search needs
 
--- src/main.rt:125:1
 returns : tie.Need-returns
 returns c = search needs
 

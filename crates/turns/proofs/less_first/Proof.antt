@@ -11,63 +11,48 @@ use Rattle.turns.proofs.less_first.Reads as reads
 use Rattle.turns.proofs.less_first.Lts as lts
 use Rattle.register.proofs.count_down.Reads as count-down-reads
 
--- src/lib.rt:67:19
 element-copy-out-r : tie.Need-element-copy-out-r
 element-copy-out-r c = search needs
 
--- src/lib.rt:67:5
 element-set-from-r : tie.Need-element-set-from-r
 element-set-from-r c = search needs
 
--- src/lib.rt:68:19
 element-copy-out-r-2 : tie.Need-element-copy-out-r-2
 element-copy-out-r-2 c = search needs
 
--- src/lib.rt:68:5
 element-set-from-r-2 : tie.Need-element-set-from-r-2
 element-set-from-r-2 c = search needs
 
--- src/lib.rt:69:19
 element-copy-out-r-3 : tie.Need-element-copy-out-r-3
 element-copy-out-r-3 c = search needs
 
--- src/lib.rt:69:5
 element-set-from-r-3 : tie.Need-element-set-from-r-3
 element-set-from-r-3 c = search needs
 
--- src/lib.rt:70:19
 element-copy-out-r-4 : tie.Need-element-copy-out-r-4
 element-copy-out-r-4 c = search needs
 
--- src/lib.rt:70:5
 element-set-from-r-4 : tie.Need-element-set-from-r-4
 element-set-from-r-4 c = search needs
 
--- src/lib.rt:71:19
 element-copy-out-r-5 : tie.Need-element-copy-out-r-5
 element-copy-out-r-5 c = search needs
 
--- src/lib.rt:71:5
 element-set-from-r-5 : tie.Need-element-set-from-r-5
 element-set-from-r-5 c = search needs
 
--- src/lib.rt:72:19
 element-copy-out-r-6 : tie.Need-element-copy-out-r-6
 element-copy-out-r-6 c = search needs
 
--- src/lib.rt:72:5
 element-set-from-r-6 : tie.Need-element-set-from-r-6
 element-set-from-r-6 c = search needs
 
--- src/lib.rt:73:5
 element-set-from-r-7 : tie.Need-element-set-from-r-7
 element-set-from-r-7 c = search needs
 
--- src/lib.rt:77:15
 count-down-requires : tie.Need-count-down-requires
 count-down-requires c κs = search needs
 
--- src/lib.rt:63:1
 returns : tie.Need-returns
 unfolding lessFirst
 returns c = let w = c .before .before .before .before .before .before .before .args .t1 in let e = shift-up (w .stores) (simp length-map at (c .before .before .before .before .before .before .before .good .0 .1 .1 .0 .1 .0 .1)) in λ i. record { stores = e i; count = c .count-down .ensures i }

@@ -18,36 +18,28 @@ use Rattle.turns.proofs.refused.Reads as refused-reads
 use Rattle.turns.proofs.stored.Reads as stored-reads
 use Rattle.turns.proofs.try_step.Reads as try-step-reads
 
--- src/lib.rt:100:13
 element-copy-out-x : tie.Need-element-copy-out-x
 element-copy-out-x c = search needs
 
--- src/lib.rt:103:9
 try-step-requires : tie.Need-try-step-requires
 try-step-requires c κs = let a = c .before .before .before .before .args in lent (state (a .pool .now) (a .reg)) (c .before .before .before .before .pre .0) .size
 
--- src/lib.rt:105:9
 stored-requires : tie.Need-stored-requires
 stored-requires c κs = search needs
 
--- src/lib.rt:105:9
 same-length : tie.Need-same-length
 same-length c = search needs
 
--- src/lib.rt:105:9
 returns : tie.Need-returns
 returns c = let a = c .before .before .before .before .before .before .before .before .before .args in let st = state (a .pool .now) (a .reg) in let x = storeOf (a .reg) 0 in let f : stepFinds st (x .link) (x .step) ≡ true = sym (c .before .before .before .before .try-step .ensures .0) ∙ c .before .if1 .taken in
     let m : turned (c .before .before .before .before .try-step .last .0) (c .before .before .before .before .try-step .result) ≡ stepMade st (x .link) (x .step) = c .before .before .before .before .try-step .ensures .1 ∙ rw f in let e = ap stored m ∙ sym (writer-stores st (c .before .before .before .before .before .before .before .before .before .pre .0) (c .before .before .before .before .before .before .before .before .before .pre .1) (c .before .before .before .before .before .before .before .before .before .pre .2) f) in let s = c .stored .ensures (c .before .before .before .before .try-step .last .0) in (s .0 ∙ ap (λ (o : Outcome). o .answer) e, s .1 ∙ ap (λ (o : Outcome). o .after) e)
 
--- src/lib.rt:107:5
 refused-requires : tie.Need-refused-requires
 refused-requires c κs = search needs
 
--- src/lib.rt:94:1
 same-length-2 : tie.Need-same-length-2
 same-length-2 c = search needs
 
--- src/lib.rt:94:1
 returns-2 : tie.Need-returns-2
 returns-2 c = let a = c .before .before .before .before .before .before .before .before .before .args in let st = state (a .pool .now) (a .reg) in let x = storeOf (a .reg) 0 in let f : stepFinds st (x .link) (x .step) ≡ false = sym (c .before .before .before .before .try-step .ensures .0) ∙ c .before .if1 .left in
     let m : turned (c .before .before .before .before .try-step .last .0) (c .before .before .before .before .try-step .result) ≡ made st Root 0 = c .before .before .before .before .try-step .ensures .1 ∙ rw f in let e = writer-missed st (c .before .before .before .before .before .before .before .before .before .pre .0) (c .before .before .before .before .before .before .before .before .before .pre .1) (c .before .before .before .before .before .before .before .before .before .pre .2) f in (c .refused .ensures .0 ∙ sym (ap (λ (o : Outcome). o .answer) e), rw (c .refused .ensures .1) (ap (λ (o : Made). state (o .after .pool) (a .reg)) m ∙ sym (ap (λ (o : Outcome). o .after) e)))

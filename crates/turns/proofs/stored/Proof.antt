@@ -13,20 +13,16 @@ use Rattle.turns.proofs.stored.Lts as lts
 use Rattle.register.proofs.with_write.Reads as with-write-reads
 use Rattle.turns.proofs.less_first.Reads as less-first-reads
 
--- src/lib.rt:70:9
 less-first-requires : tie.Need-less-first-requires
 less-first-requires c κs = search needs
 
--- src/lib.rt:71:9
 with-write-requires : tie.Need-with-write-requires
 with-write-requires c κs = search needs
 
--- src/lib.rt:73:9
 returns : tie.Need-returns
 unfolding stored
 returns c = λ p. let w = c .before .before .before .before .before .before .args .t .register .write in let e : eqb (lessFirst w .count) 0 ≡ true = rw (← (c .before .before .before .less-first .ensures)) (eq-eqb _ _ (c .if1 .taken)) in rw (e, c .before .before .with-write .ensures, c .before .before .before .less-first .ensures) (refl, refl)
 
--- src/lib.rt:63:1
 returns-2 : tie.Need-returns-2
 unfolding stored
 returns-2 c = λ p. let w = c .before .before .before .before .before .before .args .t .register .write in let e : eqb (lessFirst w .count) 0 ≡ false = rw (← (c .before .before .before .less-first .ensures)) (ne-eqb _ _ (c .if1 .left)) in rw (e, c .before .before .with-write .ensures, c .before .before .before .less-first .ensures) (refl, refl)

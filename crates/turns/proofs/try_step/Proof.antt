@@ -23,192 +23,145 @@ use Rattle.stores.proofs.adopt.Reads as adopt-reads
 use Rattle.stores.proofs.insert.Reads as insert-reads
 use Rattle.stores.proofs.publish.Reads as publish-reads
 
--- src/lib.rt:28:25
 enum-told : tie.Need-enum-told
 enum-told c = search needs
 
--- src/lib.rt:28:25
 missed-requires : tie.Need-missed-requires
 missed-requires c κs = search needs
 
--- src/lib.rt:29:22
 enum-known-x : tie.Need-enum-known-x
 enum-known-x c = search needs
 
--- src/lib.rt:29:31
 insert-requires : tie.Need-insert-requires
 insert-requires c κs = search needs
 
--- src/lib.rt:30:25
 enum-known-x-2 : tie.Need-enum-known-x-2
 enum-known-x-2 c = search needs
 
--- src/lib.rt:30:37
 diag-lower-requires : tie.Need-diag-lower-requires
 diag-lower-requires c κs = search needs
 
--- src/lib.rt:31:25
 enum-known-x-3 : tie.Need-enum-known-x-3
 enum-known-x-3 c = search needs
 
--- src/lib.rt:31:37
 diag-raise-requires : tie.Need-diag-raise-requires
 diag-raise-requires c κs = search needs
 
--- src/lib.rt:32:25
 enum-known-x-4 : tie.Need-enum-known-x-4
 enum-known-x-4 c = search needs
 
--- src/lib.rt:32:37
 zig-lower-a-requires : tie.Need-zig-lower-a-requires
 zig-lower-a-requires c κs = search needs
 
--- src/lib.rt:33:25
 enum-known-x-5 : tie.Need-enum-known-x-5
 enum-known-x-5 c = search needs
 
--- src/lib.rt:33:37
 zig-lower-c-requires : tie.Need-zig-lower-c-requires
 zig-lower-c-requires c κs = search needs
 
--- src/lib.rt:34:24
 enum-known-x-6 : tie.Need-enum-known-x-6
 enum-known-x-6 c = search needs
 
--- src/lib.rt:34:36
 zig-raise-requires : tie.Need-zig-raise-requires
 zig-raise-requires c κs = search needs
 
--- src/lib.rt:35:42
 enum-told-2 : tie.Need-enum-told-2
 enum-told-2 c = search needs
 
--- src/lib.rt:35:25
 unlink-requires : tie.Need-unlink-requires
 unlink-requires c κs = search needs
 
--- src/lib.rt:36:38
 enum-told-3 : tie.Need-enum-told-3
 enum-told-3 c = search needs
 
--- src/lib.rt:36:24
 adopt-requires : tie.Need-adopt-requires
 adopt-requires c κs = search needs
 
--- src/lib.rt:37:44
 enum-told-4 : tie.Need-enum-told-4
 enum-told-4 c = search needs
 
--- src/lib.rt:37:26
 replace-requires : tie.Need-replace-requires
 replace-requires c κs = search needs
 
--- src/lib.rt:38:23
 enum-known-x-7 : tie.Need-enum-known-x-7
 enum-known-x-7 c = search needs
 
--- src/lib.rt:38:29
 publish-requires : tie.Need-publish-requires
 publish-requires c κs = search needs
 
--- src/lib.rt:39:22
 enum-known-x-8 : tie.Need-enum-known-x-8
 enum-known-x-8 c = search needs
 
--- src/lib.rt:39:28
 detach-requires : tie.Need-detach-requires
 detach-requires c κs = search needs
 
--- src/lib.rt:22:1
 returns : tie.Need-returns
 unfolding stepFinds
 returns c = let a = c .before .before .before .before .args in rw (c .before .enum-told .given .1) (tells-missed (state (a .pool .now) (a .reg)) (a .l) Vacant (c .missed .result) refl (c .missed .ensures))
 
--- src/lib.rt:22:1
 same-length : tie.Need-same-length
 same-length c = search needs
 
--- src/lib.rt:22:1
 returns-2 : tie.Need-returns-2
 returns-2 c = rw (c .before .before .before .before .before .x .given .1) (c .before .before .insert .ensures)
 
--- src/lib.rt:22:1
 same-length-2 : tie.Need-same-length-2
 same-length-2 c = search needs
 
--- src/lib.rt:22:1
 returns-3 : tie.Need-returns-3
 returns-3 c = rw (c .before .before .before .before .before .x2 .given .1) (c .before .before .diag-lower .ensures)
 
--- src/lib.rt:22:1
 same-length-3 : tie.Need-same-length-3
 same-length-3 c = search needs
 
--- src/lib.rt:22:1
 returns-4 : tie.Need-returns-4
 returns-4 c = rw (c .before .before .before .before .before .x3 .given .1) (c .before .before .diag-raise .ensures)
 
--- src/lib.rt:22:1
 same-length-4 : tie.Need-same-length-4
 same-length-4 c = search needs
 
--- src/lib.rt:22:1
 returns-5 : tie.Need-returns-5
 returns-5 c = rw (c .before .before .before .before .before .x4 .given .1) (c .before .before .zig-lower-a .ensures)
 
--- src/lib.rt:22:1
 same-length-5 : tie.Need-same-length-5
 same-length-5 c = search needs
 
--- src/lib.rt:22:1
 returns-6 : tie.Need-returns-6
 returns-6 c = rw (c .before .before .before .before .before .x5 .given .1) (c .before .before .zig-lower-c .ensures)
 
--- src/lib.rt:22:1
 same-length-6 : tie.Need-same-length-6
 same-length-6 c = search needs
 
--- src/lib.rt:22:1
 returns-7 : tie.Need-returns-7
 returns-7 c = rw (c .before .before .before .before .before .x6 .given .1) (c .before .before .zig-raise .ensures)
 
--- src/lib.rt:22:1
 same-length-7 : tie.Need-same-length-7
 same-length-7 c = search needs
 
--- src/lib.rt:22:1
 returns-8 : tie.Need-returns-8
 returns-8 c = rw (c .before .before .before .before .enum-told2 .given .1) (c .before .before .unlink .ensures)
 
--- src/lib.rt:22:1
 same-length-8 : tie.Need-same-length-8
 same-length-8 c = search needs
 
--- src/lib.rt:22:1
 returns-9 : tie.Need-returns-9
 returns-9 c = rw (c .before .before .before .before .enum-told3 .given .1) (c .before .before .adopt .ensures)
 
--- src/lib.rt:22:1
 same-length-9 : tie.Need-same-length-9
 same-length-9 c = search needs
 
--- src/lib.rt:22:1
 returns-10 : tie.Need-returns-10
 returns-10 c = rw (c .before .before .before .before .enum-told4 .given .1) (c .before .before .replace .ensures)
 
--- src/lib.rt:22:1
 same-length-10 : tie.Need-same-length-10
 same-length-10 c = search needs
 
--- src/lib.rt:22:1
 returns-11 : tie.Need-returns-11
 returns-11 c = rw (c .before .before .before .before .before .x7 .given .1) (c .before .before .publish .ensures)
 
--- src/lib.rt:22:1
 same-length-11 : tie.Need-same-length-11
 same-length-11 c = search needs
 
--- src/lib.rt:22:1
 returns-12 : tie.Need-returns-12
 returns-12 c = rw (c .before .before .before .before .before .x8 .given .1) (c .before .before .detach .ensures)
 
