@@ -144,7 +144,7 @@ pub fn give_up(pool: &mut [u32], reg: Register, s: u32) -> Reply
             register: reg,
         };
     }
-    let register = queue::end_reading(pool, reg, s);
+    let register = lookups::end_reading(pool, reg, s);
     Reply {
         answer: Acceptance::Accepted,
         register,

@@ -1,6 +1,5 @@
 -- The step of a writer's turn, tried: made if it finds every node that it names.
-use mathlib.Core.Path.{_≡_, refl, sym, _∙_}
-use mathlib.Core.List.{List}
+use mathlib.Core.Path.{_≡_, refl}
 use mathlib.Core.Bool.{Bool, true, false, cond, not, _&&_}
 use borrow.Author.Tests.{eq-eqb, ne-eqb}
 use lib.Dec.{eqb}
@@ -8,32 +7,12 @@ use Prim.Native.Nat.{ℕ}
 use Rattle.types.specs.declared.Link.{Link}
 use Rattle.types.specs.declared.Link.the-variants.{Root}
 use Rattle.types.specs.declared.Step.{Step}
-use Rattle.types.specs.declared.Turned.{Turned}
-use Rattle.types.specs.declared.Register.{Register}
-use Rattle.spec.specs.Register.{State, state}
+use Rattle.spec.specs.Register.{State}
 use Rattle.spec.specs.Free.{queueEmpty}
 use Rattle.spec.specs.Turn.{Made, made, isNode, stepFinds, stepMade}
 
 abbrev pub tried : State → Link → Step → Made
 tried st l x = cond (stepFinds st l x) (stepMade st l x) (made st Root 0)
-
--- what the code's answer says, with the pool that it leaves
-abbrev pub turned : List ℕ → Turned → Made
-turned p t = made (state p (t .register)) (t .link) (t .node)
-
--- The answer of a step that misses a node, and of one that finds all.
-abbrev pub missedBy : Register → Turned
-missedBy r = record { found = false; link = Root; node = 0; register = r }
-
-module _ (st : State) (l : Link) (x : Step) where
-  abbrev pub Tells : List ℕ → Turned → Type 0
-  Tells p t = (t .found ≡ stepFinds st l x) × (turned p t ≡ tried st l x)
-
-  pub tells-missed : (t : Turned) → stepFinds st l x ≡ false → t ≡ missedBy (st .register) → Tells (st .pool) t
-  tells-missed t e m = rw (m, e) (refl, refl)
-
-  pub tells-made : (p : List ℕ) (t : Turned) → stepFinds st l x ≡ true → t .found ≡ true → turned p t ≡ stepMade st l x → Tells p t
-  tells-made p t e f m = (f ∙ sym e, m ∙ rw e)
 
 -- The tests of a step that names node n and of one that takes a node as well.
 pub no-node : (n : ℕ) (b : Bool) → n ≡ 0 → (isNode n && b) ≡ false

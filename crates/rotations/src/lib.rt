@@ -1,7 +1,7 @@
 // The stores of a rotation: diag and zig, left and right alike. Each function tries one store: it tests that the nodes are there, and
 // the free node that it takes, before it changes anything.
 use types::Link;
-use types::Register;
+use types::Head;
 use types::Rule;
 use types::Side;
 use types::Turned;
@@ -12,14 +12,14 @@ ghost use lib.ListN.{length};
 ghost use Rattle.types.specs.declared.Step.the-variants.{DiagLower, DiagRaise, ZigLowerA, ZigLowerC, ZigRaise};
 ghost use Rattle.spec.specs.Pool.{paint, blackColour};
 ghost use Rattle.spec.specs.Register.{state, setLink};
-ghost use Rattle.spec.specs.Turn.{made, painted, copyNode, copyColour, risenColour, underCopy, endDiag, endDiagFinds, endZig, stepFinds};
+ghost use Rattle.spec.specs.Turn.{painted, copyNode, copyColour, risenColour, underCopy, endDiag, endDiagFinds, endZig};
 ghost use Rattle.types.specs.declared.Register.{Register};
-ghost use Rattle.laws.specs.Turns.{turned, tried};
+ghost use Rattle.heads.specs.Head.{Follows, Tries, TriesReading};
 
 // The link l := a copy of node n, which has x on the side s and y on the other side.
 pub fn hang_copy(
     pool: &mut [u32],
-    reg: Register,
+    h: Head,
     l: Link,
     n: u32,
     s: Side,
@@ -27,19 +27,19 @@ pub fn hang_copy(
     y: u32,
     colour: u32,
 ) -> Turned
-    ensures { λ r. ⌜ r .found ≡ true ⌝ }
-    ensures { λ r. ⌜ turned (now (pool .exit)) r ≡ made (setLink (copyNode (state (now (pool .entry)) reg) n s x y colour) l (reg .first)) l (reg .first) ⌝ }
+    ensures { λ r. ⌜ (r .found ≡ true) × (r .link ≡ l) × (r .node ≡ h .first) ⌝ }
+    ensures { λ r. ⌜ Follows (λ st. setLink (copyNode st n s x y colour) l (h .first)) (now (pool .entry)) h (now (pool .exit)) (r .head) ⌝ }
 {
-    let first = reg.first;
+    let first = h.first;
     let k = pool::word(pool, n, pool::KEY);
     let v = pool::word(pool, n, pool::RECORD);
-    let taken = queue::take_node(pool, reg, k, v, s, x, y, colour);
-    let register = register::set_link(pool, taken, l, first);
+    let taken = queue::take_node(pool, h, k, v, s, x, y, colour);
+    let head = heads::set_link(pool, taken, l, first);
     Turned {
         found: true,
         link: l,
         node: first,
-        register,
+        head,
     }
 }
 
@@ -65,24 +65,23 @@ fn risen_colour(pool: &[u32], rule: Rule, c: u32) -> u32
 }
 
 // C' takes B's inner child on B's side; B's inner link := C'.
-pub fn diag_lower(pool: &mut [u32], reg: Register, l: Link, s: Side, rule: Rule) -> Turned
-    ensures { λ r. ⌜ r .found ≡ stepFinds (state (now (pool .entry)) reg) l (DiagLower s rule) ⌝ }
-    ensures { λ r. ⌜ turned (now (pool .exit)) r ≡ tried (state (now (pool .entry)) reg) l (DiagLower s rule) ⌝ }
+pub fn diag_lower(pool: &mut [u32], h: Head, l: Link, s: Side, rule: Rule) -> Turned
+    ensures { λ r. ⌜ Tries l (DiagLower s rule) (now (pool .entry)) h (now (pool .exit)) r ⌝ }
 {
-    let c = register::node_at(pool, reg.root, l);
+    let c = register::node_at(pool, h.root, l);
     let b = pool::child(pool, s, c);
     if b == 0 {
-        return register::missed(reg);
+        return heads::missed(h);
     }
-    if reg.first == 0 {
-        return register::missed(reg);
+    if h.first == 0 {
+        return heads::missed(h);
     }
     let z = pool::other(s);
     let x = pool::child(pool, z, b);
     let y = pool::child(pool, z, c);
     hang_copy(
         pool,
-        reg,
+        h,
         register::link_at(z, b),
         c,
         s,
@@ -93,23 +92,22 @@ pub fn diag_lower(pool: &mut [u32], reg: Register, l: Link, s: Side, rule: Rule)
 }
 
 // A' takes B's child on A's side; B's link on that side := A'.
-pub fn zig_lower_a(pool: &mut [u32], reg: Register, l: Link, s: Side, rule: Rule) -> Turned
-    ensures { λ r. ⌜ r .found ≡ stepFinds (state (now (pool .entry)) reg) l (ZigLowerA s rule) ⌝ }
-    ensures { λ r. ⌜ turned (now (pool .exit)) r ≡ tried (state (now (pool .entry)) reg) l (ZigLowerA s rule) ⌝ }
+pub fn zig_lower_a(pool: &mut [u32], h: Head, l: Link, s: Side, rule: Rule) -> Turned
+    ensures { λ r. ⌜ Tries l (ZigLowerA s rule) (now (pool .entry)) h (now (pool .exit)) r ⌝ }
 {
-    let a = pool::child(pool, s, register::node_at(pool, reg.root, l));
+    let a = pool::child(pool, s, register::node_at(pool, h.root, l));
     let b = pool::child(pool, pool::other(s), a);
     if b == 0 {
-        return register::missed(reg);
+        return heads::missed(h);
     }
-    if reg.first == 0 {
-        return register::missed(reg);
+    if h.first == 0 {
+        return heads::missed(h);
     }
     let x = pool::child(pool, s, a);
     let y = pool::child(pool, s, b);
     hang_copy(
         pool,
-        reg,
+        h,
         register::link_at(s, b),
         a,
         s,
@@ -120,24 +118,23 @@ pub fn zig_lower_a(pool: &mut [u32], reg: Register, l: Link, s: Side, rule: Rule
 }
 
 // C' takes B's child on the other side; B's link on that side := C'.
-pub fn zig_lower_c(pool: &mut [u32], reg: Register, l: Link, s: Side, rule: Rule) -> Turned
-    ensures { λ r. ⌜ r .found ≡ stepFinds (state (now (pool .entry)) reg) l (ZigLowerC s rule) ⌝ }
-    ensures { λ r. ⌜ turned (now (pool .exit)) r ≡ tried (state (now (pool .entry)) reg) l (ZigLowerC s rule) ⌝ }
+pub fn zig_lower_c(pool: &mut [u32], h: Head, l: Link, s: Side, rule: Rule) -> Turned
+    ensures { λ r. ⌜ Tries l (ZigLowerC s rule) (now (pool .entry)) h (now (pool .exit)) r ⌝ }
 {
     let z = pool::other(s);
-    let c = register::node_at(pool, reg.root, l);
+    let c = register::node_at(pool, h.root, l);
     let b = pool::child(pool, z, pool::child(pool, s, c));
     if b == 0 {
-        return register::missed(reg);
+        return heads::missed(h);
     }
-    if reg.first == 0 {
-        return register::missed(reg);
+    if h.first == 0 {
+        return heads::missed(h);
     }
     let x = pool::child(pool, z, b);
     let y = pool::child(pool, z, c);
     hang_copy(
         pool,
-        reg,
+        h,
         register::link_at(z, b),
         c,
         s,
@@ -148,10 +145,10 @@ pub fn zig_lower_c(pool: &mut [u32], reg: Register, l: Link, s: Side, rule: Rule
 }
 
 // The link from above := B, which takes its colour.
-fn raise(pool: &mut [u32], reg: Register, l: Link, b: u32, colour: u32) -> Register
-    ensures { λ r. ⌜ state (now (pool .exit)) r ≡ painted (setLink (state (now (pool .entry)) reg) l b) b colour ⌝ }
+fn raise(pool: &mut [u32], h: Head, l: Link, b: u32, colour: u32) -> Head
+    ensures { λ r. ⌜ Follows (λ st. painted (setLink st l b) b colour) (now (pool .entry)) h (now (pool .exit)) r ⌝ }
 {
-    let r = register::set_link(pool, reg, l, b);
+    let r = heads::set_link(pool, h, l, b);
     pool::set_word(pool, b, pool::COLOUR, colour);
     r
 }
@@ -197,28 +194,27 @@ fn end_diag_finds(pool: &[u32], rule: Rule, s: Side, b: u32) -> bool
 }
 
 // The link from above := B; C retired.
-pub fn diag_raise(pool: &mut [u32], reg: Register, l: Link, s: Side, rule: Rule) -> Turned
+pub fn diag_raise(pool: &mut [u32], h: Head, reading: u32, l: Link, s: Side, rule: Rule) -> Turned
     requires { ⌜ length (now pool) < 8192 ⌝ }
-    ensures { λ r. ⌜ r .found ≡ stepFinds (state (now (pool .entry)) reg) l (DiagRaise s rule) ⌝ }
-    ensures { λ r. ⌜ turned (now (pool .exit)) r ≡ tried (state (now (pool .entry)) reg) l (DiagRaise s rule) ⌝ }
+    ensures { λ r. ⌜ TriesReading reading l (DiagRaise s rule) (now (pool .entry)) h (now (pool .exit)) r ⌝ }
 {
-    let c = register::node_at(pool, reg.root, l);
+    let c = register::node_at(pool, h.root, l);
     let b = pool::child(pool, s, c);
     if b == 0 {
-        return register::missed(reg);
+        return heads::missed(h);
     }
     if end_diag_finds(pool, rule, s, b) {} else {
-        return register::missed(reg);
+        return heads::missed(h);
     }
     let colour = risen_colour(pool, rule, c);
-    let risen = raise(pool, reg, l, b, colour);
+    let risen = raise(pool, h, l, b, colour);
     end_diag(pool, risen.root, rule, s, b);
-    let register = queue::retire(pool, risen, c);
+    let head = queue::retire(pool, risen, reading, c);
     Turned {
         found: true,
         link: l,
         node: b,
-        register,
+        head,
     }
 }
 
@@ -234,25 +230,24 @@ fn end_zig(pool: &mut [u32], root: u32, rule: Rule)
 }
 
 // The link from above := B; A and C retired.
-pub fn zig_raise(pool: &mut [u32], reg: Register, l: Link, s: Side, rule: Rule) -> Turned
+pub fn zig_raise(pool: &mut [u32], h: Head, reading: u32, l: Link, s: Side, rule: Rule) -> Turned
     requires { ⌜ length (now pool) < 8192 ⌝ }
-    ensures { λ r. ⌜ r .found ≡ stepFinds (state (now (pool .entry)) reg) l (ZigRaise s rule) ⌝ }
-    ensures { λ r. ⌜ turned (now (pool .exit)) r ≡ tried (state (now (pool .entry)) reg) l (ZigRaise s rule) ⌝ }
+    ensures { λ r. ⌜ TriesReading reading l (ZigRaise s rule) (now (pool .entry)) h (now (pool .exit)) r ⌝ }
 {
-    let c = register::node_at(pool, reg.root, l);
+    let c = register::node_at(pool, h.root, l);
     let a = pool::child(pool, s, c);
     let b = pool::child(pool, pool::other(s), a);
     if b == 0 {
-        return register::missed(reg);
+        return heads::missed(h);
     }
     let colour = risen_colour(pool, rule, c);
-    let risen = raise(pool, reg, l, b, colour);
+    let risen = raise(pool, h, l, b, colour);
     end_zig(pool, risen.root, rule);
-    let register = queue::retire_two(pool, risen, a, c);
+    let head = queue::retire_two(pool, risen, reading, a, c);
     Turned {
         found: true,
         link: l,
         node: b,
-        register,
+        head,
     }
 }

@@ -2,7 +2,7 @@
 // there, and the free node that it takes, before it changes anything.
 use types::Ending;
 use types::Link;
-use types::Register;
+use types::Head;
 use types::Side;
 use types::Store;
 use types::Turned;
@@ -23,15 +23,16 @@ ghost use Rattle.laws.specs.Turns.{turned, tried};
 ghost use Rattle.stores.specs.Published.{awaiting};
 
 // The link l := a new red node; one key more is held.
-fn link_new(pool: &mut [u32], reg: Register, l: Link, k: u32, v: u32) -> Register
+fn link_new(pool: &mut [u32], h: Head, l: Link, k: u32, v: u32) -> Head
     requires { ⌜ length (now pool) < 8192 ⌝ }
-    ensures { λ r. ⌜ state (now (pool .exit)) r ≡ oneMore (setLink (takeNode (state (now (pool .entry)) reg) k v L 0 0 redColour) l (reg .first)) ⌝ }
+    ensures { λ r. ⌜ Follows (λ st. oneMore (setLink (takeNode st k v L 0 0 redColour) l (h .first))) (now (pool .entry)) h (now (pool .exit)) r ⌝ }
 {
-    let first = reg.first;
-    let taken = queue::take_node(pool, reg, k, v, Side::L, 0, 0, pool::RED);
-    let linked = register::set_link(pool, taken, l, first);
+    let first = h.first;
+    let taken = queue::take_node(pool, h, k, v, Side::L, 0, 0, pool::RED);
+    let mut r = heads::set_link(pool, taken, l, first);
     let top = pool::nodes(pool);
-    register::with_held(linked, register::count_up(top, linked.held))
+    r.held = register::count_up(top, r.held);
+    r
 }
 
 // without a rotation to come the root ends black
@@ -48,80 +49,76 @@ fn end_insert(pool: &mut [u32], root: u32, e: Ending)
 }
 
 // an insert under a black parent, or at the root
-fn insert_calm(pool: &mut [u32], reg: Register, l: Link, k: u32, v: u32) -> Turned
-    requires { ⌜ (length (now pool) < 8192) × (isRed (now pool) (owner l) ≡ false) × (stepFinds (state (now pool) reg) l (Insert k v) ≡ true) ⌝ }
-    ensures { λ r. ⌜ r .found ≡ stepFinds (state (now (pool .entry)) reg) l (Insert k v) ⌝ }
-    ensures { λ r. ⌜ turned (now (pool .exit)) r ≡ tried (state (now (pool .entry)) reg) l (Insert k v) ⌝ }
+fn insert_calm(pool: &mut [u32], h: Head, l: Link, k: u32, v: u32) -> Turned
+    requires { ⌜ (length (now pool) < 8192) × (isRed (now pool) (owner l) ≡ false) × (h .first ≡ 0 → ⊥) ⌝ }
+    ensures { λ r. ⌜ Tries l (Insert k v) (now (pool .entry)) h (now (pool .exit)) r ⌝ }
 {
-    let first = reg.first;
-    let register = link_new(pool, reg, l, k, v);
-    pool::set_word(pool, register.root, pool::COLOUR, pool::BLACK);
+    let first = h.first;
+    let head = link_new(pool, h, l, k, v);
+    pool::set_word(pool, head.root, pool::COLOUR, pool::BLACK);
     Turned {
         found: true,
         link: l,
         node: first,
-        register,
+        head,
     }
 }
 
 // an insert under a red parent
-fn insert_climbing(pool: &mut [u32], reg: Register, l: Link, k: u32, v: u32) -> Turned
-    requires { ⌜ (length (now pool) < 8192) × (isRed (now pool) (owner l) ≡ true) × (reg .first ≡ 0 → ⊥) ⌝ }
-    ensures { λ r. ⌜ r .found ≡ stepFinds (state (now (pool .entry)) reg) l (Insert k v) ⌝ }
-    ensures { λ r. ⌜ turned (now (pool .exit)) r ≡ tried (state (now (pool .entry)) reg) l (Insert k v) ⌝ }
+fn insert_climbing(pool: &mut [u32], h: Head, l: Link, k: u32, v: u32) -> Turned
+    requires { ⌜ (length (now pool) < 8192) × (isRed (now pool) (owner l) ≡ true) × (h .first ≡ 0 → ⊥) ⌝ }
+    ensures { λ r. ⌜ Tries l (Insert k v) (now (pool .entry)) h (now (pool .exit)) r ⌝ }
 {
     let mut path: [u64; paths::MOST_LINKS] = [0; paths::MOST_LINKS];
-    let c = paths::path_to(pool, reg.root, k, l, &mut path);
+    let c = paths::path_to(pool, h.root, k, l, &mut path);
     let climb = climbs::rise(pool, &path, c, 0);
     let ending = climb.ending;
     if climbs::missing(ending) {
-        return register::missed(reg);
+        return heads::missed(h);
     }
-    let first = reg.first;
-    let register = link_new(pool, reg, l, k, v);
+    let first = h.first;
+    let head = link_new(pool, h, l, k, v);
     climbs::paint_rise(pool, &path, c, climb.levels);
-    end_insert(pool, register.root, ending);
+    end_insert(pool, head.root, ending);
     Turned {
         found: true,
         link: l,
         node: first,
-        register,
+        head,
     }
 }
 
 // Links a new red node at the link l, then the climb's colours.
-pub fn insert(pool: &mut [u32], reg: Register, l: Link, k: u32, v: u32) -> Turned
+pub fn insert(pool: &mut [u32], h: Head, l: Link, k: u32, v: u32) -> Turned
     requires { ⌜ length (now pool) < 8192 ⌝ }
-    ensures { λ r. ⌜ r .found ≡ stepFinds (state (now (pool .entry)) reg) l (Insert k v) ⌝ }
-    ensures { λ r. ⌜ turned (now (pool .exit)) r ≡ tried (state (now (pool .entry)) reg) l (Insert k v) ⌝ }
+    ensures { λ r. ⌜ Tries l (Insert k v) (now (pool .entry)) h (now (pool .exit)) r ⌝ }
 {
-    if reg.first == 0 {
-        return register::missed(reg);
+    if h.first == 0 {
+        return heads::missed(h);
     }
     if pool::is_red(pool, register::owner(l)) {
-        return insert_climbing(pool, reg, l, k, v);
+        return insert_climbing(pool, h, l, k, v);
     }
-    insert_calm(pool, reg, l, k, v)
+    insert_calm(pool, h, l, k, v)
 }
 
 // C's left := B's left.
-pub fn adopt(pool: &mut [u32], reg: Register, l: Link) -> Turned
-    ensures { λ r. ⌜ r .found ≡ stepFinds (state (now (pool .entry)) reg) l Adopt ⌝ }
-    ensures { λ r. ⌜ turned (now (pool .exit)) r ≡ tried (state (now (pool .entry)) reg) l Adopt ⌝ }
+pub fn adopt(pool: &mut [u32], h: Head, l: Link) -> Turned
+    ensures { λ r. ⌜ Tries l Adopt (now (pool .entry)) h (now (pool .exit)) r ⌝ }
 {
-    let b = register::node_at(pool, reg.root, l);
+    let b = register::node_at(pool, h.root, l);
     let c = pool::child(pool, Side::R, b);
     if c == 0 {
-        return register::missed(reg);
+        return heads::missed(h);
     }
     let x = pool::child(pool, Side::L, b);
     let link = Link::Left(c);
-    let register = register::set_link(pool, reg, link, x);
+    let head = heads::set_link(pool, h, link, x);
     Turned {
         found: true,
         link,
         node: x,
-        register,
+        head,
     }
 }
 
@@ -145,7 +142,7 @@ fn moved_store(b: u32, n: u32, x: Store) -> Store
     Store { link: moved, step }
 }
 
-fn moved_write(b: u32, n: u32, w: Write) -> Write
+pub fn moved_write(b: u32, n: u32, w: Write) -> Write
     ensures { λ r. ⌜ r ≡ movedWrite b n w ⌝ }
 {
     let mut r = w;
@@ -159,42 +156,41 @@ fn moved_write(b: u32, n: u32, w: Write) -> Write
     r
 }
 
-// One key less is held, all reading slots are awaited, and the stores to come hang on the copy n in place of B.
-fn await_readers(reg: Register, b: u32, n: u32) -> Register
-    ensures { λ r. ⌜ r ≡ awaiting reg b n ⌝ }
+// One key less is held, and all reading slots are awaited.
+fn await_readers(h: Head, reading: u32) -> Head
+    ensures { λ r. ⌜ r ≡ awaiting h reading ⌝ }
 {
-    let q = register::with_held(reg, register::count_down(reg.held));
-    let awaiting = register::with_awaited(q, register::reading_slots(q));
-    let hand = q.write;
-    let moved = moved_write(b, n, hand);
-    register::with_write(awaiting, moved)
+    let mut r = h;
+    r.held = register::count_down(h.held);
+    r.awaited = reading;
+    r
 }
 
-// B's link from above := a copy of C with B's colour and links; B retired; all reading slots are awaited.
-pub fn publish(pool: &mut [u32], reg: Register, l: Link, c: u32) -> Turned
+// B's link from above := a copy of C with B's colour and links; B retired; all reading slots are awaited. The write in hand is to be
+// moved to the copy by moved_write.
+pub fn publish(pool: &mut [u32], h: Head, reading: u32, l: Link, c: u32) -> Turned
     requires { ⌜ length (now pool) < 8192 ⌝ }
-    ensures { λ r. ⌜ r .found ≡ stepFinds (state (now (pool .entry)) reg) l (Publish c) ⌝ }
-    ensures { λ r. ⌜ turned (now (pool .exit)) r ≡ tried (state (now (pool .entry)) reg) l (Publish c) ⌝ }
+    ensures { λ r. ⌜ Publishes reading l c (now (pool .entry)) h (now (pool .exit)) r ⌝ }
 {
-    let b = register::node_at(pool, reg.root, l);
+    let b = register::node_at(pool, h.root, l);
     if b == 0 {
-        return register::missed(reg);
+        return heads::missed(h);
     }
-    let first = reg.first;
+    let first = h.first;
     if first == 0 {
-        return register::missed(reg);
+        return heads::missed(h);
     }
     let x = pool::child(pool, Side::L, b);
     let y = pool::child(pool, Side::R, b);
     let colour = pool::word(pool, b, pool::COLOUR);
-    let copied = rotations::hang_copy(pool, reg, l, c, Side::L, x, y, colour);
-    let linked = copied.register;
-    let awaiting = await_readers(linked, b, first);
-    let register = queue::retire(pool, awaiting, b);
+    let copied = rotations::hang_copy(pool, h, l, c, Side::L, x, y, colour);
+    let linked = copied.head;
+    let awaiting = await_readers(linked, reading);
+    let head = queue::retire(pool, awaiting, reading, b);
     Turned {
         found: true,
         link: l,
         node: first,
-        register,
+        head,
     }
 }

@@ -1,4 +1,5 @@
 // The writer's turn from its step on: the step tried, and what is left of the write in hand.
+use types::Head;
 use types::Link;
 use types::Register;
 use types::Step;
@@ -19,24 +20,23 @@ ghost use Rattle.laws.specs.Turns.{turned, tried};
 ghost use Rattle.laws.specs.Tests.{lentNumber};
 
 // Tries the step x at the link l.
-pub fn try_step(pool: &mut [u32], reg: Register, l: Link, x: Step) -> Turned
+pub fn try_step(pool: &mut [u32], h: Head, reading: u32, l: Link, x: Step) -> Turned
     requires { ⌜ length (now pool) < 8192 ⌝ }
-    ensures { λ r. ⌜ r .found ≡ stepFinds (state (now (pool .entry)) reg) l x ⌝ }
-    ensures { λ r. ⌜ turned (now (pool .exit)) r ≡ tried (state (now (pool .entry)) reg) l x ⌝ }
+    ensures { λ r. ⌜ Made reading l x (now (pool .entry)) h (now (pool .exit)) r ⌝ }
 {
     match x {
-        Step::Vacant => register::missed(reg),
-        Step::Insert(k, v) => stores::insert(pool, reg, l, k, v),
-        Step::DiagLower(s, rule) => rotations::diag_lower(pool, reg, l, s, rule),
-        Step::DiagRaise(s, rule) => rotations::diag_raise(pool, reg, l, s, rule),
-        Step::ZigLowerA(s, rule) => rotations::zig_lower_a(pool, reg, l, s, rule),
-        Step::ZigLowerC(s, rule) => rotations::zig_lower_c(pool, reg, l, s, rule),
-        Step::ZigRaise(s, rule) => rotations::zig_raise(pool, reg, l, s, rule),
-        Step::Unlink => removals::unlink(pool, reg, l),
-        Step::Adopt => stores::adopt(pool, reg, l),
-        Step::Replace => removals::replace(pool, reg, l),
-        Step::Publish(c) => stores::publish(pool, reg, l, c),
-        Step::Detach(k) => removals::detach(pool, reg, l, k),
+        Step::Vacant => heads::missed(h),
+        Step::Insert(k, v) => stores::insert(pool, h, l, k, v),
+        Step::DiagLower(s, rule) => rotations::diag_lower(pool, h, l, s, rule),
+        Step::DiagRaise(s, rule) => rotations::diag_raise(pool, h, reading, l, s, rule),
+        Step::ZigLowerA(s, rule) => rotations::zig_lower_a(pool, h, l, s, rule),
+        Step::ZigLowerC(s, rule) => rotations::zig_lower_c(pool, h, l, s, rule),
+        Step::ZigRaise(s, rule) => rotations::zig_raise(pool, h, reading, l, s, rule),
+        Step::Unlink => removals::unlink(pool, h, reading, l),
+        Step::Adopt => stores::adopt(pool, h, l),
+        Step::Replace => removals::replace(pool, h, reading, l),
+        Step::Publish(c) => stores::publish(pool, h, reading, l, c),
+        Step::Detach(k) => removals::detach(pool, h, reading, l, k),
     }
 }
 
@@ -59,26 +59,33 @@ pub fn less_first(w: Write) -> Write
     r
 }
 
-// What a turn answers whose step was made: done if no store is left after it, more otherwise.
-pub fn stored(t: Turned) -> WriterReply
-    ensures { λ r. ⌜ ((p : List ℕ) → (writerSays (r .answer) ≡ stored (turned p t) .answer) × (state p (r .register) ≡ stored (turned p t) .after)) ⌝ }
+// The write in hand after the step x was made: a publish, which put the copy n in the place of b, moves the stores to come.
+fn moved_by(x: Step, b: u32, n: u32, w: Write) -> Write
+    ensures { λ r. ⌜ r ≡ movedBy x b n w ⌝ }
 {
-    let link = t.link;
-    let node = t.node;
-    let reg = t.register;
-    let hand = reg.write;
-    let left = less_first(hand);
-    let register = register::with_write(reg, left);
-    if left.count == 0 {
-        return WriterReply {
-            answer: WriterAnswer::Done(link, node),
-            register,
-        };
+    match x {
+        Step::Vacant => w,
+        Step::Insert(_, _) => w,
+        Step::DiagLower(_, _) => w,
+        Step::DiagRaise(_, _) => w,
+        Step::ZigLowerA(_, _) => w,
+        Step::ZigLowerC(_, _) => w,
+        Step::ZigRaise(_, _) => w,
+        Step::Unlink => w,
+        Step::Adopt => w,
+        Step::Replace => w,
+        Step::Publish(_) => stores::moved_write(b, n, w),
+        Step::Detach(_) => w,
     }
-    WriterReply {
-        answer: WriterAnswer::More(link, node),
-        register,
+}
+
+// done if no store is left, more otherwise
+fn answer_of(left: u32, link: Link, node: u32) -> WriterAnswer
+{
+    if left == 0 {
+        return WriterAnswer::Done(link, node);
     }
+    WriterAnswer::More(link, node)
 }
 
 pub fn refused(number: u32, register: Register) -> WriterReply
@@ -100,9 +107,16 @@ pub fn make_first(pool: &mut [u32], reg: Register) -> WriterReply
     let x = hand.stores[0];
     let link = x.link;
     let step = x.step;
-    let t = try_step(pool, reg, link, step);
-    if t.found {
-        return stored(t);
+    let h = heads::head_of(reg);
+    let b = register::node_at(pool, h.root, link);
+    let t = try_step(pool, h, register::reading_slots(reg), link, step);
+    if t.found {} else {
+        return refused(12, reg);
     }
-    refused(12, reg)
+    let head = t.head;
+    let stored = t.link;
+    let left = less_first(moved_by(step, b, h.first, hand));
+    let answer = answer_of(left.count, stored, t.node);
+    let register = register::with_write(heads::with_head(reg, head), left);
+    WriterReply { answer, register }
 }

@@ -115,12 +115,23 @@ pub struct Climb {
     pub ending: Ending,
 }
 
+// The register's head: its numbers. A step of the writer and the end of a reading change nothing else of the register, but for the
+// write in hand and one reader record; so they take and give the head, and a call puts the register together once.
+pub struct Head {
+    pub root: u32,
+    pub first: u32,
+    pub last: u32,
+    pub free: u32,
+    pub held: u32,
+    pub awaited: u32,
+}
+
 // What the step of a turn did: whether it found every node that it names, and then the link that it stored with its new node.
 pub struct Turned {
     pub found: bool,
     pub link: Link,
     pub node: u32,
-    pub register: Register,
+    pub head: Head,
 }
 
 // The answer of set up, insert, delete, begin and give up.

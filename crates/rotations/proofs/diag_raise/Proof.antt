@@ -1,6 +1,7 @@
-use Rattle.spec.specs.Register.{state, setLink}
+use Rattle.spec.specs.Register.{State}
+use Rattle.heads.specs.Head.{at, withHead, tells-missed, tells-made}
 use Rattle.spec.specs.Turn.{stepFinds, stepMade, diagLower, zigLowerA, zigLowerC, diagRaise, zigRaise, diagChild, zigChild}
-use Rattle.laws.specs.Turns.{tells-missed, tells-made, no-node, no-free, takes-node, node-there, and-false}
+use Rattle.laws.specs.Turns.{no-node, no-free, takes-node, node-there, and-false}
 use Rattle.types.specs.declared.Step.the-variants.{DiagLower, DiagRaise, ZigLowerA, ZigLowerC, ZigRaise}
 use mathlib.Core.Bool.{true, false}
 use Rattle.spec.specs.Turn.{endDiagFinds, isNode}
@@ -19,7 +20,7 @@ use Rattle.queue.proofs.retire.Reads as retire-reads
 use Rattle.register.proofs.node_at.Reads as node-at-reads
 use Rattle.rotations.proofs.end_diag.Reads as end-diag-reads
 use Rattle.rotations.proofs.end_diag_finds.Reads as end-diag-finds-reads
-use Rattle.register.proofs.missed.Reads as missed-reads
+use Rattle.heads.proofs.missed.Reads as missed-reads
 use Rattle.rotations.proofs.raise.Reads as raise-reads
 use Rattle.rotations.proofs.risen_colour.Reads as risen-colour-reads
 
@@ -37,7 +38,7 @@ same-length c = search needs
 
 returns : tie.Need-returns
 unfolding stepFinds
-returns c = let a = c .before .before .before .before .before .before .before .args in let st = state (a .pool .now) (a .reg) in let e : diagChild st (a .l) (a .s) ≡ 0 = rw (← (c .before .before .before .before .node-at .ensures), ← (c .before .before .child .ensures)) (c .before .if1 .taken) in tells-missed st (a .l) (DiagRaise (a .s) (a .rule)) (c .missed .result) (no-node (diagChild st (a .l) (a .s)) _ e) (c .missed .ensures)
+returns c = let a = c .before .before .before .before .before .before .before .args in λ q r. let st : State = at (a .pool .now) (a .h) q in let e : diagChild st (a .l) (a .s) ≡ 0 = rw (← (c .before .before .before .before .node-at .ensures), ← (c .before .before .child .ensures)) (c .before .if1 .taken) in tells-missed (a .pool .now) (a .h) (a .l) (DiagRaise (a .s) (a .rule)) q (c .missed .result) (no-node (diagChild st (a .l) (a .s)) _ e) (c .missed .ensures)
 
 end-diag-finds-requires : tie.Need-end-diag-finds-requires
 end-diag-finds-requires c κs = search needs
@@ -50,7 +51,7 @@ same-length-2 c = search needs
 
 returns-2 : tie.Need-returns-2
 unfolding stepFinds
-returns-2 c = let a = c .before .before .before .before .before .before .before .before .before .before .args in let st = state (a .pool .now) (a .reg) in let b = diagChild st (a .l) (a .s) in let e : endDiagFinds (a .rule) st (a .s) (diagChild st (a .l) (a .s)) ≡ false = rw (← (c .before .before .before .before .before .before .before .node-at .ensures), ← (c .before .before .before .before .before .child .ensures)) (sym (c .before .before .end-diag-finds .ensures (a .reg)) ∙ c .before .if2 .left) in tells-missed st (a .l) (DiagRaise (a .s) (a .rule)) (c .missed2 .result) (and-false (isNode b) (endDiagFinds (a .rule) st (a .s) b) e) (c .missed2 .ensures)
+returns-2 c = let a = c .before .before .before .before .before .before .before .before .before .before .args in λ q r. let st : State = at (a .pool .now) (a .h) q in let b = diagChild st (a .l) (a .s) in let e : endDiagFinds (a .rule) st (a .s) (diagChild st (a .l) (a .s)) ≡ false = rw (← (c .before .before .before .before .before .before .before .node-at .ensures), ← (c .before .before .before .before .before .child .ensures)) (sym (c .before .before .end-diag-finds .ensures (withHead q (a .h))) ∙ c .before .if2 .left) in tells-missed (a .pool .now) (a .h) (a .l) (DiagRaise (a .s) (a .rule)) q (c .missed2 .result) (and-false (isNode b) (endDiagFinds (a .rule) st (a .s) b) e) (c .missed2 .ensures)
 
 risen-colour-requires : tie.Need-risen-colour-requires
 risen-colour-requires c κs = search needs
@@ -69,8 +70,8 @@ same-length-3 c = search needs
 
 returns-3 : tie.Need-returns-3
 unfolding stepFinds stepMade
-returns-3 c = let a = c .before .before .before .before .before .before .before .before .before .before .before .before .before .before .before .before .before .before .before .before .before .before .before .args in let st = state (a .pool .now) (a .reg) in let b = diagChild st (a .l) (a .s) in let d : diagChild st (a .l) (a .s) ≡ 0 → ⊥ = rw (← (c .before .before .before .before .before .before .before .before .before .before .before .before .before .before .before .before .before .before .before .before .node-at .ensures), ← (c .before .before .before .before .before .before .before .before .before .before .before .before .before .before .before .before .before .before .child .ensures)) (c .before .before .before .before .before .before .before .before .before .before .before .before .before .before .before .before .before .if1 .left) in let e : endDiagFinds (a .rule) st (a .s) (diagChild st (a .l) (a .s)) ≡ true = rw (← (c .before .before .before .before .before .before .before .before .before .before .before .before .before .before .before .before .before .before .before .before .node-at .ensures), ← (c .before .before .before .before .before .before .before .before .before .before .before .before .before .before .before .before .before .before .child .ensures)) (sym (c .before .before .before .before .before .before .before .before .before .before .before .before .before .before .before .end-diag-finds .ensures (a .reg)) ∙ c .before .before .before .before .before .before .before .before .before .before .before .before .before .before .if2 .taken) in tells-made st (a .l) (DiagRaise (a .s) (a .rule)) _ _ (node-there b (endDiagFinds (a .rule) st (a .s) b) d e) refl
-    (diag-raised st (a .l) (a .s) (a .rule) (c .before .before .before .before .before .before .before .before .before .before .before .before .before .before .before .before .before .before .before .before .node-at .result) (c .before .before .before .before .before .before .before .before .before .before .before .before .before .before .before .before .before .before .child .result) (c .before .before .before .before .before .before .before .before .before .before .before .before .risen-colour .result) (c .before .before .before .before .before .before .before .before .before .before .raise .last .0) (c .before .before .before .before .before .before .end-diag .last .0) (c .before .before .before .before .before .before .before .before .before .before .raise .result) (state (c .before .before .retire .last .0) (c .before .before .retire .result)) (c .before .before .before .before .before .before .before .before .before .before .before .before .before .before .before .before .before .before .before .before .node-at .ensures) (c .before .before .before .before .before .before .before .before .before .before .before .before .risen-colour .ensures (a .reg)) (c .before .before .before .before .before .before .before .before .before .before .raise .ensures) (c .before .before .before .before .before .before .before .before .before .before .before .before .before .before .before .before .before .before .child .ensures ∙ rw (c .before .before .before .before .before .before .before .before .before .before .before .before .before .before .before .before .before .before .before .before .node-at .ensures)) (c .before .before .before .before .before .before .end-diag .ensures (c .before .before .before .before .before .before .before .before .before .before .raise .result) refl) (rw (c .before .before .retire .ensures .0, c .before .before .retire .ensures .1)))
+returns-3 c = let a = c .before .before .before .before .before .before .before .before .before .before .before .before .before .before .before .before .before .before .before .before .before .before .before .args in λ q r. let st : State = at (a .pool .now) (a .h) q in let b = diagChild st (a .l) (a .s) in let d : diagChild st (a .l) (a .s) ≡ 0 → ⊥ = rw (← (c .before .before .before .before .before .before .before .before .before .before .before .before .before .before .before .before .before .before .before .before .node-at .ensures), ← (c .before .before .before .before .before .before .before .before .before .before .before .before .before .before .before .before .before .before .child .ensures)) (c .before .before .before .before .before .before .before .before .before .before .before .before .before .before .before .before .before .if1 .left) in let e : endDiagFinds (a .rule) st (a .s) (diagChild st (a .l) (a .s)) ≡ true = rw (← (c .before .before .before .before .before .before .before .before .before .before .before .before .before .before .before .before .before .before .before .before .node-at .ensures), ← (c .before .before .before .before .before .before .before .before .before .before .before .before .before .before .before .before .before .before .child .ensures)) (sym (c .before .before .before .before .before .before .before .before .before .before .before .before .before .before .before .end-diag-finds .ensures (withHead q (a .h))) ∙ c .before .before .before .before .before .before .before .before .before .before .before .before .before .before .if2 .taken) in tells-made (a .pool .now) (a .h) (a .l) (DiagRaise (a .s) (a .rule)) q _ _ (node-there b (endDiagFinds (a .rule) st (a .s) b) d e) refl
+    (diag-raised st (a .l) (a .s) (a .rule) (c .before .before .before .before .before .before .before .before .before .before .before .before .before .before .before .before .before .before .before .before .node-at .result) (c .before .before .before .before .before .before .before .before .before .before .before .before .before .before .before .before .before .before .child .result) (c .before .before .before .before .before .before .before .before .before .before .before .before .risen-colour .result) (c .before .before .before .before .before .before .before .before .before .before .raise .last .0) (c .before .before .before .before .before .before .end-diag .last .0) (withHead q (c .before .before .before .before .before .before .before .before .before .before .raise .result)) (at (c .before .before .retire .last .0) (c .before .before .retire .result) q) (c .before .before .before .before .before .before .before .before .before .before .before .before .before .before .before .before .before .before .before .before .node-at .ensures) (c .before .before .before .before .before .before .before .before .before .before .before .before .risen-colour .ensures (withHead q (a .h))) (c .before .before .before .before .before .before .before .before .before .before .raise .ensures q) (c .before .before .before .before .before .before .before .before .before .before .before .before .before .before .before .before .before .before .child .ensures ∙ rw (c .before .before .before .before .before .before .before .before .before .before .before .before .before .before .before .before .before .before .before .before .node-at .ensures)) (c .before .before .before .before .before .before .end-diag .ensures (withHead q (c .before .before .before .before .before .before .before .before .before .before .raise .result)) refl) (c .before .before .retire .ensures q r))
 
 pub diag-raise-spec : {M : Type 1} → statement M
 diag-raise-spec =

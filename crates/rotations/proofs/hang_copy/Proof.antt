@@ -9,7 +9,7 @@ use Rattle.rotations.proofs.hang_copy.Reads as reads
 use Rattle.rotations.proofs.hang_copy.Lts as lts
 use Rattle.pool.proofs.word.Reads as word-reads
 use Rattle.queue.proofs.take_node.Reads as take-node-reads
-use Rattle.register.proofs.set_link.Reads as set-link-reads
+use Rattle.heads.proofs.set_link.Reads as set-link-reads
 
 word-requires : tie.Need-word-requires
 word-requires c κs = search needs
@@ -27,7 +27,8 @@ same-length : tie.Need-same-length
 same-length c = search needs
 
 returns : tie.Need-returns
-returns c = let e = c .before .before .set-link .ensures in (refl, rw (e .0, e .1, c .before .before .before .before .before .before .take-node .ensures .0, c .before .before .before .before .before .before .take-node .ensures .1, c .before .before .before .before .before .before .before .before .word2 .ensures, c .before .before .before .before .before .before .before .before .before .before .word .ensures))
+returns c = let x = c .before .before .before .before .before .before .take-node .ensures in let y = c .before .before .set-link .ensures in
+    ((refl, refl, refl), λ q. y q ∙ rw (x q, c .before .before .before .before .before .before .before .before .word2 .ensures, c .before .before .before .before .before .before .before .before .before .before .word .ensures))
 
 pub hang-copy-spec : {M : Type 1} → statement M
 hang-copy-spec =

@@ -1,3 +1,5 @@
+use Rattle.spec.specs.Register.{State}
+use Rattle.spec.specs.Turn.{painted}
 use Rattle.spec.specs.Turn.{painted}
 use mathlib.Core.Path.{_≡_, refl, sym, ap, _∙_}
 use native.Mathlib.Omega.{arith}
@@ -8,7 +10,7 @@ use Rattle.rotations.proofs.raise.Tie as tie
 use Rattle.rotations.proofs.raise.Reads as reads
 use Rattle.rotations.proofs.raise.Lts as lts
 use Rattle.pool.proofs.set_word.Reads as set-word-reads
-use Rattle.register.proofs.set_link.Reads as set-link-reads
+use Rattle.heads.proofs.set_link.Reads as set-link-reads
 
 set-link-requires : tie.Need-set-link-requires
 set-link-requires c κs = search needs
@@ -20,7 +22,7 @@ same-length : tie.Need-same-length
 same-length c = search needs
 
 returns : tie.Need-returns
-returns c = rw (c .before .before .set-word .ensures, c .before .before .before .before .before .before .set-link .ensures .0, c .before .before .before .before .before .before .set-link .ensures .1)
+returns c = let a = c .before .before .before .before .before .before .before .before .before .args in λ q. rw (c .before .before .set-word .ensures) (ap (λ (st : State). painted st (a .b) (a .colour)) (c .before .before .before .before .before .before .set-link .ensures q))
 
 pub raise-spec : {M : Type 1} → statement M
 raise-spec = tie.close (tie.spec set-link-requires set-word-requires same-length returns)

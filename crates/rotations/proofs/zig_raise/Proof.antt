@@ -1,6 +1,7 @@
-use Rattle.spec.specs.Register.{state, setLink}
+use Rattle.spec.specs.Register.{State}
+use Rattle.heads.specs.Head.{at, withHead, tells-missed, tells-made}
 use Rattle.spec.specs.Turn.{stepFinds, stepMade, diagLower, zigLowerA, zigLowerC, diagRaise, zigRaise, diagChild, zigChild}
-use Rattle.laws.specs.Turns.{tells-missed, tells-made, no-node, no-free, takes-node, node-there, and-false}
+use Rattle.laws.specs.Turns.{no-node, no-free, takes-node, node-there, and-false}
 use Rattle.types.specs.declared.Step.the-variants.{DiagLower, DiagRaise, ZigLowerA, ZigLowerC, ZigRaise}
 use mathlib.Core.Bool.{true, false}
 use Rattle.spec.specs.Turn.{endZig}
@@ -19,7 +20,7 @@ use Rattle.pool.proofs.other.Reads as other-reads
 use Rattle.queue.proofs.retire_two.Reads as retire-two-reads
 use Rattle.register.proofs.node_at.Reads as node-at-reads
 use Rattle.rotations.proofs.end_zig.Reads as end-zig-reads
-use Rattle.register.proofs.missed.Reads as missed-reads
+use Rattle.heads.proofs.missed.Reads as missed-reads
 use Rattle.rotations.proofs.raise.Reads as raise-reads
 use Rattle.rotations.proofs.risen_colour.Reads as risen-colour-reads
 
@@ -43,7 +44,7 @@ same-length c = search needs
 
 returns : tie.Need-returns
 unfolding stepFinds
-returns c = let a = c .before .before .before .before .before .before .before .before .before .before .args in let st = state (a .pool .now) (a .reg) in let e : zigChild st (a .l) (a .s) ≡ 0 = rw (← (c .before .before .before .before .before .before .before .node-at .ensures), ← (c .before .before .before .before .before .child .ensures), ← (c .before .before .before .other .ensures), ← (c .before .before .child2 .ensures)) (c .before .if1 .taken) in tells-missed st (a .l) (ZigRaise (a .s) (a .rule)) (c .missed .result) (rw (eq-eqb (zigChild st (a .l) (a .s)) 0 e)) (c .missed .ensures)
+returns c = let a = c .before .before .before .before .before .before .before .before .before .before .args in λ q r. let st : State = at (a .pool .now) (a .h) q in let e : zigChild st (a .l) (a .s) ≡ 0 = rw (← (c .before .before .before .before .before .before .before .node-at .ensures), ← (c .before .before .before .before .before .child .ensures), ← (c .before .before .before .other .ensures), ← (c .before .before .child2 .ensures)) (c .before .if1 .taken) in tells-missed (a .pool .now) (a .h) (a .l) (ZigRaise (a .s) (a .rule)) q (c .missed .result) (rw (eq-eqb (zigChild st (a .l) (a .s)) 0 e)) (c .missed .ensures)
 
 risen-colour-requires : tie.Need-risen-colour-requires
 risen-colour-requires c κs = search needs
@@ -62,8 +63,8 @@ same-length-2 c = search needs
 
 returns-2 : tie.Need-returns-2
 unfolding stepFinds stepMade
-returns-2 c = let a = c .before .before .before .before .before .before .before .before .before .before .before .before .before .before .before .before .before .before .before .before .before .before .before .args in let st = state (a .pool .now) (a .reg) in let d : zigChild st (a .l) (a .s) ≡ 0 → ⊥ = rw (← (c .before .before .before .before .before .before .before .before .before .before .before .before .before .before .before .before .before .before .before .before .node-at .ensures), ← (c .before .before .before .before .before .before .before .before .before .before .before .before .before .before .before .before .before .before .child .ensures), ← (c .before .before .before .before .before .before .before .before .before .before .before .before .before .before .before .before .other .ensures), ← (c .before .before .before .before .before .before .before .before .before .before .before .before .before .before .before .child2 .ensures)) (c .before .before .before .before .before .before .before .before .before .before .before .before .before .before .if1 .left) in tells-made st (a .l) (ZigRaise (a .s) (a .rule)) _ _ (rw (ne-eqb (zigChild st (a .l) (a .s)) 0 d)) refl
-    (zig-raised st (a .l) (a .s) (a .rule) (c .before .before .before .before .before .before .before .before .before .before .before .before .before .before .before .before .before .before .before .before .node-at .result) (c .before .before .before .before .before .before .before .before .before .before .before .before .before .before .before .child2 .result) (c .before .before .before .before .before .before .before .before .before .before .before .before .risen-colour .result) (c .before .before .before .before .before .before .before .before .before .before .raise .last .0) (c .before .before .before .before .before .before .end-zig .last .0) (c .before .before .before .before .before .before .before .before .before .before .raise .result) (state (c .before .before .retire-two .last .0) (c .before .before .retire-two .result)) (c .before .before .before .before .before .before .before .before .before .before .before .before .before .before .before .before .before .before .before .before .node-at .ensures) (c .before .before .before .before .before .before .before .before .before .before .before .before .risen-colour .ensures (a .reg)) (c .before .before .before .before .before .before .before .before .before .before .raise .ensures) (c .before .before .before .before .before .before .before .before .before .before .before .before .before .before .before .before .before .before .child .result) (c .before .before .before .before .before .before .before .before .before .before .before .before .before .before .before .before .before .before .child .ensures ∙ rw (c .before .before .before .before .before .before .before .before .before .before .before .before .before .before .before .before .before .before .before .before .node-at .ensures)) (c .before .before .before .before .before .before .before .before .before .before .before .before .before .before .before .child2 .ensures ∙ rw (c .before .before .before .before .before .before .before .before .before .before .before .before .before .before .before .before .other .ensures, c .before .before .before .before .before .before .before .before .before .before .before .before .before .before .before .before .before .before .child .ensures, c .before .before .before .before .before .before .before .before .before .before .before .before .before .before .before .before .before .before .before .before .node-at .ensures)) (c .before .before .before .before .before .before .end-zig .ensures (c .before .before .before .before .before .before .before .before .before .before .raise .result) refl) (rw (c .before .before .retire-two .ensures .0, c .before .before .retire-two .ensures .1)))
+returns-2 c = let a = c .before .before .before .before .before .before .before .before .before .before .before .before .before .before .before .before .before .before .before .before .before .before .before .args in λ q r. let st : State = at (a .pool .now) (a .h) q in let d : zigChild st (a .l) (a .s) ≡ 0 → ⊥ = rw (← (c .before .before .before .before .before .before .before .before .before .before .before .before .before .before .before .before .before .before .before .before .node-at .ensures), ← (c .before .before .before .before .before .before .before .before .before .before .before .before .before .before .before .before .before .before .child .ensures), ← (c .before .before .before .before .before .before .before .before .before .before .before .before .before .before .before .before .other .ensures), ← (c .before .before .before .before .before .before .before .before .before .before .before .before .before .before .before .child2 .ensures)) (c .before .before .before .before .before .before .before .before .before .before .before .before .before .before .if1 .left) in tells-made (a .pool .now) (a .h) (a .l) (ZigRaise (a .s) (a .rule)) q _ _ (rw (ne-eqb (zigChild st (a .l) (a .s)) 0 d)) refl
+    (zig-raised st (a .l) (a .s) (a .rule) (c .before .before .before .before .before .before .before .before .before .before .before .before .before .before .before .before .before .before .before .before .node-at .result) (c .before .before .before .before .before .before .before .before .before .before .before .before .before .before .before .child2 .result) (c .before .before .before .before .before .before .before .before .before .before .before .before .risen-colour .result) (c .before .before .before .before .before .before .before .before .before .before .raise .last .0) (c .before .before .before .before .before .before .end-zig .last .0) (withHead q (c .before .before .before .before .before .before .before .before .before .before .raise .result)) (at (c .before .before .retire-two .last .0) (c .before .before .retire-two .result) q) (c .before .before .before .before .before .before .before .before .before .before .before .before .before .before .before .before .before .before .before .before .node-at .ensures) (c .before .before .before .before .before .before .before .before .before .before .before .before .risen-colour .ensures (withHead q (a .h))) (c .before .before .before .before .before .before .before .before .before .before .raise .ensures q) (c .before .before .before .before .before .before .before .before .before .before .before .before .before .before .before .before .before .before .child .result) (c .before .before .before .before .before .before .before .before .before .before .before .before .before .before .before .before .before .before .child .ensures ∙ rw (c .before .before .before .before .before .before .before .before .before .before .before .before .before .before .before .before .before .before .before .before .node-at .ensures)) (c .before .before .before .before .before .before .before .before .before .before .before .before .before .before .before .child2 .ensures ∙ rw (c .before .before .before .before .before .before .before .before .before .before .before .before .before .before .before .before .other .ensures, c .before .before .before .before .before .before .before .before .before .before .before .before .before .before .before .before .before .before .child .ensures, c .before .before .before .before .before .before .before .before .before .before .before .before .before .before .before .before .before .before .before .before .node-at .ensures)) (c .before .before .before .before .before .before .end-zig .ensures (withHead q (c .before .before .before .before .before .before .before .before .before .before .raise .result)) refl) (c .before .before .retire-two .ensures q r))
 
 pub zig-raise-spec : {M : Type 1} → statement M
 zig-raise-spec =

@@ -1,20 +1,17 @@
-use Rattle.spec.specs.Register.{setLink}
-use mathlib.Core.Path.{_≡_, refl, sym, ap, _∙_}
-use native.Mathlib.Omega.{arith}
+use Rattle.heads.specs.Head.{at}
+use Rattle.spec.specs.Register.{setLink, withRoot}
 use borrow.Author.Tests.{eq-eqb, ne-eqb, lt-ltb, le-ltb, lt-leb, le-leb, not-true, not-false}
+use native.Mathlib.Omega.{arith}
+use mathlib.Core.Path.{_≡_, refl, sym, ap, _∙_}
 use borrow.Author.Needs.{needs}
-use Rattle.register.proofs.set_link.Statement.{statement}
-use Rattle.register.proofs.set_link.Tie as tie
-use Rattle.register.proofs.set_link.Reads as reads
-use Rattle.register.proofs.set_link.Lts as lts
+use Rattle.heads.proofs.set_link.Statement.{statement}
+use Rattle.heads.proofs.set_link.Tie as tie
+use Rattle.heads.proofs.set_link.Reads as reads
+use Rattle.heads.proofs.set_link.Lts as lts
 use Rattle.pool.proofs.set_word.Reads as set-word-reads
-use Rattle.register.proofs.with_root.Reads as with-root-reads
 
 enum-told : tie.Need-enum-told
 enum-told c = search needs
-
-with-root-requires : tie.Need-with-root-requires
-with-root-requires c κs = search needs
 
 enum-known-l : tie.Need-enum-known-l
 enum-known-l c = search needs
@@ -29,29 +26,28 @@ set-word-requires-2 : tie.Need-set-word-requires-2
 set-word-requires-2 c κs = search needs
 
 returns : tie.Need-returns
-unfolding setLink
-returns c = rw (c .before .enum-told .given .1) (c .with-root .ensures, refl)
+unfolding setLink withRoot
+returns c = rw (c .enum-told .given .1) (λ q. refl)
 
 same-length : tie.Need-same-length
 same-length c = search needs
 
 returns-2 : tie.Need-returns-2
 unfolding setLink
-returns-2 c = rw (c .before .before .before .before .before .l .given .1) (refl, c .before .before .set-word .ensures)
+returns-2 c = rw (c .before .before .before .before .before .l .given .1) (λ q. rw (c .before .before .set-word .ensures))
 
 same-length-2 : tie.Need-same-length-2
 same-length-2 c = search needs
 
 returns-3 : tie.Need-returns-3
 unfolding setLink
-returns-3 c = rw (c .before .before .before .before .before .l2 .given .1) (refl, c .before .before .set-word2 .ensures)
+returns-3 c = rw (c .before .before .before .before .before .l2 .given .1) (λ q. rw (c .before .before .set-word2 .ensures))
 
 pub set-link-spec : {M : Type 1} → statement M
 set-link-spec =
     tie.close
     (tie.spec
     enum-told
-    with-root-requires
     enum-known-l
     set-word-requires
     enum-known-l-2

@@ -1,0 +1,64 @@
+-- The register's head, and what a function over a head does: it is told of every register with this head. The rest of the register
+-- (readers, the write in hand) is any register's.
+use mathlib.Core.Path.{_≡_, refl, sym, _∙_}
+use mathlib.Core.List.{List}
+use mathlib.Core.Bool.{true, false}
+use Prim.Native.Nat.{ℕ}
+use Rattle.types.specs.declared.Head.{Head}
+use Rattle.types.specs.declared.Register.{Register}
+use Rattle.types.specs.declared.Turned.{Turned}
+use Rattle.types.specs.declared.Link.{Link}
+use Rattle.types.specs.declared.Link.the-variants.{Root}
+use Rattle.types.specs.declared.Step.{Step}
+use Rattle.spec.specs.Register.{State, state, readingSlots}
+use Rattle.spec.specs.Turn.{Made, made, stepFinds, stepMade}
+use Rattle.laws.specs.Turns.{tried}
+
+abbrev pub headOf : Register → Head
+headOf r = record { root = r .root; first = r .first; last = r .last; free = r .free; held = r .held; awaited = r .awaited }
+
+-- a register with another head
+abbrev pub withHead : Register → Head → Register
+withHead q h =
+    record { root = h .root; first = h .first; last = h .last; free = h .free; held = h .held; readers = q .readers; awaited = h .awaited; write = q .write }
+
+-- a pool with a register of the head h and of the rest of q
+abbrev pub at : List ℕ → Head → Register → State
+at p h q = state p (withHead q h)
+
+-- the reading slots are those of the rest
+pub same-reading : (q : Register) (h : Head) → readingSlots (withHead q h) ≡ readingSlots q
+unfolding readingSlots
+same-reading q h = refl
+
+-- From pool p and head h to p′ and h′ as f does, whatever the rest is; and where just the slots m read.
+abbrev pub Follows : (State → State) → List ℕ → Head → List ℕ → Head → Type 0
+Follows f p h p′ h′ = (q : Register) → at p′ h′ q ≡ f (at p h q)
+
+abbrev pub FollowsReading : ℕ → (State → State) → List ℕ → Head → List ℕ → Head → Type 0
+FollowsReading m f p h p′ h′ = (q : Register) → readingSlots q ≡ m → at p′ h′ q ≡ f (at p h q)
+
+-- What the answer of a tried step leaves, with the pool and the rest of the register; and that it is the step x at the link l tried.
+abbrev pub left : List ℕ → Turned → Register → Made
+left p t q = made (at p (t .head) q) (t .link) (t .node)
+
+abbrev pub Tells : State → Link → Step → List ℕ → Turned → Register → Type 0
+Tells st l x p t q = (t .found ≡ stepFinds st l x) × (left p t q ≡ tried st l x)
+
+abbrev pub Tries : Link → Step → List ℕ → Head → List ℕ → Turned → Type 0
+Tries l x p h p′ t = (q : Register) → Tells (at p h q) l x p′ t q
+
+abbrev pub TriesReading : ℕ → Link → Step → List ℕ → Head → List ℕ → Turned → Type 0
+TriesReading m l x p h p′ t = (q : Register) → readingSlots q ≡ m → Tells (at p h q) l x p′ t q
+
+-- The answer of a step that misses a node, and of one that finds all.
+abbrev pub missedBy : Head → Turned
+missedBy h = record { found = false; link = Root; node = 0; head = h }
+
+module _ (p : List ℕ) (h : Head) (l : Link) (x : Step) (q : Register) where
+  pub tells-missed : (t : Turned) → stepFinds (at p h q) l x ≡ false → t ≡ missedBy h → Tells (at p h q) l x p t q
+  tells-missed t e m = rw (m, e) (refl, refl)
+
+  pub tells-made : (p′ : List ℕ) (t : Turned) → stepFinds (at p h q) l x ≡ true → t .found ≡ true → left p′ t q ≡ stepMade (at p h q) l x
+      → Tells (at p h q) l x p′ t q
+  tells-made p′ t e f m = (f ∙ sym e, m ∙ rw e)

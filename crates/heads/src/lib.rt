@@ -1,0 +1,67 @@
+// The register's head: taken out of a register and put into it, and the store of a link, which is the root's or a word of the pool.
+use types::Head;
+use types::Link;
+use types::Register;
+use types::Turned;
+ghost use mathlib.Core.Path.{_≡_};
+ghost use Rattle.spec.specs.Register.{setLink};
+ghost use Rattle.heads.specs.Head.{headOf, withHead, Follows, missedBy};
+
+pub fn head_of(reg: Register) -> Head
+    ensures { λ r. ⌜ r ≡ headOf reg ⌝ }
+{
+    Head {
+        root: reg.root,
+        first: reg.first,
+        last: reg.last,
+        free: reg.free,
+        held: reg.held,
+        awaited: reg.awaited,
+    }
+}
+
+pub fn with_head(reg: Register, h: Head) -> Register
+    ensures { λ r. ⌜ r ≡ withHead reg h ⌝ }
+{
+    let mut r = reg;
+    r.root = h.root;
+    r.first = h.first;
+    r.last = h.last;
+    r.free = h.free;
+    r.held = h.held;
+    r.awaited = h.awaited;
+    r
+}
+
+// the answer of a step that names a node where there is none
+pub fn missed(head: Head) -> Turned
+    ensures { λ r. ⌜ r ≡ missedBy head ⌝ }
+{
+    Turned {
+        found: false,
+        link: Link::Root,
+        node: 0,
+        head,
+    }
+}
+
+// stores a link
+pub fn set_link(pool: &mut [u32], h: Head, l: Link, v: u32) -> Head
+    ensures { λ r. ⌜ Follows (λ st. setLink st l v) (now (pool .entry)) h (now (pool .exit)) r ⌝ }
+{
+    match l {
+        Link::Root => {
+            let mut r = h;
+            r.root = v;
+            r
+        }
+        Link::Left(n) => {
+            pool::set_word(pool, n, pool::LEFT, v);
+            h
+        }
+        Link::Right(n) => {
+            pool::set_word(pool, n, pool::RIGHT, v);
+            h
+        }
+    }
+}
