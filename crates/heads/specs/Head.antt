@@ -2,7 +2,7 @@
 -- (readers, the write in hand) is any register's.
 use mathlib.Core.Path.{_≡_, refl, sym, _∙_}
 use mathlib.Core.List.{List}
-use mathlib.Core.Bool.{true, false}
+use mathlib.Core.Bool.{true, false, false≢true}
 use Prim.Native.Nat.{ℕ}
 use Rattle.types.specs.declared.Head.{Head}
 use Rattle.types.specs.declared.Register.{Register}
@@ -12,7 +12,6 @@ use Rattle.types.specs.declared.Link.the-variants.{Root}
 use Rattle.types.specs.declared.Step.{Step}
 use Rattle.spec.specs.Register.{State, state, readingSlots}
 use Rattle.spec.specs.Turn.{Made, made, stepFinds, stepMade}
-use Rattle.laws.specs.Turns.{tried}
 
 abbrev pub headOf : Register → Head
 headOf r = record { root = r .root; first = r .first; last = r .last; free = r .free; held = r .held; awaited = r .awaited }
@@ -38,12 +37,14 @@ Follows f p h p′ h′ = (q : Register) → at p′ h′ q ≡ f (at p h q)
 abbrev pub FollowsReading : ℕ → (State → State) → List ℕ → Head → List ℕ → Head → Type 0
 FollowsReading m f p h p′ h′ = (q : Register) → readingSlots q ≡ m → at p′ h′ q ≡ f (at p h q)
 
--- What the answer of a tried step leaves, with the pool and the rest of the register; and that it is the step x at the link l tried.
+-- What the answer of a tried step leaves, with the pool and the rest of the register.
 abbrev pub left : List ℕ → Turned → Register → Made
 left p t q = made (at p (t .head) q) (t .link) (t .node)
 
+-- The answer t, with the pool p and the rest q that it leaves, is that of the step x tried on st: made if it finds every node that it
+-- names, and with the pool as it was otherwise.
 abbrev pub Tells : State → Link → Step → List ℕ → Turned → Register → Type 0
-Tells st l x p t q = (t .found ≡ stepFinds st l x) × (left p t q ≡ tried st l x)
+Tells st l x p t q = (t .found ≡ stepFinds st l x) × (t .found ≡ true → left p t q ≡ stepMade st l x) × (t .found ≡ false → p ≡ st .pool)
 
 abbrev pub Tries : Link → Step → List ℕ → Head → List ℕ → Turned → Type 0
 Tries l x p h p′ t = (q : Register) → Tells (at p h q) l x p′ t q
@@ -57,8 +58,8 @@ missedBy h = record { found = false; link = Root; node = 0; head = h }
 
 module _ (p : List ℕ) (h : Head) (l : Link) (x : Step) (q : Register) where
   pub tells-missed : (t : Turned) → stepFinds (at p h q) l x ≡ false → t ≡ missedBy h → Tells (at p h q) l x p t q
-  tells-missed t e m = rw (m, e) (refl, refl)
+  tells-missed t e m = rw m (sym e, λ f. absurd (false≢true f), λ f. refl)
 
   pub tells-made : (p′ : List ℕ) (t : Turned) → stepFinds (at p h q) l x ≡ true → t .found ≡ true → left p′ t q ≡ stepMade (at p h q) l x
       → Tells (at p h q) l x p′ t q
-  tells-made p′ t e f m = (f ∙ sym e, m ∙ rw e)
+  tells-made p′ t e f m = (f ∙ sym e, λ g. m, λ g. absurd (false≢true (sym g ∙ f)))

@@ -1,18 +1,12 @@
--- The step of a writer's turn, tried: made if it finds every node that it names.
+-- The tests of a writer's step: whether it finds the nodes that it names, and a free node.
 use mathlib.Core.Path.{_≡_, refl}
-use mathlib.Core.Bool.{Bool, true, false, cond, not, _&&_}
+use mathlib.Core.Bool.{Bool, true, false, not, _&&_}
 use borrow.Author.Tests.{eq-eqb, ne-eqb}
 use lib.Dec.{eqb}
 use Prim.Native.Nat.{ℕ}
-use Rattle.types.specs.declared.Link.{Link}
-use Rattle.types.specs.declared.Link.the-variants.{Root}
-use Rattle.types.specs.declared.Step.{Step}
 use Rattle.spec.specs.Register.{State}
 use Rattle.spec.specs.Free.{queueEmpty}
-use Rattle.spec.specs.Turn.{Made, made, isNode, stepFinds, stepMade}
-
-abbrev pub tried : State → Link → Step → Made
-tried st l x = cond (stepFinds st l x) (stepMade st l x) (made st Root 0)
+use Rattle.spec.specs.Turn.{isNode}
 
 -- The tests of a step that names node n and of one that takes a node as well.
 pub no-node : (n : ℕ) (b : Bool) → n ≡ 0 → (isNode n && b) ≡ false

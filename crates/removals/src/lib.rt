@@ -8,11 +8,11 @@ ghost use mathlib.Core.Path.{_≡_};
 ghost use Prim.Native.Nat.{ℕ, _<_, _≤_};
 ghost use lib.ListN.{length};
 ghost use Rattle.types.specs.declared.Step.the-variants.{Unlink, Replace, Detach};
-ghost use Rattle.spec.specs.Register.{state, setLink};
+ghost use Rattle.spec.specs.Register.{setLink};
 ghost use Rattle.spec.specs.Free.{retire};
 ghost use Rattle.spec.specs.Plan.{paintLoss};
-ghost use Rattle.spec.specs.Turn.{stepFinds, oneLess, painted};
-ghost use Rattle.laws.specs.Turns.{turned, tried};
+ghost use Rattle.spec.specs.Turn.{oneLess, painted};
+ghost use Rattle.heads.specs.Head.{Follows, FollowsReading, TriesReading};
 ghost use Rattle.paths.specs.Upward.{upward};
 
 // The colours of a climb along a path of c links, where x came; then n is retired.

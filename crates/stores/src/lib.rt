@@ -13,14 +13,14 @@ ghost use Prim.Native.Nat.{ℕ, _<_};
 ghost use lib.ListN.{length};
 ghost use Rattle.types.specs.declared.Register.{Register};
 ghost use Rattle.types.specs.declared.Side.the-variants.{L};
-ghost use Rattle.types.specs.declared.Step.the-variants.{Insert, Adopt, Publish};
+ghost use Rattle.types.specs.declared.Step.the-variants.{Insert, Adopt};
 ghost use Rattle.types.specs.Side.{owner};
 ghost use Rattle.spec.specs.Pool.{isRed, redColour};
-ghost use Rattle.spec.specs.Register.{state, setLink, withHeld, withAwaited, withWrite, countDown, readingSlots};
+ghost use Rattle.spec.specs.Register.{state, setLink};
 ghost use Rattle.spec.specs.Free.{takeNode};
-ghost use Rattle.spec.specs.Turn.{oneMore, endInsert, movedLink, movedStore, movedWrite, stepFinds};
-ghost use Rattle.laws.specs.Turns.{turned, tried};
-ghost use Rattle.stores.specs.Published.{awaiting};
+ghost use Rattle.spec.specs.Turn.{oneMore, endInsert, movedLink, movedStore, movedWrite};
+ghost use Rattle.heads.specs.Head.{Follows, Tries};
+ghost use Rattle.stores.specs.Published.{Publishes, awaiting};
 
 // The link l := a new red node; one key more is held.
 fn link_new(pool: &mut [u32], h: Head, l: Link, k: u32, v: u32) -> Head

@@ -9,20 +9,19 @@ use types::Write;
 use types::WriterAnswer;
 use types::WriterReply;
 ghost use mathlib.Core.Path.{_≡_};
-ghost use mathlib.Core.List.{List};
-ghost use mathlib.Core.Bool.{true};
+ghost use mathlib.Core.Bool.{true, cond};
 ghost use Prim.Native.Nat.{ℕ, _<_};
+ghost use lib.Dec.{eqb};
 ghost use lib.ListN.{length};
 ghost use Rattle.spec.specs.Register.{state, lessFirst};
-ghost use Rattle.spec.specs.Turn.{stepFinds};
-ghost use Rattle.spec.specs.Calls.{writerSays, refused, stored, writeInHand, writerTurn};
-ghost use Rattle.laws.specs.Turns.{turned, tried};
+ghost use Rattle.spec.specs.Calls.{writerSays, refused, done, more, writeInHand, writerTurn};
 ghost use Rattle.laws.specs.Tests.{lentNumber};
+ghost use Rattle.turns.specs.Made.{publishes, movedBy, TriesAny};
 
 // Tries the step x at the link l.
 pub fn try_step(pool: &mut [u32], h: Head, reading: u32, l: Link, x: Step) -> Turned
     requires { ⌜ length (now pool) < 8192 ⌝ }
-    ensures { λ r. ⌜ Made reading l x (now (pool .entry)) h (now (pool .exit)) r ⌝ }
+    ensures { λ r. ⌜ TriesAny reading l x (now (pool .entry)) h (now (pool .exit)) r ⌝ }
 {
     match x {
         Step::Vacant => heads::missed(h),
@@ -59,28 +58,38 @@ pub fn less_first(w: Write) -> Write
     r
 }
 
+fn publishes(x: Step) -> bool
+    ensures { λ r. ⌜ r ≡ publishes x ⌝ }
+{
+    match x {
+        Step::Vacant => false,
+        Step::Insert(_, _) => false,
+        Step::DiagLower(_, _) => false,
+        Step::DiagRaise(_, _) => false,
+        Step::ZigLowerA(_, _) => false,
+        Step::ZigLowerC(_, _) => false,
+        Step::ZigRaise(_, _) => false,
+        Step::Unlink => false,
+        Step::Adopt => false,
+        Step::Replace => false,
+        Step::Publish(_) => true,
+        Step::Detach(_) => false,
+    }
+}
+
 // The write in hand after the step x was made: a publish, which put the copy n in the place of b, moves the stores to come.
 fn moved_by(x: Step, b: u32, n: u32, w: Write) -> Write
     ensures { λ r. ⌜ r ≡ movedBy x b n w ⌝ }
 {
-    match x {
-        Step::Vacant => w,
-        Step::Insert(_, _) => w,
-        Step::DiagLower(_, _) => w,
-        Step::DiagRaise(_, _) => w,
-        Step::ZigLowerA(_, _) => w,
-        Step::ZigLowerC(_, _) => w,
-        Step::ZigRaise(_, _) => w,
-        Step::Unlink => w,
-        Step::Adopt => w,
-        Step::Replace => w,
-        Step::Publish(_) => stores::moved_write(b, n, w),
-        Step::Detach(_) => w,
+    if publishes(x) {
+        return stores::moved_write(b, n, w);
     }
+    w
 }
 
 // done if no store is left, more otherwise
 fn answer_of(left: u32, link: Link, node: u32) -> WriterAnswer
+    ensures { λ r. ⌜ writerSays r ≡ cond (eqb left 0) (done link node) (more link node) ⌝ }
 {
     if left == 0 {
         return WriterAnswer::Done(link, node);

@@ -1,7 +1,7 @@
 use Rattle.removals.specs.Removals.{reached-some}
-use Rattle.laws.specs.Turns.{tells-missed, tells-made}
 use Rattle.types.specs.declared.Step.the-variants.{Detach}
-use Rattle.spec.specs.Register.{state}
+use Rattle.spec.specs.Register.{State}
+use Rattle.heads.specs.Head.{at, tells-missed, tells-made}
 use Rattle.spec.specs.Turn.{stepFinds, stepMade, detachStore}
 use mathlib.Core.Bool.{true, false}
 use mathlib.Core.Path.{_≡_, refl, sym, ap, _∙_}
@@ -18,9 +18,9 @@ use Rattle.paths.proofs.path_to.Reads as path-to-reads
 use Rattle.paths.proofs.successor_path.Reads as successor-path-reads
 use Rattle.pool.proofs.child.Reads as child-reads
 use Rattle.register.proofs.node_at.Reads as node-at-reads
-use Rattle.register.proofs.set_link.Reads as set-link-reads
+use Rattle.heads.proofs.set_link.Reads as set-link-reads
 use Rattle.climbs.proofs.calmly.Reads as calmly-reads
-use Rattle.register.proofs.missed.Reads as missed-reads
+use Rattle.heads.proofs.missed.Reads as missed-reads
 use Rattle.removals.proofs.settle.Reads as settle-reads
 
 node-at-requires : tie.Need-node-at-requires
@@ -67,9 +67,9 @@ same-length c = search needs
 
 returns : tie.Need-returns
 unfolding stepFinds
-returns c = let a = c .before .before .before .before .before .before .before .before .before .before .before .before .before .before .before .before .before .before .before .before .before .before .before .args in let st = state (a .pool .now) (a .reg) in
+returns c = let a = c .before .before .before .before .before .before .before .before .before .before .before .before .before .before .before .before .before .before .before .before .before .before .before .args in λ q r. let st : State = at (a .pool .now) (a .h) q in
     let f : stepFinds st (a .l) (Detach (a .key)) ≡ false = rw (← (c .before .before .before .before .before .before .before .before .before .before .before .before .before .before .before .before .before .before .before .before .node-at .ensures), ← (c .before .before .before .before .before .before .before .before .before .before .before .before .before .before .before .before .before .path-to .ensures .0), ← (c .before .before .before .before .before .before .before .before .before .before .before .before .before .successor-path .ensures .0), reached-some, ← (c .before .before .before .before .before .before .before .before .before .before .nearest .ensures), ← (c .before .before .before .before .before .before .before .before .node-at2 .ensures), ← (c .before .before .before .before .before .before .child .ensures), ← (c .before .before .before .loss-climb .ensures), ← (c .before .before .calmly .ensures)) (c .before .if1 .left) in
-    tells-missed st (a .l) (Detach (a .key)) (c .missed .result) f (c .missed .ensures)
+    tells-missed (a .pool .now) (a .h) (a .l) (Detach (a .key)) q (c .missed .result) f (c .missed .ensures)
 
 set-link-requires : tie.Need-set-link-requires
 set-link-requires c κs = search needs
@@ -85,9 +85,9 @@ same-length-2 c = search needs
 
 returns-2 : tie.Need-returns-2
 unfolding stepFinds stepMade detachStore
-returns-2 c = let a = c .before .before .before .before .before .before .before .before .before .before .before .before .before .before .before .before .before .before .before .before .before .before .before .before .before .before .before .before .before .before .before .args in let st = state (a .pool .now) (a .reg) in
+returns-2 c = let a = c .before .before .before .before .before .before .before .before .before .before .before .before .before .before .before .before .before .before .before .before .before .before .before .before .before .before .before .before .before .before .before .args in λ q r. let st : State = at (a .pool .now) (a .h) q in
     let f : stepFinds st (a .l) (Detach (a .key)) ≡ true = rw (← (c .before .before .before .before .before .before .before .before .before .before .before .before .before .before .before .before .before .before .before .before .before .before .before .before .before .before .before .before .node-at .ensures), ← (c .before .before .before .before .before .before .before .before .before .before .before .before .before .before .before .before .before .before .before .before .before .before .before .before .before .path-to .ensures .0), ← (c .before .before .before .before .before .before .before .before .before .before .before .before .before .before .before .before .before .before .before .before .before .successor-path .ensures .0), reached-some, ← (c .before .before .before .before .before .before .before .before .before .before .before .before .before .before .before .before .before .before .nearest .ensures), ← (c .before .before .before .before .before .before .before .before .before .before .before .before .before .before .before .before .node-at2 .ensures), ← (c .before .before .before .before .before .before .before .before .before .before .before .before .before .before .child .ensures), ← (c .before .before .before .before .before .before .before .before .before .before .before .loss-climb .ensures), ← (c .before .before .before .before .before .before .before .before .before .before .calmly .ensures)) (c .before .before .before .before .before .before .before .before .before .if1 .taken) in
-    tells-made st (a .l) (Detach (a .key)) _ _ f (c .before .before .before .before .before .before .before .before .before .if1 .taken) (rw (c .before .before .settle .ensures, c .before .before .before .before .before .before .before .set-link .ensures .0, c .before .before .before .before .before .before .before .set-link .ensures .1, c .before .before .before .before .before .before .before .before .before .before .before .loss-climb .ensures, c .before .before .before .before .before .before .before .before .before .before .before .before .before .before .child .ensures, c .before .before .before .before .before .before .before .before .before .before .before .before .before .before .before .before .node-at2 .ensures, c .before .before .before .before .before .before .before .before .before .before .before .before .before .before .before .before .before .before .nearest .ensures, c .before .before .before .before .before .before .before .before .before .before .before .before .before .before .before .before .before .before .before .before .before .successor-path .ensures .0, c .before .before .before .before .before .before .before .before .before .before .before .before .before .before .before .before .before .before .before .before .before .before .before .before .before .path-to .ensures .0, c .before .before .before .before .before .before .before .before .before .before .before .before .before .before .before .before .before .before .before .before .before .before .before .before .before .before .before .before .node-at .ensures))
+    tells-made (a .pool .now) (a .h) (a .l) (Detach (a .key)) q _ _ f (c .before .before .before .before .before .before .before .before .before .if1 .taken) (rw (c .before .before .settle .ensures q r, c .before .before .before .before .before .before .before .set-link .ensures q, c .before .before .before .before .before .before .before .before .before .before .before .loss-climb .ensures, c .before .before .before .before .before .before .before .before .before .before .before .before .before .before .child .ensures, c .before .before .before .before .before .before .before .before .before .before .before .before .before .before .before .before .node-at2 .ensures, c .before .before .before .before .before .before .before .before .before .before .before .before .before .before .before .before .before .before .nearest .ensures, c .before .before .before .before .before .before .before .before .before .before .before .before .before .before .before .before .before .before .before .before .before .successor-path .ensures .0, c .before .before .before .before .before .before .before .before .before .before .before .before .before .before .before .before .before .before .before .before .before .before .before .before .before .path-to .ensures .0, c .before .before .before .before .before .before .before .before .before .before .before .before .before .before .before .before .before .before .before .before .before .before .before .before .before .before .before .before .node-at .ensures))
 
 pub detach-spec : {M : Type 1} → statement M
 detach-spec =

@@ -1,6 +1,6 @@
-use Rattle.laws.specs.Turns.{tells-missed, tells-made}
 use Rattle.types.specs.declared.Step.the-variants.{Replace}
-use Rattle.spec.specs.Register.{state}
+use Rattle.spec.specs.Register.{State}
+use Rattle.heads.specs.Head.{at, tells-missed, tells-made}
 use Rattle.spec.specs.Turn.{stepFinds, stepMade, replaceStore}
 use mathlib.Core.Bool.{true, false}
 use mathlib.Core.Path.{_≡_, refl, sym, ap, _∙_}
@@ -18,7 +18,7 @@ use Rattle.pool.proofs.child.Reads as child-reads
 use Rattle.pool.proofs.word.Reads as word-reads
 use Rattle.register.proofs.node_at.Reads as node-at-reads
 use Rattle.climbs.proofs.calmly.Reads as calmly-reads
-use Rattle.register.proofs.missed.Reads as missed-reads
+use Rattle.heads.proofs.missed.Reads as missed-reads
 use Rattle.removals.proofs.settle.Reads as settle-reads
 use Rattle.removals.proofs.store_successor.Reads as store-successor-reads
 
@@ -63,9 +63,9 @@ same-length c = search needs
 
 returns : tie.Need-returns
 unfolding stepFinds
-returns c = let a = c .before .before .before .before .before .before .before .before .before .before .before .before .before .before .before .before .before .before .before .before .before .before .args in let st = state (a .pool .now) (a .reg) in
+returns c = let a = c .before .before .before .before .before .before .before .before .before .before .before .before .before .before .before .before .before .before .before .before .before .before .args in λ q r. let st : State = at (a .pool .now) (a .h) q in
     let f : stepFinds st (a .l) Replace ≡ false = rw (← (c .before .before .before .before .before .before .before .before .before .before .before .before .before .before .before .before .before .before .before .node-at .ensures), ← (c .before .before .before .before .before .before .before .before .before .before .before .before .before .before .before .before .before .child .ensures), ← (c .before .before .before .before .before .before .before .before .before .before .before .before .before .before .before .child2 .ensures), ← (c .before .before .before .before .before .before .before .before .before .before .before .before .before .word .ensures), ← (c .before .before .before .before .before .before .before .before .before .before .path-to .ensures .0), ← (c .before .before .before .before .before .before .before .below-right .ensures .0), ← (c .before .before .before .loss-climb .ensures), ← (c .before .before .calmly .ensures)) (c .before .if1 .left) in
-    tells-missed st (a .l) Replace (c .missed .result) f (c .missed .ensures)
+    tells-missed (a .pool .now) (a .h) (a .l) Replace q (c .missed .result) f (c .missed .ensures)
 
 word-requires-2 : tie.Need-word-requires-2
 word-requires-2 c κs = search needs
@@ -84,9 +84,9 @@ same-length-2 c = search needs
 
 returns-2 : tie.Need-returns-2
 unfolding stepFinds stepMade replaceStore
-returns-2 c = let a = c .before .before .before .before .before .before .before .before .before .before .before .before .before .before .before .before .before .before .before .before .before .before .before .before .before .before .before .before .before .before .before .before .args in let st = state (a .pool .now) (a .reg) in
+returns-2 c = let a = c .before .before .before .before .before .before .before .before .before .before .before .before .before .before .before .before .before .before .before .before .before .before .before .before .before .before .before .before .before .before .before .before .args in λ q r. let st : State = at (a .pool .now) (a .h) q in
     let f : stepFinds st (a .l) Replace ≡ true = rw (← (c .before .before .before .before .before .before .before .before .before .before .before .before .before .before .before .before .before .before .before .before .before .before .before .before .before .before .before .before .before .node-at .ensures), ← (c .before .before .before .before .before .before .before .before .before .before .before .before .before .before .before .before .before .before .before .before .before .before .before .before .before .before .before .child .ensures), ← (c .before .before .before .before .before .before .before .before .before .before .before .before .before .before .before .before .before .before .before .before .before .before .before .before .before .child2 .ensures), ← (c .before .before .before .before .before .before .before .before .before .before .before .before .before .before .before .before .before .before .before .before .before .before .before .word .ensures), ← (c .before .before .before .before .before .before .before .before .before .before .before .before .before .before .before .before .before .before .before .before .path-to .ensures .0), ← (c .before .before .before .before .before .before .before .before .before .before .before .before .before .before .before .before .before .below-right .ensures .0), ← (c .before .before .before .before .before .before .before .before .before .before .before .before .before .loss-climb .ensures), ← (c .before .before .before .before .before .before .before .before .before .before .before .before .calmly .ensures)) (c .before .before .before .before .before .before .before .before .before .before .before .if1 .taken) in
-    tells-made st (a .l) Replace _ _ f (c .before .before .before .before .before .before .before .before .before .before .before .if1 .taken) (rw (c .before .before .settle .ensures, c .before .before .before .before .before .before .before .store-successor .ensures, c .before .before .before .before .before .before .before .before .before .word2 .ensures, c .before .before .before .before .before .before .before .before .before .before .before .before .before .loss-climb .ensures, c .before .before .before .before .before .before .before .before .before .before .before .before .before .before .before .before .before .below-right .ensures .0, c .before .before .before .before .before .before .before .before .before .before .before .before .before .before .before .before .before .before .before .before .path-to .ensures .0, c .before .before .before .before .before .before .before .before .before .before .before .before .before .before .before .before .before .before .before .before .before .before .before .word .ensures, c .before .before .before .before .before .before .before .before .before .before .before .before .before .before .before .before .before .before .before .before .before .before .before .before .before .child2 .ensures, c .before .before .before .before .before .before .before .before .before .before .before .before .before .before .before .before .before .before .before .before .before .before .before .before .before .before .before .child .ensures, c .before .before .before .before .before .before .before .before .before .before .before .before .before .before .before .before .before .before .before .before .before .before .before .before .before .before .before .before .before .node-at .ensures))
+    tells-made (a .pool .now) (a .h) (a .l) Replace q _ _ f (c .before .before .before .before .before .before .before .before .before .before .before .if1 .taken) (rw (c .before .before .settle .ensures q r, c .before .before .before .before .before .before .before .store-successor .ensures q, c .before .before .before .before .before .before .before .before .before .word2 .ensures, c .before .before .before .before .before .before .before .before .before .before .before .before .before .loss-climb .ensures, c .before .before .before .before .before .before .before .before .before .before .before .before .before .before .before .before .before .below-right .ensures .0, c .before .before .before .before .before .before .before .before .before .before .before .before .before .before .before .before .before .before .before .before .path-to .ensures .0, c .before .before .before .before .before .before .before .before .before .before .before .before .before .before .before .before .before .before .before .before .before .before .before .word .ensures, c .before .before .before .before .before .before .before .before .before .before .before .before .before .before .before .before .before .before .before .before .before .before .before .before .before .child2 .ensures, c .before .before .before .before .before .before .before .before .before .before .before .before .before .before .before .before .before .before .before .before .before .before .before .before .before .before .before .child .ensures, c .before .before .before .before .before .before .before .before .before .before .before .before .before .before .before .before .before .before .before .before .before .before .before .before .before .before .before .before .before .node-at .ensures))
 
 pub replace-spec : {M : Type 1} → statement M
 replace-spec =

@@ -1,3 +1,4 @@
+use Rattle.heads.specs.Head.{withHead}
 use Rattle.spec.specs.Plan.{paintLoss}
 use mathlib.Core.Path.{_≡_, refl, sym, ap, _∙_}
 use native.Mathlib.Omega.{arith}
@@ -21,7 +22,7 @@ same-length c = search needs
 
 returns : tie.Need-returns
 unfolding paintLoss
-returns c = rw (c .before .before .retire .ensures .0, c .before .before .retire .ensures .1, c .before .before .before .before .before .before .paint-loss .ensures (c .before .before .before .before .before .before .before .before .before .before .args .reg) refl)
+returns c = λ q r. c .before .before .retire .ensures q r ∙ rw (c .before .before .before .before .before .before .paint-loss .ensures (withHead q (c .before .before .before .before .before .before .before .before .before .before .args .h)) refl)
 
 pub settle-spec : {M : Type 1} → statement M
 settle-spec = tie.close (tie.spec paint-loss-requires retire-requires same-length returns)

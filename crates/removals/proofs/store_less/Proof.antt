@@ -1,3 +1,5 @@
+use Rattle.spec.specs.Register.{withHeld}
+use Rattle.spec.specs.Turn.{oneLess}
 use mathlib.Core.Path.{_≡_, refl, sym, ap, _∙_}
 use native.Mathlib.Omega.{arith}
 use borrow.Author.Tests.{eq-eqb, ne-eqb, lt-ltb, le-ltb, lt-leb, le-leb, not-true, not-false}
@@ -7,8 +9,7 @@ use Rattle.removals.proofs.store_less.Tie as tie
 use Rattle.removals.proofs.store_less.Reads as reads
 use Rattle.removals.proofs.store_less.Lts as lts
 use Rattle.register.proofs.count_down.Reads as count-down-reads
-use Rattle.register.proofs.set_link.Reads as set-link-reads
-use Rattle.register.proofs.with_held.Reads as with-held-reads
+use Rattle.heads.proofs.set_link.Reads as set-link-reads
 
 set-link-requires : tie.Need-set-link-requires
 set-link-requires c κs = search needs
@@ -16,16 +17,14 @@ set-link-requires c κs = search needs
 count-down-requires : tie.Need-count-down-requires
 count-down-requires c κs = search needs
 
-with-held-requires : tie.Need-with-held-requires
-with-held-requires c κs = search needs
-
 same-length : tie.Need-same-length
 same-length c = search needs
 
 returns : tie.Need-returns
-returns c = rw (c .with-held .ensures, c .before .count-down .ensures, c .before .before .before .before .set-link .ensures .0, c .before .before .before .before .set-link .ensures .1)
+unfolding withHeld
+returns c = λ q. rw (c .count-down .ensures) (ap oneLess (c .before .before .before .set-link .ensures q))
 
 pub store-less-spec : {M : Type 1} → statement M
 store-less-spec =
     tie.close
-    (tie.spec set-link-requires count-down-requires with-held-requires same-length returns)
+    (tie.spec set-link-requires count-down-requires same-length returns)

@@ -1,6 +1,6 @@
-use Rattle.laws.specs.Turns.{tells-missed, tells-made}
 use Rattle.types.specs.declared.Step.the-variants.{Unlink}
-use Rattle.spec.specs.Register.{state}
+use Rattle.spec.specs.Register.{State}
+use Rattle.heads.specs.Head.{at, tells-missed, tells-made}
 use Rattle.spec.specs.Turn.{stepFinds, stepMade, unlinkStore}
 use mathlib.Core.Bool.{true, false}
 use mathlib.Core.Path.{_≡_, refl, sym, ap, _∙_}
@@ -17,7 +17,7 @@ use Rattle.paths.proofs.path_to.Reads as path-to-reads
 use Rattle.pool.proofs.word.Reads as word-reads
 use Rattle.register.proofs.node_at.Reads as node-at-reads
 use Rattle.climbs.proofs.calmly.Reads as calmly-reads
-use Rattle.register.proofs.missed.Reads as missed-reads
+use Rattle.heads.proofs.missed.Reads as missed-reads
 use Rattle.removals.proofs.settle.Reads as settle-reads
 use Rattle.removals.proofs.store_less.Reads as store-less-reads
 
@@ -53,9 +53,9 @@ same-length c = search needs
 
 returns : tie.Need-returns
 unfolding stepFinds
-returns c = let a = c .before .before .before .before .before .before .before .before .before .before .before .before .before .before .before .before .before .args in let st = state (a .pool .now) (a .reg) in
+returns c = let a = c .before .before .before .before .before .before .before .before .before .before .before .before .before .before .before .before .before .args in λ q r. let st : State = at (a .pool .now) (a .h) q in
     let f : stepFinds st (a .l) Unlink ≡ false = rw (← (c .before .before .before .before .before .before .before .before .before .before .before .before .before .before .node-at .ensures), ← (c .before .before .before .before .before .before .before .before .before .before .before .before .only-child .ensures), ← (c .before .before .before .before .before .before .before .before .before .before .word .ensures), ← (c .before .before .before .before .before .before .before .path-to .ensures .0), ← (c .before .before .before .loss-climb .ensures), ← (c .before .before .calmly .ensures)) (c .before .if1 .left) in
-    tells-missed st (a .l) Unlink (c .missed .result) f (c .missed .ensures)
+    tells-missed (a .pool .now) (a .h) (a .l) Unlink q (c .missed .result) f (c .missed .ensures)
 
 store-less-requires : tie.Need-store-less-requires
 store-less-requires c κs = search needs
@@ -71,9 +71,9 @@ same-length-2 c = search needs
 
 returns-2 : tie.Need-returns-2
 unfolding stepFinds stepMade unlinkStore
-returns-2 c = let a = c .before .before .before .before .before .before .before .before .before .before .before .before .before .before .before .before .before .before .before .before .before .before .before .before .before .args in let st = state (a .pool .now) (a .reg) in
+returns-2 c = let a = c .before .before .before .before .before .before .before .before .before .before .before .before .before .before .before .before .before .before .before .before .before .before .before .before .before .args in λ q r. let st : State = at (a .pool .now) (a .h) q in
     let f : stepFinds st (a .l) Unlink ≡ true = rw (← (c .before .before .before .before .before .before .before .before .before .before .before .before .before .before .before .before .before .before .before .before .before .before .node-at .ensures), ← (c .before .before .before .before .before .before .before .before .before .before .before .before .before .before .before .before .before .before .before .before .only-child .ensures), ← (c .before .before .before .before .before .before .before .before .before .before .before .before .before .before .before .before .before .before .word .ensures), ← (c .before .before .before .before .before .before .before .before .before .before .before .before .before .before .before .path-to .ensures .0), ← (c .before .before .before .before .before .before .before .before .before .before .before .loss-climb .ensures), ← (c .before .before .before .before .before .before .before .before .before .before .calmly .ensures)) (c .before .before .before .before .before .before .before .before .before .if1 .taken) in
-    tells-made st (a .l) Unlink _ _ f (c .before .before .before .before .before .before .before .before .before .if1 .taken) (rw (c .before .before .settle .ensures, c .before .before .before .before .before .before .before .store-less .ensures, c .before .before .before .before .before .before .before .before .before .before .before .loss-climb .ensures, c .before .before .before .before .before .before .before .before .before .before .before .before .before .before .before .path-to .ensures .0, c .before .before .before .before .before .before .before .before .before .before .before .before .before .before .before .before .before .before .word .ensures, c .before .before .before .before .before .before .before .before .before .before .before .before .before .before .before .before .before .before .before .before .only-child .ensures, c .before .before .before .before .before .before .before .before .before .before .before .before .before .before .before .before .before .before .before .before .before .before .node-at .ensures))
+    tells-made (a .pool .now) (a .h) (a .l) Unlink q _ _ f (c .before .before .before .before .before .before .before .before .before .if1 .taken) (rw (c .before .before .settle .ensures q r, c .before .before .before .before .before .before .before .store-less .ensures q, c .before .before .before .before .before .before .before .before .before .before .before .loss-climb .ensures, c .before .before .before .before .before .before .before .before .before .before .before .before .before .before .before .path-to .ensures .0, c .before .before .before .before .before .before .before .before .before .before .before .before .before .before .before .before .before .before .word .ensures, c .before .before .before .before .before .before .before .before .before .before .before .before .before .before .before .before .before .before .before .before .only-child .ensures, c .before .before .before .before .before .before .before .before .before .before .before .before .before .before .before .before .before .before .before .before .before .before .node-at .ensures))
 
 pub unlink-spec : {M : Type 1} → statement M
 unlink-spec =

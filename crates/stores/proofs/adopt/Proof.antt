@@ -1,7 +1,7 @@
-use Rattle.spec.specs.Register.{state, linkNode, setLink}
+use Rattle.spec.specs.Register.{State, linkNode}
+use Rattle.heads.specs.Head.{at, withHead, tells-missed, tells-made}
 use Rattle.spec.specs.Pool.{child}
 use Rattle.spec.specs.Turn.{stepFinds, stepMade, adoptStore}
-use Rattle.laws.specs.Turns.{tells-missed, tells-made}
 use Rattle.types.specs.declared.Step.the-variants.{Adopt}
 use Rattle.types.specs.declared.Side.the-variants.{R}
 use mathlib.Core.Path.{_≡_, refl, sym, ap, _∙_}
@@ -14,8 +14,8 @@ use Rattle.stores.proofs.adopt.Reads as reads
 use Rattle.stores.proofs.adopt.Lts as lts
 use Rattle.pool.proofs.child.Reads as child-reads
 use Rattle.register.proofs.node_at.Reads as node-at-reads
-use Rattle.register.proofs.set_link.Reads as set-link-reads
-use Rattle.register.proofs.missed.Reads as missed-reads
+use Rattle.heads.proofs.set_link.Reads as set-link-reads
+use Rattle.heads.proofs.missed.Reads as missed-reads
 
 node-at-requires : tie.Need-node-at-requires
 node-at-requires c κs = search needs
@@ -31,7 +31,7 @@ same-length c = search needs
 
 returns : tie.Need-returns
 unfolding stepFinds
-returns c = let a = c .before .before .before .before .before .before .before .args in let st = state (a .pool .now) (a .reg) in let e : child (a .pool .now) R (linkNode st (a .l)) ≡ 0 = rw (← (c .before .before .before .before .node-at .ensures), ← (c .before .before .child .ensures)) (c .before .if1 .taken) in tells-missed st (a .l) Adopt (c .missed .result) (rw (eq-eqb _ 0 e)) (c .missed .ensures)
+returns c = let a = c .before .before .before .before .before .before .before .args in λ q. let st : State = at (a .pool .now) (a .h) q in let e : child (a .pool .now) R (linkNode st (a .l)) ≡ 0 = rw (← (c .before .before .before .before .node-at .ensures), ← (c .before .before .child .ensures)) (c .before .if1 .taken) in tells-missed (a .pool .now) (a .h) (a .l) Adopt q (c .missed .result) (rw (eq-eqb _ 0 e)) (c .missed .ensures)
 
 child-requires-2 : tie.Need-child-requires-2
 child-requires-2 c κs = search needs
@@ -44,7 +44,7 @@ same-length-2 c = search needs
 
 returns-2 : tie.Need-returns-2
 unfolding stepFinds stepMade adoptStore
-returns-2 c = let a = c .before .before .before .before .before .before .before .before .before .before .before .before .args in let st = state (a .pool .now) (a .reg) in let e : child (a .pool .now) R (linkNode st (a .l)) ≡ 0 → ⊥ = rw (← (c .before .before .before .before .before .before .before .before .before .node-at .ensures), ← (c .before .before .before .before .before .before .before .child .ensures)) (c .before .before .before .before .before .before .if1 .left) in tells-made st (a .l) Adopt _ _ (rw (ne-eqb _ 0 e)) refl (rw (c .before .before .set-link .ensures .0, c .before .before .set-link .ensures .1, c .before .before .before .before .child2 .ensures, c .before .before .before .before .before .before .before .child .ensures, c .before .before .before .before .before .before .before .before .before .node-at .ensures))
+returns-2 c = let a = c .before .before .before .before .before .before .before .before .before .before .before .before .args in λ q. let st : State = at (a .pool .now) (a .h) q in let e : child (a .pool .now) R (linkNode st (a .l)) ≡ 0 → ⊥ = rw (← (c .before .before .before .before .before .before .before .before .before .node-at .ensures), ← (c .before .before .before .before .before .before .before .child .ensures)) (c .before .before .before .before .before .before .if1 .left) in tells-made (a .pool .now) (a .h) (a .l) Adopt q _ _ (rw (ne-eqb _ 0 e)) refl (rw (c .before .before .set-link .ensures q, c .before .before .before .before .child2 .ensures, c .before .before .before .before .before .before .before .child .ensures, c .before .before .before .before .before .before .before .before .before .node-at .ensures))
 
 pub adopt-spec : {M : Type 1} → statement M
 adopt-spec =

@@ -1,7 +1,7 @@
-use Rattle.spec.specs.Register.{state}
+use Rattle.spec.specs.Register.{State}
+use Rattle.heads.specs.Head.{at, withHead, tells-missed, tells-made}
 use Rattle.spec.specs.Pool.{isRed}
 use Rattle.types.specs.Side.{owner}
-use Rattle.laws.specs.Turns.{tells-missed}
 use Rattle.types.specs.declared.Step.the-variants.{Insert}
 use Rattle.stores.specs.Inserted.{insert-empty, calm-found}
 use mathlib.Core.Bool.{true, false}
@@ -15,7 +15,7 @@ use Rattle.stores.proofs.insert.Reads as reads
 use Rattle.stores.proofs.insert.Lts as lts
 use Rattle.pool.proofs.is_red.Reads as is-red-reads
 use Rattle.register.proofs.owner.Reads as owner-reads
-use Rattle.register.proofs.missed.Reads as missed-reads
+use Rattle.heads.proofs.missed.Reads as missed-reads
 use Rattle.stores.proofs.insert_calm.Reads as insert-calm-reads
 use Rattle.stores.proofs.insert_climbing.Reads as insert-climbing-reads
 
@@ -23,7 +23,7 @@ missed-requires : tie.Need-missed-requires
 missed-requires c κs = search needs
 
 returns : tie.Need-returns
-returns c = let a = c .before .before .before .before .args in let st = state (a .pool .now) (a .reg) in tells-missed st (a .l) (Insert (a .k) (a .v)) (c .missed .result) (insert-empty st (a .l) (a .k) (a .v) (c .before .if1 .taken)) (c .missed .ensures)
+returns c = let a = c .before .before .before .before .args in λ q. let st : State = at (a .pool .now) (a .h) q in tells-missed (a .pool .now) (a .h) (a .l) (Insert (a .k) (a .v)) q (c .missed .result) (insert-empty st (a .l) (a .k) (a .v) (c .before .if1 .taken)) (c .missed .ensures)
 
 owner-requires : tie.Need-owner-requires
 owner-requires c κs = search needs
@@ -41,7 +41,7 @@ returns-2 : tie.Need-returns-2
 returns-2 c = c .before .before .insert-climbing .ensures
 
 insert-calm-requires : tie.Need-insert-calm-requires
-insert-calm-requires c κs = let a = c .before .before .before .before .before .before .before .before .args in let e : isRed (a .pool .now) (owner (a .l)) ≡ false = rw (← (c .before .before .before .owner .ensures), ← (c .before .before .is-red .ensures)) (c .before .if2 .left) in (c .before .before .before .before .before .before .before .before .pre, e, calm-found (state (a .pool .now) (a .reg)) (a .l) (a .k) (a .v) e (c .before .before .before .before .before .if1 .left))
+insert-calm-requires c κs = let a = c .before .before .before .before .before .before .before .before .args in let e : isRed (a .pool .now) (owner (a .l)) ≡ false = rw (← (c .before .before .before .owner .ensures), ← (c .before .before .is-red .ensures)) (c .before .if2 .left) in (c .before .before .before .before .before .before .before .before .pre, e, c .before .before .before .before .before .if1 .left)
 
 same-length-2 : tie.Need-same-length-2
 same-length-2 c = search needs

@@ -1,7 +1,7 @@
-use Rattle.spec.specs.Register.{state}
-use Rattle.laws.specs.Turns.{tells-made}
+use Rattle.spec.specs.Register.{State}
+use Rattle.heads.specs.Head.{at, withHead, tells-missed, tells-made}
 use Rattle.types.specs.declared.Step.the-variants.{Insert}
-use Rattle.stores.specs.Inserted.{calm-made}
+use Rattle.stores.specs.Inserted.{calm-found, calm-made}
 use mathlib.Core.Path.{_≡_, refl, sym, ap, _∙_}
 use native.Mathlib.Omega.{arith}
 use borrow.Author.Tests.{eq-eqb, ne-eqb, lt-ltb, le-ltb, lt-leb, le-leb, not-true, not-false}
@@ -23,7 +23,7 @@ same-length : tie.Need-same-length
 same-length c = search needs
 
 returns : tie.Need-returns
-returns c = let a = c .before .before .before .before .before .before .before .before .before .args in let st = state (a .pool .now) (a .reg) in tells-made st (a .l) (Insert (a .k) (a .v)) _ _ (c .before .before .before .before .before .before .before .before .before .pre .2) refl (rw (c .before .before .set-word .ensures) (calm-made st (a .l) (a .k) (a .v) (c .before .before .before .before .before .before .before .before .before .pre .1) (c .before .before .before .before .before .before .link-new .last .0) (c .before .before .before .before .before .before .link-new .result) (c .before .before .before .before .before .before .link-new .ensures)))
+returns c = let a = c .before .before .before .before .before .before .before .before .before .args in λ q. let st : State = at (a .pool .now) (a .h) q in tells-made (a .pool .now) (a .h) (a .l) (Insert (a .k) (a .v)) q _ _ (calm-found st (a .l) (a .k) (a .v) (c .before .before .before .before .before .before .before .before .before .pre .1) (c .before .before .before .before .before .before .before .before .before .pre .2)) refl (rw (c .before .before .set-word .ensures) (calm-made st (a .l) (a .k) (a .v) (c .before .before .before .before .before .before .before .before .before .pre .1) (c .before .before .before .before .before .before .link-new .last .0) (withHead q (c .before .before .before .before .before .before .link-new .result)) (c .before .before .before .before .before .before .link-new .ensures q)))
 
 pub insert-calm-spec : {M : Type 1} → statement M
 insert-calm-spec = tie.close (tie.spec link-new-requires set-word-requires same-length returns)

@@ -1,7 +1,7 @@
-use Rattle.spec.specs.Register.{state}
+use Rattle.spec.specs.Register.{State}
+use Rattle.heads.specs.Head.{at, withHead, tells-missed, tells-made}
 use Rattle.spec.specs.Search.{pathTo}
 use Rattle.spec.specs.Plan.{rise, paintRise, missing}
-use Rattle.laws.specs.Turns.{tells-missed, tells-made}
 use Rattle.types.specs.declared.Step.the-variants.{Insert}
 use Rattle.stores.specs.Inserted.{climb-missing, climb-found, climb-made}
 use mathlib.Core.Bool.{true, false}
@@ -17,7 +17,7 @@ use Rattle.climbs.proofs.missing.Reads as missing-reads
 use Rattle.climbs.proofs.paint_rise.Reads as paint-rise-reads
 use Rattle.climbs.proofs.rise.Reads as rise-reads
 use Rattle.paths.proofs.path_to.Reads as path-to-reads
-use Rattle.register.proofs.missed.Reads as missed-reads
+use Rattle.heads.proofs.missed.Reads as missed-reads
 use Rattle.stores.proofs.end_insert.Reads as end-insert-reads
 use Rattle.stores.proofs.link_new.Reads as link-new-reads
 
@@ -43,7 +43,7 @@ same-length : tie.Need-same-length
 same-length c = search needs
 
 returns : tie.Need-returns
-returns c = let a = c .before .before .before .before .before .before .before .before .before .before .before .args in let st = state (a .pool .now) (a .reg) in let k = c .before .before .before .rise .result in let e : k ≡ rise (a .pool .now) 0 (pathTo (a .pool .now) (a .reg .root) (a .k) (a .l)) = rw (c .before .before .before .rise .ensures, c .before .before .before .before .before .before .before .path-to .ensures .0) in let m : missing (k .ending) ≡ true = sym (c .before .before .missing .ensures) ∙ c .before .if1 .taken in tells-missed st (a .l) (Insert (a .k) (a .v)) (c .missed .result) (climb-missing st (a .l) (a .k) (a .v) (c .before .before .before .before .before .before .before .before .before .before .before .pre .1) k e m) (c .missed .ensures)
+returns c = let a = c .before .before .before .before .before .before .before .before .before .before .before .args in λ q. let st : State = at (a .pool .now) (a .h) q in let k = c .before .before .before .rise .result in let e : k ≡ rise (a .pool .now) 0 (pathTo (a .pool .now) (a .h .root) (a .k) (a .l)) = rw (c .before .before .before .rise .ensures, c .before .before .before .before .before .before .before .path-to .ensures .0) in let m : missing (k .ending) ≡ true = sym (c .before .before .missing .ensures) ∙ c .before .if1 .taken in tells-missed (a .pool .now) (a .h) (a .l) (Insert (a .k) (a .v)) q (c .missed .result) (climb-missing st (a .l) (a .k) (a .v) (c .before .before .before .before .before .before .before .before .before .before .before .pre .1) k e m) (c .missed .ensures)
 
 link-new-requires : tie.Need-link-new-requires
 link-new-requires c κs = search needs
@@ -61,9 +61,9 @@ same-length-2 : tie.Need-same-length-2
 same-length-2 c = search needs
 
 returns-2 : tie.Need-returns-2
-returns-2 c = let a = c .before .before .before .before .before .before .before .before .before .before .before .before .before .before .before .before .before .before .before .before .before .before .before .args in let st = state (a .pool .now) (a .reg) in let k = c .before .before .before .before .before .before .before .before .before .before .before .before .before .before .before .rise .result in let path = pathTo (a .pool .now) (a .reg .root) (a .k) (a .l) in let e : k ≡ rise (a .pool .now) 0 path = rw (c .before .before .before .before .before .before .before .before .before .before .before .before .before .before .before .rise .ensures, c .before .before .before .before .before .before .before .before .before .before .before .before .before .before .before .before .before .before .before .path-to .ensures .0) in let m : missing (k .ending) ≡ false = sym (c .before .before .before .before .before .before .before .before .before .before .before .before .before .before .missing .ensures) ∙ c .before .before .before .before .before .before .before .before .before .before .before .before .before .if1 .left in
+returns-2 c = let a = c .before .before .before .before .before .before .before .before .before .before .before .before .before .before .before .before .before .before .before .before .before .before .before .args in λ q. let st : State = at (a .pool .now) (a .h) q in let k = c .before .before .before .before .before .before .before .before .before .before .before .before .before .before .before .rise .result in let path = pathTo (a .pool .now) (a .h .root) (a .k) (a .l) in let e : k ≡ rise (a .pool .now) 0 path = rw (c .before .before .before .before .before .before .before .before .before .before .before .before .before .before .before .rise .ensures, c .before .before .before .before .before .before .before .before .before .before .before .before .before .before .before .before .before .before .before .path-to .ensures .0) in let m : missing (k .ending) ≡ false = sym (c .before .before .before .before .before .before .before .before .before .before .before .before .before .before .missing .ensures) ∙ c .before .before .before .before .before .before .before .before .before .before .before .before .before .if1 .left in
     let f : c .before .before .before .before .before .before .paint-rise .last .0 ≡ paintRise (k .levels) path (c .before .before .before .before .before .before .before .before .before .before .before .link-new .last .0) = rw (c .before .before .before .before .before .before .paint-rise .ensures, c .before .before .before .before .before .before .before .before .before .before .before .before .before .before .before .before .before .before .before .path-to .ensures .0) in
-    tells-made st (a .l) (Insert (a .k) (a .v)) _ _ (climb-found st (a .l) (a .k) (a .v) (c .before .before .before .before .before .before .before .before .before .before .before .before .before .before .before .before .before .before .before .before .before .before .before .pre .1) k e m (c .before .before .before .before .before .before .before .before .before .before .before .before .before .before .before .before .before .before .before .before .before .before .before .pre .2)) refl (climb-made st (a .l) (a .k) (a .v) (c .before .before .before .before .before .before .before .before .before .before .before .before .before .before .before .before .before .before .before .before .before .before .before .pre .1) k e (c .before .before .before .before .before .before .before .before .before .before .before .link-new .last .0) (c .before .before .before .before .before .before .paint-rise .last .0) (c .before .before .end-insert .last .0) (c .before .before .before .before .before .before .before .before .before .before .before .link-new .result) (c .before .before .before .before .before .before .before .before .before .before .before .link-new .ensures) f (c .before .before .end-insert .ensures (c .before .before .before .before .before .before .before .before .before .before .before .link-new .result) refl))
+    tells-made (a .pool .now) (a .h) (a .l) (Insert (a .k) (a .v)) q _ _ (climb-found st (a .l) (a .k) (a .v) (c .before .before .before .before .before .before .before .before .before .before .before .before .before .before .before .before .before .before .before .before .before .before .before .pre .1) k e m (c .before .before .before .before .before .before .before .before .before .before .before .before .before .before .before .before .before .before .before .before .before .before .before .pre .2)) refl (climb-made st (a .l) (a .k) (a .v) (c .before .before .before .before .before .before .before .before .before .before .before .before .before .before .before .before .before .before .before .before .before .before .before .pre .1) k e (c .before .before .before .before .before .before .before .before .before .before .before .link-new .last .0) (c .before .before .before .before .before .before .paint-rise .last .0) (c .before .before .end-insert .last .0) (withHead q (c .before .before .before .before .before .before .before .before .before .before .before .link-new .result)) (c .before .before .before .before .before .before .before .before .before .before .before .link-new .ensures q) f (c .before .before .end-insert .ensures (withHead q (c .before .before .before .before .before .before .before .before .before .before .before .link-new .result)) refl))
 
 pub insert-climbing-spec : {M : Type 1} → statement M
 insert-climbing-spec =

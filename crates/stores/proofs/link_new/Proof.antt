@@ -1,3 +1,4 @@
+use Rattle.spec.specs.Register.{withHeld}
 use Rattle.spec.specs.Turn.{oneMore}
 use mathlib.Core.Path.{_≡_, refl, sym, ap, _∙_}
 use native.Mathlib.Omega.{arith}
@@ -10,8 +11,7 @@ use Rattle.stores.proofs.link_new.Lts as lts
 use Rattle.pool.proofs.nodes.Reads as nodes-reads
 use Rattle.queue.proofs.take_node.Reads as take-node-reads
 use Rattle.register.proofs.count_up.Reads as count-up-reads
-use Rattle.register.proofs.set_link.Reads as set-link-reads
-use Rattle.register.proofs.with_held.Reads as with-held-reads
+use Rattle.heads.proofs.set_link.Reads as set-link-reads
 
 take-node-requires : tie.Need-take-node-requires
 take-node-requires c κs = search needs
@@ -25,14 +25,13 @@ nodes-requires c κs = search needs
 count-up-requires : tie.Need-count-up-requires
 count-up-requires c κs = search needs
 
-with-held-requires : tie.Need-with-held-requires
-with-held-requires c κs = search needs
 
 same-length : tie.Need-same-length
 same-length c = search needs
 
 returns : tie.Need-returns
-returns c = rw (c .with-held .ensures, c .before .count-up .ensures, c .before .before .nodes .ensures, c .before .before .before .before .before .before .set-link .ensures .0, c .before .before .before .before .before .before .set-link .ensures .1, c .before .before .before .before .before .before .before .before .before .before .take-node .ensures .0, c .before .before .before .before .before .before .before .before .before .before .take-node .ensures .1)
+unfolding withHeld
+returns c = λ q. rw (c .count-up .ensures, c .before .nodes .ensures) (ap oneMore (c .before .before .before .before .before .set-link .ensures q ∙ rw (c .before .before .before .before .before .before .before .before .before .take-node .ensures q)))
 
 pub link-new-spec : {M : Type 1} → statement M
 link-new-spec =
@@ -42,6 +41,5 @@ link-new-spec =
     set-link-requires
     nodes-requires
     count-up-requires
-    with-held-requires
     same-length
     returns)

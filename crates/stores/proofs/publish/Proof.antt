@@ -1,23 +1,27 @@
-use Rattle.spec.specs.Register.{state, linkNode}
-use Rattle.spec.specs.Turn.{stepFinds, stepMade}
-use Rattle.laws.specs.Turns.{tells-missed, tells-made, no-node, no-free, takes-node}
-use Rattle.stores.specs.Published.{published}
+use mathlib.Core.Bool.{not, true}
+use Rattle.stores.specs.Published.{awaiting, publishes-missed, published}
+use Rattle.heads.specs.Head.{at, FollowsReading}
+use mathlib.Core.Bool.{false≢true}
 use Rattle.types.specs.declared.Step.the-variants.{Publish}
-use mathlib.Core.Path.{_≡_, refl, sym, ap, _∙_}
-use native.Mathlib.Omega.{arith}
+use Rattle.laws.specs.Turns.{no-node, no-free, takes-node}
+use Rattle.spec.specs.Turn.{stepFinds, stepMade}
+use Rattle.spec.specs.Free.{queueEmpty, retire}
+use Rattle.spec.specs.Register.{State, linkNode}
 use borrow.Author.Tests.{eq-eqb, ne-eqb, lt-ltb, le-ltb, lt-leb, le-leb, not-true, not-false}
+use native.Mathlib.Omega.{arith}
+use mathlib.Core.Path.{_≡_, refl, sym, ap, _∙_}
 use borrow.Author.Needs.{needs}
 use Rattle.stores.proofs.publish.Statement.{statement}
 use Rattle.stores.proofs.publish.Tie as tie
 use Rattle.stores.proofs.publish.Reads as reads
 use Rattle.stores.proofs.publish.Lts as lts
+use Rattle.heads.proofs.missed.Reads as missed-reads
+use Rattle.stores.proofs.await_readers.Reads as await-readers-reads
+use Rattle.queue.proofs.retire.Reads as retire-reads
+use Rattle.rotations.proofs.hang_copy.Reads as hang-copy-reads
 use Rattle.pool.proofs.child.Reads as child-reads
 use Rattle.pool.proofs.word.Reads as word-reads
-use Rattle.queue.proofs.retire.Reads as retire-reads
 use Rattle.register.proofs.node_at.Reads as node-at-reads
-use Rattle.rotations.proofs.hang_copy.Reads as hang-copy-reads
-use Rattle.register.proofs.missed.Reads as missed-reads
-use Rattle.stores.proofs.await_readers.Reads as await-readers-reads
 
 node-at-requires : tie.Need-node-at-requires
 node-at-requires c κs = search needs
@@ -30,7 +34,9 @@ same-length c = search needs
 
 returns : tie.Need-returns
 unfolding stepFinds
-returns c = let a = c .before .before .before .before .before .args in let st = state (a .pool .now) (a .reg) in let e : linkNode st (a .l) ≡ 0 = rw (← (c .before .before .node-at .ensures)) (c .before .if1 .taken) in tells-missed st (a .l) (Publish (a .c)) (c .missed .result) (no-node (linkNode st (a .l)) _ e) (c .missed .ensures)
+returns c = let a = c .before .before .before .before .before .args in
+    publishes-missed (a .reading) (a .l) (a .c) (a .pool .now) (a .h) (c .missed .result)
+    (λ q. no-node (linkNode (at (a .pool .now) (a .h) q) (a .l)) (not (queueEmpty (at (a .pool .now) (a .h) q))) (sym (c .before .before .node-at .ensures) ∙ c .before .if1 .taken)) (c .missed .ensures)
 
 missed-requires-2 : tie.Need-missed-requires-2
 missed-requires-2 c κs = search needs
@@ -40,7 +46,9 @@ same-length-2 c = search needs
 
 returns-2 : tie.Need-returns-2
 unfolding stepFinds
-returns-2 c = let a = c .before .before .before .before .before .before .args in let st = state (a .pool .now) (a .reg) in tells-missed st (a .l) (Publish (a .c)) (c .missed2 .result) (no-free st (linkNode st (a .l)) (c .before .if2 .taken)) (c .missed2 .ensures)
+returns-2 c = let a = c .before .before .before .before .before .before .args in
+    publishes-missed (a .reading) (a .l) (a .c) (a .pool .now) (a .h) (c .missed2 .result)
+    (λ q. no-free (at (a .pool .now) (a .h) q) (linkNode (at (a .pool .now) (a .h) q) (a .l)) (c .before .if2 .taken)) (c .missed2 .ensures)
 
 child-requires : tie.Need-child-requires
 child-requires c κs = search needs
@@ -58,15 +66,20 @@ await-readers-requires : tie.Need-await-readers-requires
 await-readers-requires c κs = search needs
 
 retire-requires : tie.Need-retire-requires
-retire-requires c κs = omega (arith, c .before .before .before .before .before .before .before .before .before .before .before .before .before .before .before .before .before .before .pre, c .before .before .before .before .before .hang-copy .kept .0)
+retire-requires c κs = omega (arith, c .before .before .before .before .before .before .before .before .before .before .before .before .before .before .before .before .before .before .pre, c .before .before .before .before .before .hang-copy .kept)
 
 same-length-3 : tie.Need-same-length-3
 same-length-3 c = search needs
 
 returns-3 : tie.Need-returns-3
 unfolding stepFinds stepMade
-returns-3 c = let a = c .before .before .before .before .before .before .before .before .before .before .before .before .before .before .before .before .before .before .before .before .before .args in let st = state (a .pool .now) (a .reg) in let d : linkNode st (a .l) ≡ 0 → ⊥ = rw (← (c .before .before .before .before .before .before .before .before .before .before .before .before .before .before .before .before .before .before .node-at .ensures)) (c .before .before .before .before .before .before .before .before .before .before .before .before .before .before .before .before .before .if1 .left) in tells-made st (a .l) (Publish (a .c)) _ _ (takes-node st (linkNode st (a .l)) d (c .before .before .before .before .before .before .before .before .before .before .before .before .before .before .before .before .if2 .left)) refl
-    (published st (a .l) (a .c) (c .before .before .before .before .before .before .before .before .before .before .before .before .before .before .before .before .before .before .node-at .result) (c .before .before .before .before .before .before .before .before .before .before .before .before .before .before .child .result) (c .before .before .before .before .before .before .before .before .before .before .before .before .child2 .result) (c .before .before .before .before .before .before .before .before .before .before .word .result) (c .before .before .before .before .before .before .before .before .hang-copy .last .0) (c .before .before .before .before .before .before .before .before .hang-copy .result) (state (c .before .before .retire .last .0) (c .before .before .retire .result)) (c .before .before .before .before .before .before .before .before .before .before .before .before .before .before .before .before .before .before .node-at .ensures) (c .before .before .before .before .before .before .before .before .before .before .before .before .before .before .child .ensures) (c .before .before .before .before .before .before .before .before .before .before .before .before .child2 .ensures) (c .before .before .before .before .before .before .before .before .before .before .word .ensures) (c .before .before .before .before .before .before .before .before .hang-copy .ensures .1) (rw (c .before .before .retire .ensures .0, c .before .before .retire .ensures .1, c .before .before .before .before .await-readers .ensures)))
+returns-3 c = let a = c .before .before .before .before .before .before .before .before .before .before .before .before .before .before .before .before .before .before .before .before .before .args in let n = c .before .before .before .before .before .before .before .before .before .before .before .before .before .before .before .before .before .before .node-at in let k = c .before .before .before .before .before .before .before .before .hang-copy in let t = c .before .before .retire in
+    let z : FollowsReading (a .reading) (λ st. retire st (n .result)) (k .last .0) (awaiting (k .result .head) (a .reading)) (t .last .0) (t .result) = rw (c .before .before .before .before .await-readers .ensures) at (t .ensures) in
+    λ q e. let f : stepFinds (at (a .pool .now) (a .h) q) (a .l) (Publish (a .c)) ≡ true = takes-node (at (a .pool .now) (a .h) q) (linkNode (at (a .pool .now) (a .h) q) (a .l)) (rw (← (n .ensures)) (c .before .before .before .before .before .before .before .before .before .before .before .before .before .before .before .before .before .if1 .left)) (c .before .before .before .before .before .before .before .before .before .before .before .before .before .before .before .before .if2 .left) in
+    (sym f,
+    λ g. published (a .pool .now) (k .last .0) (t .last .0) (a .h) (k .result .head) (t .result) (a .l) (a .reading) (a .c) (n .result) (c .before .before .before .before .before .before .before .before .before .before .before .before .before .before .child .result) (c .before .before .before .before .before .before .before .before .before .before .before .before .child2 .result) (c .before .before .before .before .before .before .before .before .before .before .word .result)
+    (n .ensures) (c .before .before .before .before .before .before .before .before .before .before .before .before .before .before .child .ensures) (c .before .before .before .before .before .before .before .before .before .before .before .before .child2 .ensures) (λ q. c .before .before .before .before .before .before .before .before .before .before .word .ensures) (k .ensures .1) z q e,
+    λ g. absurd (false≢true (sym g)))
 
 pub publish-spec : {M : Type 1} → statement M
 publish-spec =

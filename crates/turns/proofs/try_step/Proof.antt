@@ -1,6 +1,6 @@
-use Rattle.spec.specs.Register.{state}
+use Rattle.spec.specs.Register.{withWrite}
+use Rattle.heads.specs.Head.{tells-missed}
 use Rattle.spec.specs.Turn.{stepFinds}
-use Rattle.laws.specs.Turns.{tells-missed}
 use Rattle.types.specs.declared.Step.the-variants.{Vacant}
 use mathlib.Core.Path.{_≡_, refl, sym, ap, _∙_}
 use native.Mathlib.Omega.{arith}
@@ -10,7 +10,7 @@ use Rattle.turns.proofs.try_step.Statement.{statement}
 use Rattle.turns.proofs.try_step.Tie as tie
 use Rattle.turns.proofs.try_step.Reads as reads
 use Rattle.turns.proofs.try_step.Lts as lts
-use Rattle.register.proofs.missed.Reads as missed-reads
+use Rattle.heads.proofs.missed.Reads as missed-reads
 use Rattle.removals.proofs.detach.Reads as detach-reads
 use Rattle.removals.proofs.replace.Reads as replace-reads
 use Rattle.removals.proofs.unlink.Reads as unlink-reads
@@ -96,74 +96,85 @@ detach-requires : tie.Need-detach-requires
 detach-requires c κs = search needs
 
 returns : tie.Need-returns
-unfolding stepFinds
-returns c = let a = c .before .before .before .before .args in rw (c .before .enum-told .given .1) (tells-missed (state (a .pool .now) (a .reg)) (a .l) Vacant (c .missed .result) refl (c .missed .ensures))
+unfolding stepFinds withWrite
+returns c = let a = c .before .before .before .before .args in rw (c .before .enum-told .given .1) (λ q r. tells-missed (a .pool .now) (a .h) (a .l) Vacant q (c .missed .result) refl (c .missed .ensures))
 
 same-length : tie.Need-same-length
 same-length c = search needs
 
 returns-2 : tie.Need-returns-2
-returns-2 c = rw (c .before .before .before .before .before .x .given .1) (c .before .before .insert .ensures)
+unfolding withWrite
+returns-2 c = rw (c .before .before .before .before .before .x .given .1) (λ q r. c .before .before .insert .ensures q)
 
 same-length-2 : tie.Need-same-length-2
 same-length-2 c = search needs
 
 returns-3 : tie.Need-returns-3
-returns-3 c = rw (c .before .before .before .before .before .x2 .given .1) (c .before .before .diag-lower .ensures)
+unfolding withWrite
+returns-3 c = rw (c .before .before .before .before .before .x2 .given .1) (λ q r. c .before .before .diag-lower .ensures q)
 
 same-length-3 : tie.Need-same-length-3
 same-length-3 c = search needs
 
 returns-4 : tie.Need-returns-4
-returns-4 c = rw (c .before .before .before .before .before .x3 .given .1) (c .before .before .diag-raise .ensures)
+unfolding withWrite
+returns-4 c = rw (c .before .before .before .before .before .x3 .given .1) (λ q r. c .before .before .diag-raise .ensures q r)
 
 same-length-4 : tie.Need-same-length-4
 same-length-4 c = search needs
 
 returns-5 : tie.Need-returns-5
-returns-5 c = rw (c .before .before .before .before .before .x4 .given .1) (c .before .before .zig-lower-a .ensures)
+unfolding withWrite
+returns-5 c = rw (c .before .before .before .before .before .x4 .given .1) (λ q r. c .before .before .zig-lower-a .ensures q)
 
 same-length-5 : tie.Need-same-length-5
 same-length-5 c = search needs
 
 returns-6 : tie.Need-returns-6
-returns-6 c = rw (c .before .before .before .before .before .x5 .given .1) (c .before .before .zig-lower-c .ensures)
+unfolding withWrite
+returns-6 c = rw (c .before .before .before .before .before .x5 .given .1) (λ q r. c .before .before .zig-lower-c .ensures q)
 
 same-length-6 : tie.Need-same-length-6
 same-length-6 c = search needs
 
 returns-7 : tie.Need-returns-7
-returns-7 c = rw (c .before .before .before .before .before .x6 .given .1) (c .before .before .zig-raise .ensures)
+unfolding withWrite
+returns-7 c = rw (c .before .before .before .before .before .x6 .given .1) (λ q r. c .before .before .zig-raise .ensures q r)
 
 same-length-7 : tie.Need-same-length-7
 same-length-7 c = search needs
 
 returns-8 : tie.Need-returns-8
-returns-8 c = rw (c .before .before .before .before .enum-told2 .given .1) (c .before .before .unlink .ensures)
+unfolding withWrite
+returns-8 c = rw (c .before .before .before .before .enum-told2 .given .1) (λ q r. c .before .before .unlink .ensures q r)
 
 same-length-8 : tie.Need-same-length-8
 same-length-8 c = search needs
 
 returns-9 : tie.Need-returns-9
-returns-9 c = rw (c .before .before .before .before .enum-told3 .given .1) (c .before .before .adopt .ensures)
+unfolding withWrite
+returns-9 c = rw (c .before .before .before .before .enum-told3 .given .1) (λ q r. c .before .before .adopt .ensures q)
 
 same-length-9 : tie.Need-same-length-9
 same-length-9 c = search needs
 
 returns-10 : tie.Need-returns-10
-returns-10 c = rw (c .before .before .before .before .enum-told4 .given .1) (c .before .before .replace .ensures)
+unfolding withWrite
+returns-10 c = rw (c .before .before .before .before .enum-told4 .given .1) (λ q r. c .before .before .replace .ensures q r)
 
 same-length-10 : tie.Need-same-length-10
 same-length-10 c = search needs
 
 returns-11 : tie.Need-returns-11
+unfolding withWrite
 returns-11 c = rw (c .before .before .before .before .before .x7 .given .1) (c .before .before .publish .ensures)
 
 same-length-11 : tie.Need-same-length-11
 same-length-11 c = search needs
 
 returns-12 : tie.Need-returns-12
-returns-12 c = rw (c .before .before .before .before .before .x8 .given .1) (c .before .before .detach .ensures)
+unfolding withWrite
+returns-12 c = rw (c .before .before .before .before .before .x8 .given .1) (λ q r. c .before .before .detach .ensures q r)
 
 pub try-step-spec : {M : Type 1} → statement M
 try-step-spec =
