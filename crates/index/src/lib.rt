@@ -1,6 +1,7 @@
 // The calls of the ticket index. Each one's promise: answer, register and every pool word are what the definition of document 01's call
 // (crate spec, Calls) makes of what was lent; a refused call leaves both as they were.
 use types::Acceptance;
+use types::Head;
 use types::Link;
 use types::Place;
 use types::Reader;
@@ -96,57 +97,99 @@ pub fn writer_turn(pool: &mut [u32], reg: Register) -> WriterReply
     turns::make_first(pool, reg)
 }
 
-pub fn begin(pool: &[u32], reg: Register, s: u32, k: u32) -> Reply
+pub fn begin(pool: &[u32], mut reg: Register, s: u32, k: u32) -> Reply
     ensures { λ r. ⌜ accepts (r .answer) ≡ begin (state (now (pool .entry)) reg) s k .answer ⌝ }
     ensures { λ r. ⌜ state (now (pool .entry)) (r .register) ≡ begin (state (now (pool .entry)) reg) s k .after ⌝ }
 {
-    let why = refusals::begin_refusal(pool, reg, s);
+    let lent = refusals::lent_refusal(pool, reg);
+    let i = refusals::slot_index(s);
+    let why = refusals::slot_refusal(lent, s, reg.readers[i].reading, 4);
     if why != 0 {
         return Reply {
             answer: Acceptance::Refused(why),
             register: reg,
         };
     }
-    let reader = Reader {
+    reg.readers[i] = Reader {
         reading: true,
         key: k,
         node: 0,
     };
-    let register = register::with_reader(reg, s, reader);
     Reply {
         answer: Acceptance::Accepted,
-        register,
+        register: reg,
     }
 }
 
-pub fn reader_turn(pool: &mut [u32], reg: Register, s: u32) -> ReaderReply
+pub fn reader_turn(pool: &mut [u32], mut reg: Register, s: u32) -> ReaderReply
     ensures { λ r. ⌜ readerSays (r .answer) ≡ readerTurn (state (now (pool .entry)) reg) s .answer ⌝ }
     ensures { λ r. ⌜ state (now (pool .exit)) (r .register) ≡ readerTurn (state (now (pool .entry)) reg) s .after ⌝ }
 {
-    let why = refusals::reader_refusal(pool, reg, s);
+    let lent = refusals::lent_refusal(pool, reg);
+    let i = refusals::slot_index(s);
+    let x = reg.readers[i];
+    let why = refusals::slot_refusal(lent, s, !x.reading, 5);
     if why != 0 {
         return ReaderReply {
             answer: ReaderAnswer::Refused(why),
             register: reg,
         };
     }
-    lookups::reader_step(pool, reg, s)
+    let looked = lookups::look(pool, reg.root, x.key, x.node);
+    let h = Head {
+        root: reg.root,
+        first: reg.first,
+        last: reg.last,
+        free: reg.free,
+        held: reg.held,
+        awaited: reg.awaited,
+    };
+    let left = lookups::leave(pool, h, s, looked.node);
+    reg.root = left.root;
+    reg.first = left.first;
+    reg.last = left.last;
+    reg.free = left.free;
+    reg.held = left.held;
+    reg.awaited = left.awaited;
+    reg.readers[i] = lookups::reader_at(x.key, looked.node);
+    let answer = looked.answer;
+    ReaderReply {
+        answer,
+        register: reg,
+    }
 }
 
-pub fn give_up(pool: &mut [u32], reg: Register, s: u32) -> Reply
+pub fn give_up(pool: &mut [u32], mut reg: Register, s: u32) -> Reply
     ensures { λ r. ⌜ accepts (r .answer) ≡ giveUp (state (now (pool .entry)) reg) s .answer ⌝ }
     ensures { λ r. ⌜ state (now (pool .exit)) (r .register) ≡ giveUp (state (now (pool .entry)) reg) s .after ⌝ }
 {
-    let why = refusals::reader_refusal(pool, reg, s);
+    let lent = refusals::lent_refusal(pool, reg);
+    let i = refusals::slot_index(s);
+    let why = refusals::slot_refusal(lent, s, !reg.readers[i].reading, 5);
     if why != 0 {
         return Reply {
             answer: Acceptance::Refused(why),
             register: reg,
         };
     }
-    let register = lookups::end_reading(pool, reg, s);
+    let h = Head {
+        root: reg.root,
+        first: reg.first,
+        last: reg.last,
+        free: reg.free,
+        held: reg.held,
+        awaited: reg.awaited,
+    };
+    let left = queue::end_reading(pool, h, s);
+    reg.root = left.root;
+    reg.first = left.first;
+    reg.last = left.last;
+    reg.free = left.free;
+    reg.held = left.held;
+    reg.awaited = left.awaited;
+    reg.readers[i] = lookups::reader_at(0, 0);
     Reply {
         answer: Acceptance::Accepted,
-        register,
+        register: reg,
     }
 }

@@ -1,42 +1,44 @@
-// A reader's turn after its tests.
+// What a reader's turn does after its tests, without the register: where it looks, and the head that the end of a reading leaves.
+use types::Head;
 use types::Reader;
 use types::ReaderAnswer;
-use types::ReaderReply;
-use types::Register;
 ghost use mathlib.Core.Path.{_≡_};
 ghost use Prim.Native.Nat.{ℕ, _<_};
 ghost use lib.ListN.{length};
-ghost use Rattle.spec.specs.Register.{state};
-ghost use Rattle.spec.specs.Calls.{readerSays, loaded, readerStep};
+ghost use Rattle.spec.specs.Calls.{readerSays};
+ghost use Rattle.lookups.specs.Looked.{loadAnswer, lookAnswer, lookNode, readerAt, Leaves};
 
-// What a reader's turn answers, and the node that it loaded.
+// What a reader's turn answers, and the node that it loaded; 0 ends the reading.
 pub struct Looked {
     pub answer: ReaderAnswer,
     pub node: u32,
 }
 
 // a loaded 0 answers absent, else go
-fn load(n: u32) -> Looked
+fn load(node: u32) -> Looked
+    ensures { λ r. ⌜ (readerSays (r .answer) ≡ loadAnswer node) × (r .node ≡ node) ⌝ }
 {
-    if n == 0 {
+    if node == 0 {
         return Looked {
             answer: ReaderAnswer::Absent,
-            node: 0,
+            node,
         };
     }
     Looked {
         answer: ReaderAnswer::Go,
-        node: n,
+        node,
     }
 }
 
-// the node that a reader of the key k is at after node n, of an index with this root
-fn look(pool: &[u32], root: u32, k: u32, n: u32) -> Looked
+// the turn of a reader of the key k that is at node n, in an index with this root
+pub fn look(pool: &[u32], root: u32, k: u32, n: u32) -> Looked
+    ensures { λ r. ⌜ (readerSays (r .answer) ≡ lookAnswer (now (pool .entry)) root k n) × (r .node ≡ lookNode (now (pool .entry)) root k n) ⌝ }
 {
     if n == 0 {
         return load(root);
     }
-    if k == pool::word(pool, n, pool::KEY) {
+    let held = pool::word(pool, n, pool::KEY);
+    if k == held {
         let record = pool::word(pool, n, pool::RECORD);
         return Looked {
             answer: ReaderAnswer::Found(record),
@@ -46,40 +48,31 @@ fn look(pool: &[u32], root: u32, k: u32, n: u32) -> Looked
     load(search::child_towards(pool, k, n))
 }
 
-// the end of slot s's reading
-pub fn end_reading(pool: &mut [u32], reg: Register, s: u32) -> Register
-{
-    let head = queue::end_reading(pool, heads::head_of(reg), s);
-    let none = Reader {
-        reading: false,
-        key: 0,
-        node: 0,
-    };
-    register::with_reader(heads::with_head(reg, head), s, none)
-}
-
-// The register after slot s, which wants the key k, loaded node n; 0 ends its reading.
-fn after(pool: &mut [u32], reg: Register, s: u32, k: u32, n: u32) -> Register
+// The head after slot s loaded node n: the reading ends at 0.
+pub fn leave(pool: &mut [u32], h: Head, s: u32, n: u32) -> Head
+    requires { ⌜ (length (now pool) < 8192) × (s < 8) ⌝ }
+    ensures { λ r. ⌜ Leaves s n (now (pool .entry)) h (now (pool .exit)) r ⌝ }
 {
     if n == 0 {
-        return end_reading(pool, reg, s);
+        return queue::end_reading(pool, h, s);
     }
-    let reader = Reader {
+    h
+}
+
+// the record of a reader of the key k at node n; all 0 if its reading ended there
+pub fn reader_at(k: u32, n: u32) -> Reader
+    ensures { λ r. ⌜ r ≡ readerAt k n ⌝ }
+{
+    if n == 0 {
+        return Reader {
+            reading: false,
+            key: 0,
+            node: 0,
+        };
+    }
+    Reader {
         reading: true,
         key: k,
         node: n,
-    };
-    register::with_reader(reg, s, reader)
-}
-
-// a reader's turn that is not refused
-pub fn reader_step(pool: &mut [u32], reg: Register, s: u32) -> ReaderReply
-{
-    let i = s as usize;
-    let x = reg.readers[i];
-    let k = x.key;
-    let looked = look(pool, reg.root, k, x.node);
-    let answer = looked.answer;
-    let register = after(pool, reg, s, k, looked.node);
-    ReaderReply { answer, register }
+    }
 }

@@ -1,9 +1,11 @@
-// The tests that a call begins with: the number of the first cause that holds, or 0.
+// The tests that a call begins with: each answers the number of the first cause that holds, or 0.
 use types::Register;
 ghost use mathlib.Core.Path.{_≡_};
 ghost use Rattle.spec.specs.Register.{state};
-ghost use Rattle.spec.specs.Calls.{firstOf, readerTests, beginTests};
+ghost use Rattle.spec.specs.Pool.{slots};
 ghost use Rattle.laws.specs.Tests.{lentNumber};
+ghost use Rattle.refusals.specs.Slots.{slotIndex, slotNumber};
+ghost use Prim.Native.Nat.{_<_};
 
 // tests 1 and 2
 pub fn lent_refusal(pool: &[u32], reg: Register) -> u32
@@ -19,38 +21,22 @@ pub fn lent_refusal(pool: &[u32], reg: Register) -> u32
     0
 }
 
-// the tests of a reader's turn and of give up
-pub fn reader_refusal(pool: &[u32], reg: Register, s: u32) -> u32
-    ensures { λ r. ⌜ r ≡ firstOf (readerTests (state (now (pool .entry)) reg) s) ⌝ }
+// where slot s's record stands; of a slot too high, the first
+pub fn slot_index(s: u32) -> usize
+    ensures { λ r. ⌜ (r ≡ slotIndex s) × (r < slots) ⌝ }
 {
-    let why = lent_refusal(pool, reg);
-    if why != 0 {
-        return why;
-    }
-    if register::SLOTS <= s {
-        return 3;
-    }
-    let i = s as usize;
-    if reg.readers[i].reading {} else {
-        return 5;
-    }
-    0
+    if s < register::SLOTS { s as usize } else { 0 }
 }
 
-// the tests of begin
-pub fn begin_refusal(pool: &[u32], reg: Register, s: u32) -> u32
-    ensures { λ r. ⌜ r ≡ firstOf (beginTests (state (now (pool .entry)) reg) s) ⌝ }
+// The tests of a call that names slot s, from the number of tests 1 and 2 and the call's own cause with its number.
+pub fn slot_refusal(lent: u32, s: u32, cause: bool, number: u32) -> u32
+    ensures { λ r. ⌜ r ≡ slotNumber lent s cause number ⌝ }
 {
-    let why = lent_refusal(pool, reg);
-    if why != 0 {
-        return why;
+    if lent != 0 {
+        return lent;
     }
     if register::SLOTS <= s {
         return 3;
     }
-    let i = s as usize;
-    if reg.readers[i].reading {
-        return 4;
-    }
-    0
+    register::choose(cause, number, 0)
 }

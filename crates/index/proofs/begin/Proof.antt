@@ -1,37 +1,58 @@
-use Rattle.spec.specs.Free.{endReading}
-use Rattle.spec.specs.Calls.{Outcome, outcome, _gives_, slotTooHigh, reading, readerTests, beginTests, readerStep, begin, readerTurn, giveUp, ok}
-use Rattle.spec.specs.Register.{state, State, withReader}
-use Rattle.laws.specs.Tests.{unless-refused, unless-done, lent-of, slot-of}
-use mathlib.Core.Bool.{not, true}
-use mathlib.Core.List.{[], _∷_}
-use Prim.Native.Nat.{ℕ}
-use mathlib.Core.Path.{_≡_, refl, sym, ap, _∙_}
-use native.Mathlib.Omega.{arith}
-use borrow.Author.Tests.{eq-eqb, ne-eqb, lt-ltb, le-ltb, lt-leb, le-leb, not-true, not-false}
 use borrow.Author.Needs.{needs}
 use Rattle.index.proofs.begin.Statement.{statement}
 use Rattle.index.proofs.begin.Tie as tie
 use Rattle.index.proofs.begin.Reads as reads
 use Rattle.index.proofs.begin.Lts as lts
-use Rattle.refusals.proofs.begin_refusal.Reads as begin-refusal-reads
-use Rattle.register.proofs.with_reader.Reads as with-reader-reads
+use Rattle.refusals.proofs.lent_refusal.Reads as lent-refusal-reads
+use Rattle.refusals.proofs.slot_index.Reads as slot-index-reads
+use Rattle.refusals.proofs.slot_refusal.Reads as slot-refusal-reads
 
-begin-refusal-requires : tie.Need-begin-refusal-requires
-begin-refusal-requires c κs = search needs
+-- src/lib.rt:104:9
+lent-refusal-requires : tie.Need-lent-refusal-requires
+lent-refusal-requires c κs = search needs
 
+-- src/lib.rt:105:9
+slot-index-requires : tie.Need-slot-index-requires
+slot-index-requires c κs = search needs
+
+-- src/lib.rt:106:47
+mul-slot-refusal : tie.Need-mul-slot-refusal
+mul-slot-refusal c = search needs
+
+-- src/lib.rt:106:47
+element-copy-out-slot-refusal : tie.Need-element-copy-out-slot-refusal
+element-copy-out-slot-refusal c = search needs
+
+-- src/lib.rt:106:9
+slot-refusal-requires : tie.Need-slot-refusal-requires
+slot-refusal-requires c κs = search needs
+
+-- src/lib.rt:108:9
 returns : tie.Need-returns
-unfolding begin
-returns c = let st = state (c .before .before .before .args .pool .now) (c .before .before .before .args .reg) in let s = c .before .before .before .args .s in let e = unless-refused (beginTests st s) st (outcome ok (state (st .pool) (withReader (st .register) s (record { reading = true; key = c .before .before .before .args .k; node = 0 })))) (c .before .begin-refusal .result) (sym (c .before .begin-refusal .ensures)) (c .if1 .taken) in
-    (sym (ap (λ (o : Outcome). o .answer) e), sym (ap (λ (o : Outcome). o .after) e))
+returns c = ?
 
-with-reader-requires : tie.Need-with-reader-requires
-unfolding begin
-with-reader-requires c κs = let st = state (c .before .before .before .args .pool .now) (c .before .before .before .args .reg) in let s = c .before .before .before .args .s in let z = sym (c .before .begin-refusal .ensures) ∙ c .if1 .left in slot-of st s (reading st s) 4 (omega arith) z
+-- src/lib.rt:113:5
+mul-t10 : tie.Need-mul-t10
+mul-t10 c = search needs
 
+-- src/lib.rt:113:5
+element-set-from-reg : tie.Need-element-set-from-reg
+element-set-from-reg c = search needs
+
+-- src/lib.rt:100:1
 returns-2 : tie.Need-returns-2
-unfolding begin
-returns-2 c = let st = state (c .before .before .before .before .args .pool .now) (c .before .before .before .before .args .reg) in let s = c .before .before .before .before .args .s in let e = unless-done (beginTests st s) st (outcome ok (state (st .pool) (withReader (st .register) s (record { reading = true; key = c .before .before .before .before .args .k; node = 0 })))) (sym (c .before .before .begin-refusal .ensures) ∙ c .before .if1 .left) in
-    (sym (ap (λ (o : Outcome). o .answer) e), rw (c .with-reader .ensures) (sym (ap (λ (o : Outcome). o .after) e)))
+returns-2 c = ?
 
 pub begin-spec : {M : Type 1} → statement M
-begin-spec = tie.close (tie.spec begin-refusal-requires returns with-reader-requires returns-2)
+begin-spec =
+    tie.close
+    (tie.spec
+    lent-refusal-requires
+    slot-index-requires
+    mul-slot-refusal
+    element-copy-out-slot-refusal
+    slot-refusal-requires
+    returns
+    mul-t10
+    element-set-from-reg
+    returns-2)

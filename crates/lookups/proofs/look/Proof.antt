@@ -1,0 +1,47 @@
+use mathlib.Core.Path.{_≡_, refl, sym, ap, _∙_}
+use borrow.Author.Tests.{eq-eqb, ne-eqb, lt-ltb, le-ltb, lt-leb, le-leb}
+use borrow.Author.Needs.{needs}
+use Rattle.lookups.proofs.look.Statement.{statement}
+use Rattle.lookups.proofs.look.Tie as tie
+use Rattle.lookups.proofs.look.Reads as reads
+use Rattle.lookups.proofs.look.Lts as lts
+use Rattle.lookups.proofs.load.Reads as load-reads
+use Rattle.pool.proofs.word.Reads as word-reads
+use Rattle.search.proofs.child_towards.Reads as child-towards-reads
+
+load-requires : tie.Need-load-requires
+load-requires c κs = search needs
+
+returns : tie.Need-returns
+returns c = rw (eq-eqb _ _ (c .before .if1 .taken)) (c .load .ensures)
+
+word-requires : tie.Need-word-requires
+word-requires c κs = search needs
+
+word-requires-2 : tie.Need-word-requires-2
+word-requires-2 c κs = search needs
+
+returns-2 : tie.Need-returns-2
+returns-2 c = rw (ne-eqb _ _ (c .before .before .before .if1 .left), ← (c .before .before .word .ensures), eq-eqb _ _ (c .before .if2 .taken)) (rw (c .word2 .ensures), refl)
+
+child-towards-requires : tie.Need-child-towards-requires
+child-towards-requires c κs = search needs
+
+load-requires-2 : tie.Need-load-requires-2
+load-requires-2 c κs = search needs
+
+returns-3 : tie.Need-returns-3
+returns-3 c = rw (← (c .before .child-towards .ensures), ne-eqb _ _ (c .before .before .before .before .if1 .left), ← (c .before .before .before .word .ensures), ne-eqb _ _ (c .before .before .if2 .left)) (c .load2 .ensures)
+
+pub look-spec : {M : Type 1} → statement M
+look-spec =
+    tie.close
+    (tie.spec
+    load-requires
+    returns
+    word-requires
+    word-requires-2
+    returns-2
+    child-towards-requires
+    load-requires-2
+    returns-3)

@@ -1,0 +1,76 @@
+-- A reader's turn by its parts: where it looks, what it answers, and what the end of its reading leaves.
+use mathlib.Core.Path.{_≡_, refl, _∙_}
+use mathlib.Core.List.{List}
+use mathlib.Core.Bool.{Bool, true, false, cond}
+use lib.Dec.{eqb}
+use Prim.Native.Nat.{ℕ}
+use Rattle.types.specs.declared.Head.{Head}
+use Rattle.types.specs.declared.Reader.{Reader}
+use Rattle.types.specs.declared.Register.{Register}
+use Rattle.spec.specs.Pool.{word, child, keyWord, recordWord}
+use Rattle.spec.specs.Register.{State, state, noReader, readerOf, withReader}
+use Rattle.spec.specs.Free.{endReading}
+use Rattle.spec.specs.Search.{towards}
+use Rattle.spec.specs.Calls.{Answer, go, found, absent, Outcome, outcome, loaded, readerStep}
+use Rattle.heads.specs.Head.{at, headOf, withHead}
+
+abbrev pub loadAnswer : ℕ → Answer
+loadAnswer n = cond (eqb n 0) absent go
+
+abbrev pub lookAnswer : List ℕ → ℕ → ℕ → ℕ → Answer
+lookAnswer p root k n =
+    cond (eqb n 0) (loadAnswer root) (cond (eqb k (word p n keyWord)) (found (word p n recordWord)) (loadAnswer (child p (towards p k n) n)))
+
+-- the node that it loads; 0 where it ends
+abbrev pub lookNode : List ℕ → ℕ → ℕ → ℕ → ℕ
+lookNode p root k n = cond (eqb n 0) root (cond (eqb k (word p n keyWord)) 0 (child p (towards p k n) n))
+
+abbrev pub readerAt : ℕ → ℕ → Reader
+readerAt k n = cond (eqb n 0) noReader (record { reading = true; key = k; node = n })
+
+-- after slot s, which wants the key k, loaded node n
+abbrev pub lookState : State → ℕ → ℕ → ℕ → State
+lookState st s k n =
+    cond (eqb n 0) (endReading st s) (state (st .pool) (withReader (st .register) s (record { reading = true; key = k; node = n })))
+
+abbrev pub Leaves : ℕ → ℕ → List ℕ → Head → List ℕ → Head → Type 0
+Leaves s n p h p′ h′ =
+    (eqb n 0 ≡ true → (q : Register) → at p′ h′ (withReader q s noReader) ≡ endReading (at p h q) s)
+    × (eqb n 0 ≡ false → (p′ ≡ p) × (h′ ≡ h))
+
+module _ (st : State) (s k : ℕ) where
+  either : (a : Bool) (x y : Answer) (d e : State) → cond a (outcome x d) (outcome y e) ≡ outcome (cond a x y) (cond a d e)
+  either true x y d e = refl
+  either false x y d e = refl
+
+  load : (n : ℕ) → loaded st s k n ≡ outcome (loadAnswer n) (lookState st s k n)
+  load n =
+      either (eqb n 0) absent go (endReading st s) (state (st .pool) (withReader (st .register) s (record { reading = true; key = k; node = n })))
+
+  step : (a b : Bool) (root c v : ℕ) → cond a (loaded st s k root) (cond b (outcome (found v) (endReading st s)) (loaded st s k c))
+      ≡ outcome (cond a (loadAnswer root) (cond b (found v) (loadAnswer c))) (lookState st s k (cond a root (cond b 0 c)))
+  step true b root c v = load root
+  step false true root c v = refl
+  step false false root c v = load c
+
+-- the turn, by where it looks
+pub looks : (st : State) (s : ℕ) → (let x = readerOf (st .register) s in let root = st .register .root in
+    readerStep st s ≡ outcome (lookAnswer (st .pool) root (x .key) (x .node)) (lookState st s (x .key) (lookNode (st .pool) root (x .key) (x .node))))
+unfolding readerStep
+looks st s =
+    let x = readerOf (st .register) s in
+    let p = st .pool in
+    step st s (x .key) (eqb (x .node) 0) (eqb (x .key) (word p (x .node) keyWord)) (st .register .root) (child p (towards p (x .key) (x .node)) (x .node)) (word p (x .node) recordWord)
+
+-- the register put together
+pub left-state : (p p′ : List ℕ) (reg : Register) (h : Head) (s k n : ℕ) → Leaves s n p (headOf reg) p′ h
+    → state p′ (withReader (withHead reg h) s (readerAt k n)) ≡ lookState (state p reg) s k n
+unfolding withReader
+left-state p p′ reg h s k n l = by (eqb n 0) (l .0) (l .1)
+  where
+    by : (b : Bool) → (b ≡ true → (q : Register) → at p′ h (withReader q s noReader) ≡ endReading (at p (headOf reg) q) s)
+        → (b ≡ false → (p′ ≡ p) × (h ≡ headOf reg))
+        → state p′ (withReader (withHead reg h) s (cond b noReader (record { reading = true; key = k; node = n })))
+        ≡ cond b (endReading (state p reg) s) (state p (withReader reg s (record { reading = true; key = k; node = n })))
+    by true e f = e refl reg
+    by false e f = rw (f refl .0, f refl .1)

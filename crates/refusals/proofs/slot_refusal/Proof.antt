@@ -1,0 +1,23 @@
+use mathlib.Core.Path.{_≡_, refl, sym, ap, _∙_}
+use borrow.Author.Tests.{eq-eqb, ne-eqb, lt-ltb, le-ltb, lt-leb, le-leb}
+use borrow.Author.Needs.{needs}
+use Rattle.refusals.proofs.slot_refusal.Statement.{statement}
+use Rattle.refusals.proofs.slot_refusal.Tie as tie
+use Rattle.refusals.proofs.slot_refusal.Reads as reads
+use Rattle.refusals.proofs.slot_refusal.Lts as lts
+use Rattle.register.proofs.choose.Reads as choose-reads
+
+returns : tie.Need-returns
+returns c = rw (ne-eqb _ _ (c .if1 .taken))
+
+returns-2 : tie.Need-returns-2
+returns-2 c = rw (eq-eqb _ _ (c .before .if1 .left), le-leb _ _ (c .if2 .taken))
+
+choose-requires : tie.Need-choose-requires
+choose-requires c κs = search needs
+
+returns-3 : tie.Need-returns-3
+returns-3 c = rw (eq-eqb _ _ (c .before .before .if1 .left), lt-leb _ _ (c .before .if2 .left)) (c .choose .ensures)
+
+pub slot-refusal-spec : {M : Type 1} → statement M
+slot-refusal-spec = tie.close (tie.spec returns returns-2 choose-requires returns-3)
