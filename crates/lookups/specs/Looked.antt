@@ -1,5 +1,5 @@
 -- A reader's turn by its parts: where it looks, what it answers, and what the end of its reading leaves.
-use mathlib.Core.Path.{_≡_, refl, _∙_}
+use mathlib.Core.Path.{_≡_, refl, sym, ap, _∙_}
 use mathlib.Core.List.{List}
 use mathlib.Core.Bool.{Bool, true, false, cond}
 use lib.Dec.{eqb}
@@ -74,3 +74,18 @@ left-state p p′ reg h s k n l = by (eqb n 0) (l .0) (l .1)
         ≡ cond b (endReading (state p reg) s) (state p (withReader reg s (record { reading = true; key = k; node = n })))
     by true e f = e refl reg
     by false e f = rw (f refl .0, f refl .1)
+
+-- a turn that passed its tests, from what its parts leave; i is the slot's place, m the node that it loaded
+pub turn-looked : (p p′ : List ℕ) (reg : Register) (h : Head) (s i m : ℕ) (t : Reader) (a : Answer) → i ≡ s
+    → (let x = readerOf reg i in
+    a ≡ lookAnswer p (reg .root) (x .key) (x .node) → m ≡ lookNode p (reg .root) (x .key) (x .node) → Leaves s m p (headOf reg) p′ h → t ≡ readerAt (x .key) m
+    → (a ≡ readerStep (state p reg) s .answer) × (state p′ (withReader (withHead reg h) i t) ≡ readerStep (state p reg) s .after))
+turn-looked p p′ reg h s i m t a j ea em l et =
+    let step = looks (state p reg) s in
+    let x = readerOf reg s in
+    let ea′ : a ≡ lookAnswer p (reg .root) (x .key) (x .node) = rw j at ea in
+    let em′ : m ≡ lookNode p (reg .root) (x .key) (x .node) = rw j at em in
+    let et′ : t ≡ readerAt (x .key) m = rw j at et in (
+      ea′ ∙ sym (ap (λ (o : Outcome). o .answer) step),
+      rw (j, et′) (left-state p p′ reg h s (x .key) m l ∙ (ap (λ (y : ℕ). lookState (state p reg) s (x .key) y) em′ ∙ sym (ap (λ (o : Outcome). o .after) step))),
+    )

@@ -1,7 +1,7 @@
 // The stores of a writer's turn that take a node out of the tree: unlink, replace, detach.
 use types::Climb;
-use types::Link;
 use types::Head;
+use types::Link;
 use types::Side;
 use types::Turned;
 ghost use mathlib.Core.Path.{_≡_};

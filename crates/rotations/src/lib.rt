@@ -1,7 +1,7 @@
 // The stores of a rotation: diag and zig, left and right alike. Each function tries one store: it tests that the nodes are there, and
 // the free node that it takes, before it changes anything.
-use types::Link;
 use types::Head;
+use types::Link;
 use types::Rule;
 use types::Side;
 use types::Turned;

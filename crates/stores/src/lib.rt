@@ -1,8 +1,8 @@
 // The stores that link a new node, let a node adopt, and publish a copy. Each function tries one store: it tests that the nodes are
 // there, and the free node that it takes, before it changes anything.
 use types::Ending;
-use types::Link;
 use types::Head;
+use types::Link;
 use types::Side;
 use types::Store;
 use types::Turned;

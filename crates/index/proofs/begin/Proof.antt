@@ -1,3 +1,12 @@
+use mathlib.Core.Path.{_≡_, refl, sym, ap, _∙_}
+use native.Mathlib.Omega.{arith}
+use mathlib.Core.Bool.{Bool, true}
+use mathlib.Core.List.{[], _∷_}
+use Rattle.spec.specs.Register.{state, withReader}
+use Rattle.laws.specs.Tests.{lent-of, slot-of, unless-refused, unless-done}
+use Rattle.refusals.specs.Slots.{index-of, slot-tests}
+use Rattle.types.specs.declared.Reader.{Reader}
+use Rattle.spec.specs.Calls.{Outcome, outcome, ok, firstOf, begin, beginTests, reading}
 use borrow.Author.Needs.{needs}
 use Rattle.index.proofs.begin.Statement.{statement}
 use Rattle.index.proofs.begin.Tie as tie
@@ -7,41 +16,43 @@ use Rattle.refusals.proofs.lent_refusal.Reads as lent-refusal-reads
 use Rattle.refusals.proofs.slot_index.Reads as slot-index-reads
 use Rattle.refusals.proofs.slot_refusal.Reads as slot-refusal-reads
 
--- src/lib.rt:104:9
 lent-refusal-requires : tie.Need-lent-refusal-requires
 lent-refusal-requires c κs = search needs
 
--- src/lib.rt:105:9
 slot-index-requires : tie.Need-slot-index-requires
 slot-index-requires c κs = search needs
 
--- src/lib.rt:106:47
 mul-slot-refusal : tie.Need-mul-slot-refusal
 mul-slot-refusal c = search needs
 
--- src/lib.rt:106:47
 element-copy-out-slot-refusal : tie.Need-element-copy-out-slot-refusal
 element-copy-out-slot-refusal c = search needs
 
--- src/lib.rt:106:9
 slot-refusal-requires : tie.Need-slot-refusal-requires
 slot-refusal-requires c κs = search needs
 
--- src/lib.rt:108:9
 returns : tie.Need-returns
-returns c = ?
+unfolding begin
+returns c = let a = c .before .before .before .before .before .args in let st = state (a .pool .now) (a .t2) in let i = c .before .before .slot-index in
+    let w : c .before .slot-refusal .result ≡ firstOf (beginTests st (a .s)) = c .before .slot-refusal .ensures ∙ rw (c .before .before .before .lent-refusal .ensures) (slot-tests st (a .s) (i .result) (λ (b : Bool). b) 4 (i .ensures .0)) in
+    let e = unless-refused (beginTests st (a .s)) st (outcome ok (state (st .pool) (withReader (st .register) (a .s) (record { reading = true; key = a .k; node = 0 })))) (c .before .slot-refusal .result) (sym w) (c .if1 .taken) in
+    (sym (ap (λ (o : Outcome). o .answer) e), sym (ap (λ (o : Outcome). o .after) e))
 
--- src/lib.rt:113:5
 mul-t10 : tie.Need-mul-t10
 mul-t10 c = search needs
 
--- src/lib.rt:113:5
 element-set-from-reg : tie.Need-element-set-from-reg
 element-set-from-reg c = search needs
 
--- src/lib.rt:100:1
 returns-2 : tie.Need-returns-2
-returns-2 c = ?
+unfolding begin withReader
+returns-2 c = let a = c .before .before .before .before .before .args in let st = state (a .pool .now) (a .t2) in let i = c .before .before .slot-index in
+    let w : c .before .slot-refusal .result ≡ firstOf (beginTests st (a .s)) = c .before .slot-refusal .ensures ∙ rw (c .before .before .before .lent-refusal .ensures) (slot-tests st (a .s) (i .result) (λ (b : Bool). b) 4 (i .ensures .0)) in
+    let z = sym w ∙ c .if1 .left in
+    let e = unless-done (beginTests st (a .s)) st (outcome ok (state (st .pool) (withReader (st .register) (a .s) (record { reading = true; key = a .k; node = 0 })))) z in (
+      sym (ap (λ (o : Outcome). o .answer) e),
+      rw (index-of (a .s) (i .result) (i .ensures .0) (slot-of st (a .s) (reading st (a .s)) 4 (omega arith) z)) (sym (ap (λ (o : Outcome). o .after) e)),
+    )
 
 pub begin-spec : {M : Type 1} → statement M
 begin-spec =

@@ -1,3 +1,13 @@
+use mathlib.Core.Path.{_≡_, refl, sym, ap, _∙_}
+use native.Mathlib.Omega.{arith}
+use mathlib.Core.Bool.{Bool, not}
+use mathlib.Core.List.{[], _∷_}
+use Rattle.spec.specs.Register.{state, withReader}
+use Rattle.laws.specs.Tests.{lent-of, slot-of, unless-refused, unless-done}
+use Rattle.refusals.specs.Slots.{index-of, slot-tests}
+use Rattle.types.specs.declared.Reader.{Reader}
+use Rattle.spec.specs.Calls.{Outcome, outcome, ok, _gives_, firstOf, slotTooHigh, reading, giveUp, readerTests}
+use Rattle.spec.specs.Free.{endReading}
 use borrow.Author.Needs.{needs}
 use Rattle.index.proofs.give_up.Statement.{statement}
 use Rattle.index.proofs.give_up.Tie as tie
@@ -9,57 +19,58 @@ use Rattle.refusals.proofs.lent_refusal.Reads as lent-refusal-reads
 use Rattle.refusals.proofs.slot_index.Reads as slot-index-reads
 use Rattle.refusals.proofs.slot_refusal.Reads as slot-refusal-reads
 
--- src/lib.rt:166:9
 lent-refusal-requires : tie.Need-lent-refusal-requires
 lent-refusal-requires c κs = search needs
 
--- src/lib.rt:167:9
 slot-index-requires : tie.Need-slot-index-requires
 slot-index-requires c κs = search needs
 
--- src/lib.rt:168:48
 mul-slot-refusal : tie.Need-mul-slot-refusal
 mul-slot-refusal c = search needs
 
--- src/lib.rt:168:48
 element-copy-out-slot-refusal : tie.Need-element-copy-out-slot-refusal
 element-copy-out-slot-refusal c = search needs
 
--- src/lib.rt:168:9
 slot-refusal-requires : tie.Need-slot-refusal-requires
 slot-refusal-requires c κs = search needs
 
--- src/lib.rt:170:9
 same-length : tie.Need-same-length
 same-length c = search needs
 
--- src/lib.rt:170:9
 returns : tie.Need-returns
-returns c = ?
+unfolding giveUp
+returns c = let a = c .before .before .before .before .before .before .args in let st = state (a .pool .now) (a .t2) in let i = c .before .before .slot-index in
+    let w : c .before .slot-refusal .result ≡ firstOf (readerTests st (a .s)) = c .before .slot-refusal .ensures ∙ rw (c .before .before .before .lent-refusal .ensures) (slot-tests st (a .s) (i .result) (not) 5 (i .ensures .0)) in
+    let e = unless-refused (readerTests st (a .s)) st (outcome ok (endReading st (a .s))) (c .before .slot-refusal .result) (sym w) (c .if1 .taken) in
+    (sym (ap (λ (o : Outcome). o .answer) e), sym (ap (λ (o : Outcome). o .after) e))
 
--- src/lib.rt:183:9
 end-reading-requires : tie.Need-end-reading-requires
-end-reading-requires c κs = ?
+end-reading-requires c κs = let a = c .before .before .before .before .before .before .before .args in let st = state (a .pool .now) (a .t2) in let i = c .before .before .before .slot-index in
+    let w : c .before .before .slot-refusal .result ≡ firstOf (readerTests st (a .s)) = c .before .before .slot-refusal .ensures ∙ rw (c .before .before .before .before .lent-refusal .ensures) (slot-tests st (a .s) (i .result) (not) 5 (i .ensures .0)) in
+    let z = sym w ∙ c .before .if1 .left in
+    (lent-of st (slotTooHigh (a .s) gives 3 ∷ not (reading st (a .s)) gives 5 ∷ []) z .size, slot-of st (a .s) (not (reading st (a .s))) 5 (omega arith) z)
 
--- src/lib.rt:190:22
 reader-at-requires : tie.Need-reader-at-requires
 reader-at-requires c κs = search needs
 
--- src/lib.rt:190:5
 mul-t13 : tie.Need-mul-t13
 mul-t13 c = search needs
 
--- src/lib.rt:190:5
 element-set-from-reg : tie.Need-element-set-from-reg
 element-set-from-reg c = search needs
 
--- src/lib.rt:162:1
 same-length-2 : tie.Need-same-length-2
 same-length-2 c = search needs
 
--- src/lib.rt:162:1
 returns-2 : tie.Need-returns-2
-returns-2 c = ?
+unfolding giveUp withReader
+returns-2 c = let a = c .before .before .before .before .before .before .before .before .before .before .before .args in let st = state (a .pool .now) (a .t2) in let i = c .before .before .before .before .before .before .before .slot-index in
+    let w : c .before .before .before .before .before .before .slot-refusal .result ≡ firstOf (readerTests st (a .s)) = c .before .before .before .before .before .before .slot-refusal .ensures ∙ rw (c .before .before .before .before .before .before .before .before .lent-refusal .ensures) (slot-tests st (a .s) (i .result) (not) 5 (i .ensures .0)) in
+    let z = sym w ∙ c .before .before .before .before .before .if1 .left in
+    let e = unless-done (readerTests st (a .s)) st (outcome ok (endReading st (a .s))) z in (
+      sym (ap (λ (o : Outcome). o .answer) e),
+      rw (index-of (a .s) (i .result) (i .ensures .0) (slot-of st (a .s) (not (reading st (a .s))) 5 (omega arith) z), c .reader-at .ensures) (c .before .before .before .end-reading .ensures (a .t2) ∙ sym (ap (λ (o : Outcome). o .after) e)),
+    )
 
 pub give-up-spec : {M : Type 1} → statement M
 give-up-spec =

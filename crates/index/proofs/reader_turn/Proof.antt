@@ -1,3 +1,13 @@
+use mathlib.Core.Path.{_≡_, refl, sym, ap, _∙_}
+use native.Mathlib.Omega.{arith}
+use mathlib.Core.Bool.{Bool, not}
+use mathlib.Core.List.{[], _∷_}
+use Rattle.spec.specs.Register.{state, withReader}
+use Rattle.laws.specs.Tests.{lent-of, slot-of, unless-refused, unless-done}
+use Rattle.refusals.specs.Slots.{index-of, slot-tests}
+use Rattle.types.specs.declared.Reader.{Reader}
+use Rattle.spec.specs.Calls.{Outcome, outcome, _gives_, firstOf, slotTooHigh, reading, readerSays, readerStep, readerTurn, readerTests}
+use Rattle.lookups.specs.Looked.{turn-looked}
 use borrow.Author.Needs.{needs}
 use Rattle.index.proofs.reader_turn.Statement.{statement}
 use Rattle.index.proofs.reader_turn.Tie as tie
@@ -10,61 +20,63 @@ use Rattle.refusals.proofs.lent_refusal.Reads as lent-refusal-reads
 use Rattle.refusals.proofs.slot_index.Reads as slot-index-reads
 use Rattle.refusals.proofs.slot_refusal.Reads as slot-refusal-reads
 
--- src/lib.rt:128:9
 lent-refusal-requires : tie.Need-lent-refusal-requires
 lent-refusal-requires c κs = search needs
 
--- src/lib.rt:129:9
 slot-index-requires : tie.Need-slot-index-requires
 slot-index-requires c κs = search needs
 
--- src/lib.rt:130:13
 mul-x : tie.Need-mul-x
 mul-x c = search needs
 
--- src/lib.rt:130:13
 element-copy-out-x : tie.Need-element-copy-out-x
 element-copy-out-x c = search needs
 
--- src/lib.rt:131:9
 slot-refusal-requires : tie.Need-slot-refusal-requires
 slot-refusal-requires c κs = search needs
 
--- src/lib.rt:133:9
 same-length : tie.Need-same-length
 same-length c = search needs
 
--- src/lib.rt:133:9
 returns : tie.Need-returns
-returns c = ?
+unfolding readerTurn
+returns c = let a = c .before .before .before .before .before .before .before .before .args in let st = state (a .pool .now) (a .t2) in let i = c .before .before .before .before .slot-index in
+    let w : c .before .slot-refusal .result ≡ firstOf (readerTests st (a .s)) = c .before .slot-refusal .ensures ∙ rw (c .before .before .before .before .before .lent-refusal .ensures) (slot-tests st (a .s) (i .result) (not) 5 (i .ensures .0)) in
+    let e = unless-refused (readerTests st (a .s)) st (readerStep st (a .s)) (c .before .slot-refusal .result) (sym w) (c .if1 .taken) in
+    (sym (ap (λ (o : Outcome). o .answer) e), sym (ap (λ (o : Outcome). o .after) e))
 
--- src/lib.rt:138:9
 look-requires : tie.Need-look-requires
 look-requires c κs = search needs
 
--- src/lib.rt:147:9
 leave-requires : tie.Need-leave-requires
-leave-requires c κs = ?
+leave-requires c κs = let a = c .before .before .before .before .before .before .before .before .before .before .before .args in let st = state (a .pool .now) (a .t2) in let i = c .before .before .before .before .before .before .before .slot-index in
+    let w : c .before .before .before .before .slot-refusal .result ≡ firstOf (readerTests st (a .s)) = c .before .before .before .before .slot-refusal .ensures ∙ rw (c .before .before .before .before .before .before .before .before .lent-refusal .ensures) (slot-tests st (a .s) (i .result) (not) 5 (i .ensures .0)) in
+    let z = sym w ∙ c .before .before .before .if1 .left in
+    (lent-of st (slotTooHigh (a .s) gives 3 ∷ not (reading st (a .s)) gives 5 ∷ []) z .size, slot-of st (a .s) (not (reading st (a .s))) 5 (omega arith) z)
 
--- src/lib.rt:154:22
 reader-at-requires : tie.Need-reader-at-requires
 reader-at-requires c κs = search needs
 
--- src/lib.rt:154:5
 mul-t16 : tie.Need-mul-t16
 mul-t16 c = search needs
 
--- src/lib.rt:154:5
 element-set-from-reg : tie.Need-element-set-from-reg
 element-set-from-reg c = search needs
 
--- src/lib.rt:124:1
 same-length-2 : tie.Need-same-length-2
 same-length-2 c = search needs
 
--- src/lib.rt:124:1
 returns-2 : tie.Need-returns-2
-returns-2 c = ?
+unfolding readerTurn withReader
+returns-2 c = let a = c .before .before .before .before .before .before .before .before .before .before .before .before .before .before .before .args in let st = state (a .pool .now) (a .t2) in let i = c .before .before .before .before .before .before .before .before .before .before .before .slot-index in
+    let w : c .before .before .before .before .before .before .before .before .slot-refusal .result ≡ firstOf (readerTests st (a .s)) = c .before .before .before .before .before .before .before .before .slot-refusal .ensures ∙ rw (c .before .before .before .before .before .before .before .before .before .before .before .before .lent-refusal .ensures) (slot-tests st (a .s) (i .result) (not) 5 (i .ensures .0)) in
+    let z = sym w ∙ c .before .before .before .before .before .before .before .if1 .left in
+    let s = a .s in
+    let j : i .result ≡ s = index-of s (i .result) (i .ensures .0) (slot-of st s (not (reading st s)) 5 (omega arith) z) in
+    let e = unless-done (readerTests st s) st (readerStep st s) z in
+    let l = c .before .before .before .leave in let k = c .before .before .before .before .before .look in
+    let f = turn-looked (a .pool .now) (l .last .0) (a .t2) (l .result) s (i .result) (k .result .node) (c .reader-at .result) (readerSays (k .result .answer)) j (k .ensures .0) (k .ensures .1) (l .ensures) (c .reader-at .ensures) in
+    (f .0 ∙ sym (ap (λ (o : Outcome). o .answer) e), f .1 ∙ sym (ap (λ (o : Outcome). o .after) e))
 
 pub reader-turn-spec : {M : Type 1} → statement M
 reader-turn-spec =

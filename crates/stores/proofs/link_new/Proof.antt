@@ -25,7 +25,6 @@ nodes-requires c κs = search needs
 count-up-requires : tie.Need-count-up-requires
 count-up-requires c κs = search needs
 
-
 same-length : tie.Need-same-length
 same-length c = search needs
 

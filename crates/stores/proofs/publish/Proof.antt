@@ -75,11 +75,12 @@ returns-3 : tie.Need-returns-3
 unfolding stepFinds stepMade
 returns-3 c = let a = c .before .before .before .before .before .before .before .before .before .before .before .before .before .before .before .before .before .before .before .before .before .args in let n = c .before .before .before .before .before .before .before .before .before .before .before .before .before .before .before .before .before .before .node-at in let k = c .before .before .before .before .before .before .before .before .hang-copy in let t = c .before .before .retire in
     let z : FollowsReading (a .reading) (λ st. retire st (n .result)) (k .last .0) (awaiting (k .result .head) (a .reading)) (t .last .0) (t .result) = rw (c .before .before .before .before .await-readers .ensures) at (t .ensures) in
-    λ q e. let f : stepFinds (at (a .pool .now) (a .h) q) (a .l) (Publish (a .c)) ≡ true = takes-node (at (a .pool .now) (a .h) q) (linkNode (at (a .pool .now) (a .h) q) (a .l)) (rw (← (n .ensures)) (c .before .before .before .before .before .before .before .before .before .before .before .before .before .before .before .before .before .if1 .left)) (c .before .before .before .before .before .before .before .before .before .before .before .before .before .before .before .before .if2 .left) in
-    (sym f,
-    λ g. published (a .pool .now) (k .last .0) (t .last .0) (a .h) (k .result .head) (t .result) (a .l) (a .reading) (a .c) (n .result) (c .before .before .before .before .before .before .before .before .before .before .before .before .before .before .child .result) (c .before .before .before .before .before .before .before .before .before .before .before .before .child2 .result) (c .before .before .before .before .before .before .before .before .before .before .word .result)
-    (n .ensures) (c .before .before .before .before .before .before .before .before .before .before .before .before .before .before .child .ensures) (c .before .before .before .before .before .before .before .before .before .before .before .before .child2 .ensures) (λ q. c .before .before .before .before .before .before .before .before .before .before .word .ensures) (k .ensures .1) z q e,
-    λ g. absurd (false≢true (sym g)))
+    λ q e. let f : stepFinds (at (a .pool .now) (a .h) q) (a .l) (Publish (a .c)) ≡ true = takes-node (at (a .pool .now) (a .h) q) (linkNode (at (a .pool .now) (a .h) q) (a .l)) (rw (← (n .ensures)) (c .before .before .before .before .before .before .before .before .before .before .before .before .before .before .before .before .before .if1 .left)) (c .before .before .before .before .before .before .before .before .before .before .before .before .before .before .before .before .if2 .left) in (
+      sym f,
+      λ g. published (a .pool .now) (k .last .0) (t .last .0) (a .h) (k .result .head) (t .result) (a .l) (a .reading) (a .c) (n .result) (c .before .before .before .before .before .before .before .before .before .before .before .before .before .before .child .result) (c .before .before .before .before .before .before .before .before .before .before .before .before .child2 .result) (c .before .before .before .before .before .before .before .before .before .before .word .result)
+          (n .ensures) (c .before .before .before .before .before .before .before .before .before .before .before .before .before .before .child .ensures) (c .before .before .before .before .before .before .before .before .before .before .before .before .child2 .ensures) (λ q. c .before .before .before .before .before .before .before .before .before .before .word .ensures) (k .ensures .1) z q e,
+      λ g. absurd (false≢true (sym g)),
+    )
 
 pub publish-spec : {M : Type 1} → statement M
 publish-spec =
