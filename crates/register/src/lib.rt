@@ -1,6 +1,5 @@
 // The register: fields changed, links read and stored, slots as bits, the test of ranges.
 use types::Link;
-use types::Reader;
 use types::Register;
 use types::Side;
 use types::Step;
@@ -10,23 +9,13 @@ ghost use mathlib.Core.Path.{_≡_};
 ghost use Prim.Native.Nat.{ℕ, _<_, _≤_, _+_, _*_};
 ghost use mathlib.Core.Bool.{cond, _&&_};
 ghost use Rattle.types.specs.Side.{linkAt, owner, sideOf, sameSide};
-ghost use Rattle.spec.specs.Register.{state, withRoot, withQueue, withHeld, withReader, withAwaited, withWrite, countUp, countDown, nodeAt, setLink, hasSlot, putSlot, dropSlot, readingSlots, nodeNumber, linkInRange, stepInRange, isRoot, isVacant, mostStores, storeInRange, readerInRange, registerInRange};
+ghost use Rattle.spec.specs.Register.{withWrite, countUp, countDown, nodeAt, hasSlot, putSlot, dropSlot, readingSlots, nodeNumber, linkInRange, stepInRange, isRoot, isVacant, mostStores, storeInRange, readerInRange, registerInRange};
 ghost use Rattle.spec.specs.Pool.{slots};
 ghost use Rattle.base.specs.Walk.{allIn};
 
 pub const SLOTS: u32 = 8;
 
 pub const MOST_STORES: u32 = 7;
-
-pub fn with_reader(reg: Register, s: u32, x: Reader) -> Register
-    requires { ⌜ s < 8 ⌝ }
-    ensures { λ r. ⌜ r ≡ withReader reg s x ⌝ }
-{
-    let i = s as usize;
-    let mut r = reg;
-    r.readers[i] = x;
-    r
-}
 
 pub fn with_write(reg: Register, w: Write) -> Register
     ensures { λ r. ⌜ r ≡ withWrite reg w ⌝ }
