@@ -1,7 +1,7 @@
 -- The tests of a call that names a slot, from the number of tests 1 and 2 and the slot's own record.
 use mathlib.Core.Path.{_≡_, refl, sym, _∙_}
 use mathlib.Core.List.{List, [], _∷_}
-use mathlib.Core.Bool.{Bool, cond}
+use mathlib.Core.Bool.{Bool, true, false, cond, _&&_}
 use lib.Dec.{eqb, ltb}
 use native.Mathlib.Decide.{decLt}
 use borrow.Author.Tests.{lt-ltb, le-leb}
@@ -11,6 +11,12 @@ use Rattle.spec.specs.Pool.{slots}
 use Rattle.spec.specs.Register.{State, readerOf}
 use Rattle.spec.specs.Calls.{_gives_, firstOf, wrongLength, outOfRange, slotTooHigh, reading}
 use Rattle.laws.specs.Tests.{lentNumber, first-lent}
+
+pub and-swap : (a b : Bool) → (a && b) ≡ (b && a)
+and-swap true true = refl
+and-swap true false = refl
+and-swap false true = refl
+and-swap false false = refl
 
 abbrev pub slotIndex : ℕ → ℕ
 slotIndex s = cond (ltb s slots) s 0

@@ -7,7 +7,7 @@ ghost use Rattle.laws.specs.Tests.{lentNumber};
 ghost use Rattle.refusals.specs.Slots.{slotIndex, slotNumber};
 ghost use Prim.Native.Nat.{_<_};
 
-// tests 1 and 2
+// Tests 1 and 2. The register goes first: nothing of it is kept over the pass through the pool.
 pub fn lent_refusal(pool: &[u32], reg: Register) -> u32
     ensures { λ r. ⌜ r ≡ lentNumber (state (now (pool .entry)) reg) ⌝ }
 {
@@ -15,7 +15,7 @@ pub fn lent_refusal(pool: &[u32], reg: Register) -> u32
         return 1;
     }
     let top = pool::nodes(pool);
-    if pool::pool_in_range(pool) & register::register_in_range(reg, top) {} else {
+    if register::register_in_range(reg, top) & pool::pool_in_range(pool) {} else {
         return 2;
     }
     0

@@ -224,15 +224,16 @@ fn stores_in_range(w: Write, top: u32) -> bool
     ensures { λ r. ⌜ r ≡ allIn (storeInRange top w) 0 mostStores ⌝ }
 {
     let count = w.count;
-    let mut ok = true;
     let mut i: u32 = 0;
     while i < MOST_STORES {
         let at = i as usize;
         let x = w.stores[at];
-        ok = ok & store_in_range(x, i < count, top);
+        if store_in_range(x, i < count, top) {} else {
+            return false;
+        }
         i += 1;
     }
-    ok
+    true
 }
 
 // every field of the register in its range
@@ -242,6 +243,8 @@ pub fn register_in_range(reg: Register, top: u32) -> bool
     let a = (reg.root <= top) & (reg.first <= top) & (reg.last <= top);
     let b = (reg.free <= top) & (reg.held <= top) & (reg.awaited <= pool::ALL_SLOTS);
     let w = reg.write;
-    let c = (w.count <= MOST_STORES) & readers_in_range(reg, top) & stores_in_range(w, top);
-    a & b & c
+    if a & b & (w.count <= MOST_STORES) & readers_in_range(reg, top) {} else {
+        return false;
+    }
+    stores_in_range(w, top)
 }

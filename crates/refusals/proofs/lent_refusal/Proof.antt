@@ -1,3 +1,4 @@
+use Rattle.refusals.specs.Slots.{and-swap}
 use Rattle.spec.specs.Register.{registerInRange}
 use Rattle.spec.specs.Pool.{lengthRight, poolInRange, nodes}
 use Rattle.laws.specs.Tests.{right-length}
@@ -24,19 +25,27 @@ returns c = rw (sym (c .before .length-right .ensures) ∙ c .if1 .left)
 nodes-requires : tie.Need-nodes-requires
 nodes-requires c κs = right-length (c .before .before .before .args .pool .now) (sym (c .before .length-right .ensures) ∙ c .if1 .taken)
 
-pool-in-range-requires : tie.Need-pool-in-range-requires
-pool-in-range-requires c κs = right-length (c .before .before .before .before .args .pool .now) (sym (c .before .before .length-right .ensures) ∙ c .before .if1 .taken)
-
 register-in-range-requires : tie.Need-register-in-range-requires
 register-in-range-requires c κs = search needs
 
+pool-in-range-requires : tie.Need-pool-in-range-requires
+pool-in-range-requires c κs = right-length (c .before .before .before .before .before .args .pool .now) (sym (c .before .before .before .length-right .ensures) ∙ c .before .before .if1 .taken)
+
 returns-2 : tie.Need-returns-2
-returns-2 c = let a : lengthRight (c .before .before .before .before .before .before .before .args .pool .now) ≡ true = sym (c .before .before .before .before .before .length-right .ensures) ∙ c .before .before .before .before .if1 .taken in
-    let b : (poolInRange (c .before .before .before .before .before .before .before .args .pool .now) && registerInRange (nodes (c .before .before .before .before .before .before .before .args .pool .now)) (c .before .before .before .before .before .before .before .args .reg)) ≡ false = rw (← (c .before .before .pool-in-range .ensures), ← (c .before .before .before .nodes .ensures), ← (c .before .register-in-range .ensures)) (c .if2 .left) in rw (a, b)
+returns-2 c =
+    let a = c .before .before .before .before .before .before .before .args in
+    let long : lengthRight (a .pool .now) ≡ true = sym (c .before .before .before .before .before .length-right .ensures) ∙ c .before .before .before .before .if1 .taken in
+    let ranges : (poolInRange (a .pool .now) && registerInRange (nodes (a .pool .now)) (a .reg)) ≡ false =
+    and-swap (poolInRange (a .pool .now)) (registerInRange (nodes (a .pool .now)) (a .reg)) ∙ rw (← (c .before .pool-in-range .ensures), ← (c .before .before .before .nodes .ensures), ← (c .before .before .register-in-range .ensures)) (c .if2 .left) in
+    rw (long, ranges)
 
 returns-3 : tie.Need-returns-3
-returns-3 c = let a : lengthRight (c .before .before .before .before .before .before .before .args .pool .now) ≡ true = sym (c .before .before .before .before .before .length-right .ensures) ∙ c .before .before .before .before .if1 .taken in
-    let b : (poolInRange (c .before .before .before .before .before .before .before .args .pool .now) && registerInRange (nodes (c .before .before .before .before .before .before .before .args .pool .now)) (c .before .before .before .before .before .before .before .args .reg)) ≡ true = rw (← (c .before .before .pool-in-range .ensures), ← (c .before .before .before .nodes .ensures), ← (c .before .register-in-range .ensures)) (c .if2 .taken) in rw (a, b)
+returns-3 c =
+    let a = c .before .before .before .before .before .before .before .args in
+    let long : lengthRight (a .pool .now) ≡ true = sym (c .before .before .before .before .before .length-right .ensures) ∙ c .before .before .before .before .if1 .taken in
+    let ranges : (poolInRange (a .pool .now) && registerInRange (nodes (a .pool .now)) (a .reg)) ≡ true =
+    and-swap (poolInRange (a .pool .now)) (registerInRange (nodes (a .pool .now)) (a .reg)) ∙ rw (← (c .before .pool-in-range .ensures), ← (c .before .before .before .nodes .ensures), ← (c .before .before .register-in-range .ensures)) (c .if2 .taken) in
+    rw (long, ranges)
 
 pub lent-refusal-spec : {M : Type 1} → statement M
 lent-refusal-spec =
@@ -45,7 +54,7 @@ lent-refusal-spec =
     length-right-requires
     returns
     nodes-requires
-    pool-in-range-requires
     register-in-range-requires
+    pool-in-range-requires
     returns-2
     returns-3)

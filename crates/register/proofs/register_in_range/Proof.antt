@@ -1,4 +1,9 @@
-use Rattle.spec.specs.Register.{registerInRange}
+use mathlib.Core.Bool.{true, false, _&&_}
+use lib.Dec.{leb}
+use Rattle.base.specs.Walk.{allIn}
+use Rattle.spec.specs.Pool.{slots, allSlots}
+use Rattle.register.specs.Ranges.{stops, goes}
+use Rattle.spec.specs.Register.{registerInRange, readerInRange, storeInRange, mostStores}
 use mathlib.Core.Path.{_≡_, refl, sym, ap, _∙_}
 use native.Mathlib.Omega.{arith}
 use borrow.Author.Tests.{eq-eqb, ne-eqb, lt-ltb, le-ltb, lt-leb, le-leb, not-true, not-false}
@@ -13,13 +18,35 @@ use Rattle.register.proofs.stores_in_range.Reads as stores-in-range-rea
 readers-in-range-requires : tie.Need-readers-in-range-requires
 readers-in-range-requires c κs = search needs
 
+returns : tie.Need-returns
+unfolding registerInRange
+returns c =
+    let r = c .before .before .before .before .before .before .before .before .before .before .args .reg in
+    let top = c .before .before .before .before .before .before .before .before .before .before .args .top in
+    let x = leb (r .root) top && leb (r .first) top && leb (r .last) top in
+    let y = leb (r .free) top && leb (r .held) top && leb (r .awaited) allSlots in
+    let z = leb (r .write .count) mostStores in
+    let readers = allIn (readerInRange top r) 0 slots in
+    let stores = allIn (storeInRange top (r .write)) 0 mostStores in
+    let h : (x && y && z && readers) ≡ false = rw (← (c .before .readers-in-range .ensures)) (c .if1 .left) in
+    sym (stops stores x y z readers h)
+
 stores-in-range-requires : tie.Need-stores-in-range-requires
 stores-in-range-requires c κs = search needs
 
-returns : tie.Need-returns
+returns-2 : tie.Need-returns-2
 unfolding registerInRange
-returns c = rw (c .before .readers-in-range .ensures, c .stores-in-range .ensures)
+returns-2 c =
+    let r = c .before .before .before .before .before .before .before .before .before .before .before .args .reg in
+    let top = c .before .before .before .before .before .before .before .before .before .before .before .args .top in
+    let x = leb (r .root) top && leb (r .first) top && leb (r .last) top in
+    let y = leb (r .free) top && leb (r .held) top && leb (r .awaited) allSlots in
+    let z = leb (r .write .count) mostStores in
+    let readers = allIn (readerInRange top r) 0 slots in
+    let stores = allIn (storeInRange top (r .write)) 0 mostStores in
+    let h : (x && y && z && readers) ≡ true = rw (← (c .before .before .readers-in-range .ensures)) (c .before .if1 .taken) in
+    c .stores-in-range .ensures ∙ sym (goes stores x y z readers h)
 
 pub register-in-range-spec : {M : Type 1} → statement M
 register-in-range-spec =
-    tie.close (tie.spec readers-in-range-requires stores-in-range-requires returns)
+    tie.close (tie.spec readers-in-range-requires returns stores-in-range-requires returns-2)

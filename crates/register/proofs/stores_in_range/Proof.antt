@@ -1,6 +1,5 @@
 use Rattle.spec.specs.Register.{storeInRange, mostStores}
-use Rattle.base.specs.Walk.{allIn, all-and, all-end, and-assoc, and-true}
-use mathlib.Core.Bool.{_&&_, Bool}
+use Rattle.base.specs.Walk.{allIn, all-bad, all-ok, all-end}
 use Prim.Native.Nat.{ℕ, _≤_, _+_, _-_}
 use mathlib.Core.Path.{_≡_, refl, sym, ap, _∙_}
 use native.Mathlib.Omega.{arith}
@@ -13,10 +12,10 @@ use Rattle.register.proofs.stores_in_range.Lts as lts
 use Rattle.register.proofs.store_in_range.Reads as store-in-range-reads
 
 abbrev Inv-loop : tie.InvT-loop
-Inv-loop top w count ok₀ i₀ ok i = (i ≤ mostStores) × ((ok && allIn (storeInRange top w) i mostStores) ≡ allIn (storeInRange top w) 0 mostStores)
+Inv-loop top w count i₀ i = (i ≤ mostStores) × (allIn (storeInRange top w) i mostStores ≡ allIn (storeInRange top w) 0 mostStores)
 
 abbrev μ-loop : tie.MeasureT-loop
-μ-loop top w count ok₀ i₀ ok i = mostStores - i
+μ-loop top w count i₀ i = mostStores - i
 
 loop-holds : tie.Need-loop-holds Inv-loop μ-loop
 loop-holds c = (search needs, refl)
@@ -33,6 +32,13 @@ element-copy-out-x c = search needs
 store-in-range-requires : tie.Need-store-in-range-requires Inv-loop μ-loop
 store-in-range-requires c κs = search needs
 
+returns : tie.Need-returns Inv-loop μ-loop
+unfolding storeInRange
+returns c =
+    let l = c .before .before .before .before .loop in
+    let f = storeInRange (c .before .before .before .before .before .args .top) (c .before .before .before .before .before .args .t1) in
+    sym (all-bad f (l .i) mostStores (c .before .before .before .loop-test .taken) (sym (c .before .store-in-range .ensures) ∙ c .if1 .left)) ∙ l .inv .1
+
 add-i : tie.Need-add-i Inv-loop μ-loop
 add-i c = search needs
 
@@ -41,10 +47,15 @@ loop-less c = search needs
 
 loop-again : tie.Need-loop-again Inv-loop μ-loop
 unfolding storeInRange
-loop-again c = let l = c .before .before .before .loop in let f = storeInRange (c .before .before .before .before .args .top) (c .before .before .before .before .args .t1) in (search needs, rw (c .store-in-range .ensures) (and-assoc (l .ok) (f (l .i)) (allIn f (l .i + 1) mostStores) ∙ (ap (λ (b : Bool). l .ok && b) (sym (all-and f (l .i) mostStores (c .before .before .loop-test .taken))) ∙ l .inv .1)))
+loop-again c =
+    let l = c .before .before .before .before .loop in
+    let f = storeInRange (c .before .before .before .before .before .args .top) (c .before .before .before .before .before .args .t1) in
+    (search needs, sym (all-ok f (l .i) mostStores (c .before .before .before .loop-test .taken) (sym (c .before .store-in-range .ensures) ∙ c .if1 .taken)) ∙ l .inv .1)
 
-returns : tie.Need-returns Inv-loop μ-loop
-returns c = let l = c .before .loop in sym (and-true _) ∙ (rw (all-end (storeInRange (c .before .before .args .top) (c .before .before .args .t1)) (l .i) mostStores (c .loop-test .left)) at (l .inv .1))
+returns-2 : tie.Need-returns-2 Inv-loop μ-loop
+returns-2 c =
+    let l = c .before .loop in
+    sym (all-end (storeInRange (c .before .before .args .top) (c .before .before .args .t1)) (l .i) mostStores (c .loop-test .left)) ∙ l .inv .1
 
 pub stores-in-range-spec : {M : Type 1} → statement M
 stores-in-range-spec =
@@ -57,7 +68,8 @@ stores-in-range-spec =
     mul-x
     element-copy-out-x
     store-in-range-requires
+    returns
     add-i
     loop-less
     loop-again
-    returns)
+    returns-2)
