@@ -1,6 +1,7 @@
 use Prim.Native.Nat.{_≤_}
 use mathlib.Core.Path.{_≡_}
 use lib.ListN.{length}
+use native.Mathlib.Omega.{arith}
 use borrow.Author.Needs.{needs}
 use Rattle.lines.specs.Text.{room}
 use Rattle.session.specs.Steps.{Sound, workLeft}
@@ -8,22 +9,15 @@ use Rattle.trace.proofs.run.Statement.{statement}
 use Rattle.trace.proofs.run.Tie as tie
 use Rattle.trace.proofs.run.Reads as reads
 use Rattle.trace.proofs.run.Lts as lts
+use Rattle.session.proofs.advance.Reads as advance-reads
 use Rattle.session.proofs.left.Reads as left-reads
-use Rattle.session.proofs.step.Reads as step-reads
-use Rattle.trace.proofs.flushed.Reads as flushed-reads
+use Rattle.trace.proofs.write_out.Reads as write-out-reads
 
 abbrev Inv-loop : tie.InvT-loop
-Inv-loop words₀ out₀ at input session₀ end₀ from₀ words out session end from =
-    Sound session
-    × (end ≤ length out)
-    × (from ≤ length input)
-    × (room ≤ length out)
-    × (length words ≡ 8192)
-    × (length words ≡ length words₀)
-    × (length out ≡ length out₀)
+Inv-loop words₀ out₀ input run₀ words out run = Sound (run .session) × (run .from ≤ length input) × (room ≤ length out) × (length words ≡ 8192) × (length words ≡ length words₀) × (length out ≡ length out₀)
 
 abbrev μ-loop : tie.MeasureT-loop
-μ-loop words₀ out₀ at input session₀ end₀ from₀ words out session end from = workLeft session (length input) from
+μ-loop words₀ out₀ input run₀ words out run = workLeft (run .session .pending) (length input) (run .from)
 
 loop-holds : tie.Need-loop-holds Inv-loop μ-loop
 loop-holds c = search needs
@@ -31,14 +25,14 @@ loop-holds c = search needs
 left-requires : tie.Need-left-requires Inv-loop μ-loop
 left-requires c κs = search needs
 
-flushed-requires : tie.Need-flushed-requires Inv-loop μ-loop
-flushed-requires c κs = search needs
+advance-requires : tie.Need-advance-requires Inv-loop μ-loop
+advance-requires c κs = search needs
 
-step-requires : tie.Need-step-requires Inv-loop μ-loop
-step-requires c κs = search needs
+write-out-requires : tie.Need-write-out-requires Inv-loop μ-loop
+write-out-requires c κs = search needs
 
 loop-less : tie.Need-loop-less Inv-loop μ-loop
-loop-less c = search needs
+loop-less c = omega (arith, c .before .before .before .before .before .before .advance .ensures .1 (omega arith))
 
 loop-again : tie.Need-loop-again Inv-loop μ-loop
 loop-again c = search needs
@@ -60,8 +54,8 @@ run-spec =
     μ-loop
     loop-holds
     left-requires
-    flushed-requires
-    step-requires
+    advance-requires
+    write-out-requires
     loop-less
     loop-again
     same-length
