@@ -29,3 +29,30 @@ done-more v to h d = inl (⊎-elim (λ l. omega (arith, l, h)) (λ r. omega (ari
 
 pub done-full : {w₀ at₀ w at : ℕ} (out : ℕ) → at ≤ out → out - at < room → at₀ + room ≤ out → Done w₀ at₀ w at → w ≤ w₀ - 1
 done-full out a h g d = ⊎-elim (λ l. omega (arith, l)) (λ r. absurd (let z : ⊥ = omega (arith, r .0, a, h, g) in z)) d
+
+-- Small facts on numbers that the loops over a run cite.
+pub at-least : (n : ℕ) → 0 ≤ n
+at-least n = omega arith
+
+pub at-most : {a m n : ℕ} → m ≡ n → a ≤ n → a ≤ m
+at-most e h = rw e h
+
+pub falls : {v w l : ℕ} → v ≤ w - 1 → l ≤ w → 0 < l → v < w
+falls a b c = omega (arith, a, b, c)
+
+pub fits : {at n : ℕ} → at ≤ n → room ≤ n - at → at + room ≤ n
+fits a b = omega (arith, a, b)
+
+-- a node shown, and a line read: less work is left
+pub shown-less : (p len from : ℕ) → 0 < p → workLeft (p - 1) len from < workLeft p len from
+shown-less p len from h = omega (arith, h)
+
+pub shown-sound : (p lent : ℕ) → p * 8 ≤ lent → (p - 1) * 8 ≤ lent
+shown-sound p lent h = omega (arith, h)
+
+pub bytes-left : {p len from l : ℕ} → p ≤ 0 → l ≤ workLeft p len from → 0 < l → from < len
+bytes-left a b c = omega (arith, a, b, c)
+
+pub line-less : {s : Session} {len from next : ℕ} (p : ℕ) → Sound s → from < next → next ≤ len
+    → workLeft (s .pending) len next < workLeft p len from
+line-less p h a b = omega (arith, h .lent, h .pending, a, b)

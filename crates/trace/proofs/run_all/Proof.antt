@@ -1,9 +1,9 @@
 use Prim.Native.Nat.{_≤_}
-use mathlib.Core.Path.{_≡_}
+use mathlib.Core.Path.{_≡_, refl, _∙_}
 use lib.ListN.{length}
 use borrow.Author.Needs.{needs}
 use Rattle.lines.specs.Text.{room}
-use Rattle.session.specs.Steps.{Sound}
+use Rattle.session.specs.Steps.{Sound, at-most}
 use Rattle.trace.proofs.run_all.Statement.{statement}
 use Rattle.trace.proofs.run_all.Tie as tie
 use Rattle.trace.proofs.run_all.Reads as reads
@@ -25,7 +25,7 @@ start-requires : tie.Need-start-requires Inv-loop μ-loop
 start-requires c κs = search needs
 
 loop-holds : tie.Need-loop-holds Inv-loop μ-loop
-loop-holds c = search needs
+loop-holds c = (c .start .ensures .0, c .before .before .before .before .pre .1, c .before .before .before .before .pre .0, refl, refl, refl)
 
 read-requires : tie.Need-read-requires Inv-loop μ-loop
 read-requires c κs = search needs
@@ -40,16 +40,17 @@ slice-aggregate-run : tie.Need-slice-aggregate-run Inv-loop μ-loop
 slice-aggregate-run c = search needs
 
 run-requires : tie.Need-run-requires Inv-loop μ-loop
-run-requires c κs = search needs
+run-requires c κs = let i = c .before .before .before .before .before .before .before .before .before .before .loop .inv in (i .0, i .2, i .1)
 
 turns-left-requires : tie.Need-turns-left-requires Inv-loop μ-loop
-turns-left-requires c κs = search needs
+turns-left-requires c κs = c .before .before .before .before .before .before .before .before .before .before .before .before .before .before .loop-test .taken
 
 loop-less : tie.Need-loop-less Inv-loop μ-loop
-loop-less c = search needs
+loop-less c = c .turns-left .ensures
 
 loop-again : tie.Need-loop-again Inv-loop μ-loop
-loop-again c = search needs
+loop-again c = let i = c .before .before .before .before .before .before .before .before .before .before .before .before .before .before .before .before .loop .inv in
+    (c .before .before .before .before .before .run .ensures, at-most (c .before .before .out .given) (i .1), c .before .before .before .before .words .given ∙ i .2, c .before .before .before .before .words .given ∙ i .3, c .before .before .before .before .before .before .before .before .before .before .before .before .input .given ∙ i .4, c .before .before .out .given ∙ i .5)
 
 unfinished-requires : tie.Need-unfinished-requires Inv-loop μ-loop
 unfinished-requires c κs = search needs
@@ -58,7 +59,7 @@ slice-aggregate-run-2 : tie.Need-slice-aggregate-run-2 Inv-loop μ-loop
 slice-aggregate-run-2 c = search needs
 
 run-requires-2 : tie.Need-run-requires-2 Inv-loop μ-loop
-run-requires-2 c κs = search needs
+run-requires-2 c κs = let i = c .before .before .before .before .before .before .before .loop .inv in (i .0, i .2, i .1)
 
 same-length : tie.Need-same-length Inv-loop μ-loop
 same-length c = search needs
