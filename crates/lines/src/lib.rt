@@ -157,19 +157,6 @@ fn two_read(l: u8, f: Field, g: Field) -> Command
     }
 }
 
-// the command of a line that the input ends
-pub fn finish(r: Reading) -> Command
-    ensures { λ c. ⌜ c ≡ finished r ⌝ }
-{
-    match r {
-        Reading::Fresh => Command::Ill,
-        Reading::Letter(l) => with_none(l),
-        Reading::One(l, f) => one_read(l, f),
-        Reading::Two(l, f, g) => two_read(l, f, g),
-        Reading::Ill => Command::Ill,
-    }
-}
-
 // What the input gives up to its next newline or its end: a whole line's command, or the line so far; and the position after it.
 pub enum Piece {
     Whole(Command),
