@@ -1,9 +1,9 @@
 -- A number's base-ten digits as text, with no leading zero but that of 0.
 use Prim.Native.Nat.{ℕ, zero, suc, _+_, _*_, _/_, _%_, _^_, _<_, _≤_}
 use Prim.Native.Char.{code}
-use mathlib.Core.Path.{_≡_, refl}
+use mathlib.Core.Path.{_≡_, refl, _∙_}
 use mathlib.Core.Bool.{Bool, true, false, cond}
-use mathlib.Core.List.{List, [], _∷_, _++_}
+use mathlib.Core.List.{List, [], _∷_, _++_, append-assoc}
 use native.Mathlib.Nat.{pow-suc}
 use native.Mathlib.Omega.{arith}
 use lib.Dec.{ltb}
@@ -43,6 +43,32 @@ decimal-more n h = rw (le-ltb n 10 h, digits-most n (suc (n / 10)) (n / 10) (ome
 
 pub length-more : (n : ℕ) → 10 ≤ n → length (decimal n) ≡ length (decimal (n / 10)) + 1
 length-more n h = rw (decimal-more n h, length-append)
+
+-- the last two digits, and those of a hundredth before them
+abbrev pub two : ℕ → List ℕ
+two n = digit (n / 10) ∷ digit (n % 10) ∷ []
+
+pub decimal-two : (n : ℕ) → 10 ≤ n → n < 100 → decimal n ≡ two n
+decimal-two n h g = decimal-more n h ∙ rw (decimal-one (n / 10) (omega arith))
+
+pub decimal-hundred : (n : ℕ) → 100 ≤ n → decimal n ≡ decimal (n / 100) ++ two (n % 100)
+decimal-hundred n h =
+    let t : n / 10 / 10 ≡ n / 100 = omega arith in
+    let u : n / 10 % 10 ≡ n % 100 / 10 = omega arith in
+    let v : n % 10 ≡ n % 100 % 10 = omega arith in
+    decimal-more n (omega arith) ∙ rw (decimal-more (n / 10) (omega arith), t, u, v) (append-assoc (decimal (n / 100)) (digit (n % 100 / 10) ∷ []) (digit (n % 100 % 10) ∷ []))
+
+pub length-hundred : (n : ℕ) → 100 ≤ n → length (decimal n) ≡ length (decimal (n / 100)) + 2
+length-hundred n h = rw (decimal-hundred n h, length-append)
+
+-- the last four, after those of a ten-thousandth
+pub decimal-four : (n : ℕ) → 10000 ≤ n → decimal n ≡ (decimal (n / 10000) ++ two (n / 100 % 100)) ++ two (n % 100)
+decimal-four n h =
+    let t : n / 100 / 100 ≡ n / 10000 = omega arith in
+    rw (decimal-hundred n (omega arith), decimal-hundred (n / 100) (omega arith), t)
+
+pub length-four : (n : ℕ) → 10000 ≤ n → length (decimal n) ≡ length (decimal (n / 10000)) + 4
+length-four n h = rw (decimal-four n h) (simp length-append (omega arith))
 
 -- A number below 10 ^ k has at most k digits.
 digits-length : (most k n : ℕ) → n < 10 ^ suc k → length (digits most n) ≤ suc k

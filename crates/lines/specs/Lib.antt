@@ -1,5 +1,6 @@
 pub mod Ascii
 pub mod Commands
+pub mod Cut
 pub mod Decimal
 pub mod Examples
 pub mod Machine

@@ -8,13 +8,14 @@ ghost use mathlib.Core.List.{[], _∷_, _++_};
 ghost use Prim.Native.Nat.{_≤_, _<_, _+_};
 ghost use lib.ListN.{length};
 ghost use Rattle.spec.specs.Calls.{accepts, writerSays, readerSays};
-ghost use Rattle.lines.specs.declared.Reading.the-variants.{Fresh, One, Two};
+ghost use Rattle.lines.specs.declared.Reading.the-variants.{Fresh, Letter, One, Two, Ill};
 ghost use Rattle.lines.specs.Ascii.{tab, text};
 ghost use Rattle.lines.specs.Put.{Put};
 ghost use Rattle.lines.specs.Text.{letterOf, linkText, line, answerFields, says, lineOf, badLine, nodeShown, room};
-ghost use Rattle.lines.specs.Decimal.{decimal};
+ghost use Rattle.lines.specs.Decimal.{decimal, two};
 ghost use Rattle.lines.specs.Commands.{withNone, withOne, withTwo};
-ghost use Rattle.lines.specs.Machine.{withDigit, fieldTaken, tabTaken, byteTaken, taken, finished};
+ghost use Rattle.lines.specs.Machine.{withDigit, fieldTaken, finished};
+ghost use Rattle.lines.specs.Cut.{cutFrom, Onward, Ends};
 
 const TAB: u8 = b'\t';
 
@@ -82,46 +83,11 @@ fn field_taken(f: Field, b: u8) -> Field
     }
 }
 
-// a line after a tab, and after any other byte
-fn tab_taken(r: Reading) -> Reading
-    ensures { λ q. ⌜ q ≡ tabTaken r ⌝ }
-{
-    match r {
-        Reading::Fresh => Reading::Ill,
-        Reading::Letter(l) => Reading::One(l, Field::Empty),
-        Reading::One(l, f) => Reading::Two(l, f, Field::Empty),
-        Reading::Two(_, _, _) => Reading::Ill,
-        Reading::Ill => Reading::Ill,
-    }
-}
-
-fn byte_taken(r: Reading, b: u8) -> Reading
-    ensures { λ q. ⌜ q ≡ byteTaken r b ⌝ }
-{
-    match r {
-        Reading::Fresh => Reading::Letter(b),
-        Reading::Letter(_) => Reading::Ill,
-        Reading::One(l, f) => Reading::One(l, field_taken(f, b)),
-        Reading::Two(l, f, g) => Reading::Two(l, f, field_taken(g, b)),
-        Reading::Ill => Reading::Ill,
-    }
-}
-
-// A line is read from start by take, a byte at a time; finish gives its command. By theorem reads (specs, Machine) this is the command that
-// document 01 makes of the bytes taken.
+// A line that no byte has been read of.
 pub fn start() -> Reading
     ensures { λ r. ⌜ r ≡ Fresh ⌝ }
 {
     Reading::Fresh
-}
-
-pub fn take(r: Reading, b: u8) -> Reading
-    ensures { λ q. ⌜ q ≡ taken r b ⌝ }
-{
-    if b == TAB {
-        return tab_taken(r);
-    }
-    byte_taken(r, b)
 }
 
 fn with_none(l: u8) -> Command
@@ -191,15 +157,154 @@ fn two_read(l: u8, f: Field, g: Field) -> Command
     }
 }
 
-pub fn finish(r: Reading) -> Command
-    ensures { λ c. ⌜ c ≡ finished r ⌝ }
+// What the input gives up to its next newline or its end: a whole line's command, or the line so far; and the position after it.
+pub enum Piece {
+    Whole(Command),
+    Part(Reading),
+}
+
+pub struct Scanned {
+    pub piece: Piece,
+    pub next: usize,
+}
+
+// A field, and the position of the byte that ends it.
+struct Passed {
+    field: Field,
+    next: usize,
+}
+
+// a field's bytes, up to a tab, a newline or the input's end
+fn field_on(input: &[u8], from: usize, f: Field) -> Passed
+    requires { ⌜ from ≤ length (now input) ⌝ }
+    ensures { λ r. ⌜ Onward (now (input .entry)) f from (r .field) (r .next) ⌝ }
+    ensures { λ r. ⌜ Ends (now (input .entry)) (r .next) ⌝ }
 {
-    match r {
-        Reading::Fresh => Command::Ill,
-        Reading::Letter(l) => with_none(l),
-        Reading::One(l, f) => one_read(l, f),
-        Reading::Two(l, f, g) => two_read(l, f, g),
-        Reading::Ill => Command::Ill,
+    let mut field = f;
+    let mut i = from;
+    while i < input.len() {
+        let b = input[i];
+        if b == TAB {
+            return Passed { field, next: i };
+        }
+        if b == NEWLINE {
+            return Passed { field, next: i };
+        }
+        field = field_taken(field, b);
+        i += 1;
+    }
+    Passed { field, next: i }
+}
+
+// What the input gives after each reading.
+fn ill_on(input: &[u8], from: usize) -> Scanned
+    requires { ⌜ from ≤ length (now input) ⌝ }
+    ensures { λ r. ⌜ r ≡ cutFrom (now (input .entry)) from Ill ⌝ }
+{
+    let mut i = from;
+    while i < input.len() {
+        if input[i] == NEWLINE {
+            let piece = Piece::Whole(Command::Ill);
+            return Scanned { piece, next: i + 1 };
+        }
+        i += 1;
+    }
+    let piece = Piece::Part(Reading::Ill);
+    Scanned { piece, next: i }
+}
+
+fn two_on(input: &[u8], from: usize, l: u8, f: Field, g: Field) -> Scanned
+    requires { ⌜ from ≤ length (now input) ⌝ }
+    ensures { λ r. ⌜ r ≡ cutFrom (now (input .entry)) from (Two l f g) ⌝ }
+{
+    let passed = field_on(input, from, g);
+    let field = passed.field;
+    let i = passed.next;
+    if i == input.len() {
+        let piece = Piece::Part(Reading::Two(l, f, field));
+        return Scanned { piece, next: i };
+    }
+    if input[i] == NEWLINE {
+        let piece = Piece::Whole(two_read(l, f, field));
+        return Scanned { piece, next: i + 1 };
+    }
+    ill_on(input, i + 1)
+}
+
+fn one_on(input: &[u8], from: usize, l: u8, f: Field) -> Scanned
+    requires { ⌜ from ≤ length (now input) ⌝ }
+    ensures { λ r. ⌜ r ≡ cutFrom (now (input .entry)) from (One l f) ⌝ }
+{
+    let passed = field_on(input, from, f);
+    let field = passed.field;
+    let i = passed.next;
+    if i == input.len() {
+        let piece = Piece::Part(Reading::One(l, field));
+        return Scanned { piece, next: i };
+    }
+    if input[i] == NEWLINE {
+        let piece = Piece::Whole(one_read(l, field));
+        return Scanned { piece, next: i + 1 };
+    }
+    two_on(input, i + 1, l, field, Field::Empty)
+}
+
+fn letter_on(input: &[u8], from: usize, l: u8) -> Scanned
+    requires { ⌜ from ≤ length (now input) ⌝ }
+    ensures { λ r. ⌜ r ≡ cutFrom (now (input .entry)) from (Letter l) ⌝ }
+{
+    if from == input.len() {
+        let piece = Piece::Part(Reading::Letter(l));
+        return Scanned { piece, next: from };
+    }
+    let b = input[from];
+    if b == NEWLINE {
+        let piece = Piece::Whole(with_none(l));
+        return Scanned {
+            piece,
+            next: from + 1,
+        };
+    }
+    if b == TAB {
+        return one_on(input, from + 1, l, Field::Empty);
+    }
+    ill_on(input, from + 1)
+}
+
+fn fresh_on(input: &[u8], from: usize) -> Scanned
+    requires { ⌜ from ≤ length (now input) ⌝ }
+    ensures { λ r. ⌜ r ≡ cutFrom (now (input .entry)) from Fresh ⌝ }
+{
+    if from == input.len() {
+        let piece = Piece::Part(Reading::Fresh);
+        return Scanned { piece, next: from };
+    }
+    let b = input[from];
+    if b == NEWLINE {
+        let piece = Piece::Whole(Command::Ill);
+        return Scanned {
+            piece,
+            next: from + 1,
+        };
+    }
+    if b == TAB {
+        return ill_on(input, from + 1);
+    }
+    letter_on(input, from + 1, b)
+}
+
+// The line so far, read on. By theorem line-read (specs, Cut) a whole line gives the command that document 01 makes of its bytes,
+// however the input is parted.
+pub fn scan(input: &[u8], from: usize, reading: Reading) -> Scanned
+    requires { ⌜ from ≤ length (now input) ⌝ }
+    ensures { λ r. ⌜ r ≡ cutFrom (now (input .entry)) from reading ⌝ }
+{
+    match reading {
+        Reading::Fresh => fresh_on(input, from),
+        Reading::Letter(l) => letter_on(input, from, l),
+        Reading::One(l, f) => one_on(input, from, l, f),
+        Reading::Two(l, f, g) => two_on(input, from, l, f, g),
+        Reading::Ill => ill_on(input, from),
     }
 }
 
@@ -273,16 +378,47 @@ fn put_byte(out: &mut [u8], at: usize, b: u8) -> usize
     at + 1
 }
 
-// a number in base ten, its high digits first
-fn put_number(out: &mut [u8], at: usize, n: u64) -> usize
-    requires { ⌜ at + length (decimal n) ≤ length (now out) ⌝ }
+// two digits; a number of at most two, and of at most four
+fn put_two(out: &mut [u8], at: usize, n: u64) -> usize
+    requires { ⌜ (n < 100) × (at + 2 ≤ length (now out)) ⌝ }
+    ensures { λ r. ⌜ Put (now (out .entry)) at (two n) (now (out .exit)) r ⌝ }
+{
+    let next = put_byte(out, at, b'0' + (n / 10) as u8);
+    put_byte(out, next, b'0' + (n % 10) as u8)
+}
+
+fn put_low(out: &mut [u8], at: usize, n: u64) -> usize
+    requires { ⌜ (n < 100) × (at + length (decimal n) ≤ length (now out)) ⌝ }
     ensures { λ r. ⌜ Put (now (out .entry)) at (decimal n) (now (out .exit)) r ⌝ }
 {
     if n < 10 {
         return put_byte(out, at, b'0' + n as u8);
     }
-    let next = put_number(out, at, n / 10);
-    put_byte(out, next, b'0' + (n % 10) as u8)
+    put_two(out, at, n)
+}
+
+fn put_small(out: &mut [u8], at: usize, n: u64) -> usize
+    requires { ⌜ (n < 10000) × (at + length (decimal n) ≤ length (now out)) ⌝ }
+    ensures { λ r. ⌜ Put (now (out .entry)) at (decimal n) (now (out .exit)) r ⌝ }
+{
+    if n < 100 {
+        return put_low(out, at, n);
+    }
+    let next = put_low(out, at, n / 100);
+    put_two(out, next, n % 100)
+}
+
+// a number in base ten, its high digits first, four at a time
+fn put_number(out: &mut [u8], at: usize, n: u64) -> usize
+    requires { ⌜ at + length (decimal n) ≤ length (now out) ⌝ }
+    ensures { λ r. ⌜ Put (now (out .entry)) at (decimal n) (now (out .exit)) r ⌝ }
+{
+    if n < 10000 {
+        return put_small(out, at, n);
+    }
+    let high = put_number(out, at, n / 10000);
+    let next = put_two(out, high, n / 100 % 100);
+    put_two(out, next, n % 100)
 }
 
 fn put_text(out: &mut [u8], at: usize, s: &[u8]) -> usize

@@ -1,5 +1,6 @@
 // A run of the program trace: lines read from bytes, their commands run on the lent words, and the answers' lines written to a buffer.
 use lines::Command;
+use lines::Piece;
 use lines::Reading;
 use lines::Said;
 use types::Register;
@@ -7,105 +8,46 @@ ghost use mathlib.Core.Path.{_≡_};
 ghost use Prim.Native.Nat.{_≤_, _<_, _+_, _-_, _*_};
 ghost use lib.ListN.{length};
 ghost use Rattle.lines.specs.Text.{room};
-ghost use Rattle.session.specs.Steps.{Sound, workLeft};
+ghost use Rattle.session.specs.Steps.{Sound, workLeft, Onward};
 
 // room enough for any line
 pub const ROOM: usize = 96;
 
-const NEWLINE: u8 = b'\n';
-
-// A run of trace: the register, the words lent (0 before the first accepted P), the calls so far, the line so far, whether an ill-formed
-// line has ended it, and how many of the pool's nodes T has still to show.
+// What a run keeps beside the register: the words lent (0 before the first accepted P), the calls so far, the line so far, how many of the
+// pool's nodes T has still to show, and whether an ill-formed line has ended it.
 pub struct Session {
-    pub register: Register,
     pub lent: usize,
     pub number: u64,
     pub reading: Reading,
-    pub ended: bool,
     pub pending: usize,
+    pub ended: bool,
 }
 
-// A run after a line, with the position up to which the output is written; after a step also the position in the input.
-pub struct Answered {
-    pub session: Session,
-    pub at: usize,
-}
-
-pub struct Stepped {
+// A run, with its positions in the input and in the output.
+pub struct Run {
+    pub register: Register,
     pub session: Session,
     pub from: usize,
     pub at: usize,
 }
 
-pub fn start() -> Session
-    ensures { λ r. ⌜ Sound r ⌝ }
+pub fn start() -> Run
+    ensures { λ r. ⌜ Sound (r .session) × (r .from ≡ 0) × (r .at ≡ 0) ⌝ }
 {
     let register = fresh::fresh_register(0);
     let reading = lines::start();
-    Session {
-        register,
+    let session = Session {
         lent: 0,
         number: 0,
         reading,
-        ended: false,
         pending: 0,
-    }
-}
-
-// The line so far, the position after its last byte, and whether its newline was met.
-struct Scanned {
-    reading: Reading,
-    next: usize,
-    whole: bool,
-}
-
-// the line so far, read on to its newline or the input's end
-fn scan(input: &[u8], from: usize, reading: Reading) -> Scanned
-    requires { ⌜ from < length (now input) ⌝ }
-    ensures { λ r. ⌜ (from < r .next) × (r .next ≤ length (now (input .entry))) ⌝ }
-{
-    let mut so_far = reading;
-    let mut i = from;
-    while i < input.len() {
-        let b = input[i];
-        i += 1;
-        if b == NEWLINE {
-            return Scanned {
-                reading: so_far,
-                next: i,
-                whole: true,
-            };
-        }
-        so_far = lines::take(so_far, b);
-    }
-    Scanned {
-        reading: so_far,
-        next: i,
-        whole: false,
-    }
-}
-
-fn with_reading(s: Session, reading: Reading) -> Session
-    requires { ⌜ Sound s ⌝ }
-    ensures { λ r. ⌜ Sound r × (r .pending ≡ s .pending) ⌝ }
-{
-    let register = s.register;
-    Session {
+        ended: false,
+    };
+    Run {
         register,
-        lent: s.lent,
-        number: s.number,
-        reading,
-        ended: s.ended,
-        pending: s.pending,
-    }
-}
-
-// the number of the call after so many
-fn next_number(number: u64) -> u64 {
-    if number < u64::MAX {
-        number + 1
-    } else {
-        number
+        session,
+        from: 0,
+        at: 0,
     }
 }
 
@@ -121,148 +63,211 @@ fn to_show(c: Command, said: Said, lent: usize) -> usize
     0
 }
 
-// a well-formed line: its command is run and its answer written
-fn answer(words: &mut [u32], out: &mut [u8], at: usize, s: Session, c: Command) -> Answered
+// what a run keeps after a command's answer
+fn after(number: u64, lent: usize, c: Command, said: Said) -> Session
+    requires { ⌜ lent ≤ 8192 ⌝ }
+    ensures { λ r. ⌜ Sound r ⌝ }
+{
+    let reading = lines::start();
+    Session {
+        lent,
+        number,
+        reading,
+        pending: to_show(c, said, lent),
+        ended: false,
+    }
+}
+
+// the number of the call after so many
+fn next_number(number: u64) -> u64 {
+    if number < u64::MAX {
+        number + 1
+    } else {
+        number
+    }
+}
+
+// the line of the next node that T has to show
+fn show_node(words: &[u32], out: &mut [u8], at: usize, lent: usize, pending: usize) -> usize
+    requires { ⌜ (lent ≤ 8192) × (pending * 8 ≤ lent) × (0 < pending) ⌝ }
+    requires { ⌜ (length (now words) ≡ 8192) × (at + room ≤ length (now out)) ⌝ }
+    ensures { λ r. ⌜ r ≤ length (now (out .exit)) ⌝ }
+{
+    let node = lent / pool::NODE_WORDS - pending + 1;
+    lines::write_node(out, at, &words[..lent], node as u32)
+}
+
+// A run after some bytes, its positions, and the command of the line that they end, if it is well-formed.
+struct Read {
+    session: Session,
+    from: usize,
+    at: usize,
+    found: bool,
+    command: Command,
+}
+
+// a whole line; an ill-formed one ends the run, and the rest of the input is passed over
+fn whole_line(out: &mut [u8], at: usize, s: Session, c: Command, next: usize, end: usize) -> Read
+    requires { ⌜ Sound s × (next ≤ end) × (at + room ≤ length (now out)) ⌝ }
+    ensures { λ r. ⌜ Sound (r .session) × (r .session .pending ≡ s .pending) × (next ≤ r .from) × (r .from ≤ end) ⌝ }
+    ensures { λ r. ⌜ r .at ≤ length (now (out .exit)) ⌝ }
+{
+    let mut session = s;
+    if let Command::Ill = c {
+        session.ended = true;
+        let written = lines::write_bad(out, at, next_number(s.number));
+        return Read {
+            session,
+            from: end,
+            at: written,
+            found: false,
+            command: c,
+        };
+    }
+    Read {
+        session,
+        from: next,
+        at,
+        found: true,
+        command: c,
+    }
+}
+
+// a line that the input has not ended yet
+fn part_line(at: usize, s: Session, reading: Reading, end: usize) -> Read
+    requires { ⌜ Sound s ⌝ }
+    ensures { λ r. ⌜ Sound (r .session) × (r .session .pending ≡ s .pending) × (r .from ≡ end) × (r .at ≡ at) ⌝ }
+{
+    let session = Session {
+        lent: s.lent,
+        number: s.number,
+        reading,
+        pending: s.pending,
+        ended: s.ended,
+    };
+    Read {
+        session,
+        from: end,
+        at,
+        found: false,
+        command: Command::Ill,
+    }
+}
+
+// the input's next bytes, up to a newline
+fn read_line(out: &mut [u8], at: usize, s: Session, input: &[u8], from: usize) -> Read
+    requires { ⌜ Sound s × (at + room ≤ length (now out)) × (from < length (now input)) ⌝ }
+    ensures { λ r. ⌜ Sound (r .session) × (r .session .pending ≡ s .pending) × (from < r .from) × (r .from ≤ length (now (input .entry))) ⌝ }
+    ensures { λ r. ⌜ r .at ≤ length (now (out .exit)) ⌝ }
+{
+    let reading = s.reading;
+    let scanned = lines::scan(input, from, reading);
+    let piece = scanned.piece;
+    match piece {
+        Piece::Whole(c) => whole_line(out, at, s, c, scanned.next, input.len()),
+        Piece::Part(r) => part_line(at, s, r, scanned.next),
+    }
+}
+
+// A run after a call, and the position after its line.
+struct Answered {
+    register: Register,
+    session: Session,
+    at: usize,
+}
+
+fn answer(
+    words: &mut [u32],
+    out: &mut [u8],
+    at: usize,
+    s: Session,
+    register: Register,
+    c: Command,
+) -> Answered
     requires { ⌜ Sound s × (length (now words) ≡ 8192) × (at + room ≤ length (now out)) ⌝ }
     ensures { λ r. ⌜ Sound (r .session) × (r .at ≤ length (now (out .exit))) ⌝ }
 {
     let number = next_number(s.number);
-    let register = s.register;
     let p = commands::perform(words, s.lent, register, c);
     let said = p.said;
     let end = lines::write_line(out, at, number, lines::letter_of(c), said);
     let left = p.register;
-    let session = Session {
+    let session = after(number, p.lent, c, said);
+    Answered {
         register: left,
-        lent: p.lent,
-        number,
-        reading: lines::start(),
-        ended: false,
-        pending: to_show(c, said, p.lent),
-    };
-    Answered { session, at: end }
-}
-
-// an ill-formed line ends the run
-fn bad(out: &mut [u8], at: usize, s: Session) -> Answered
-    requires { ⌜ Sound s × (at + room ≤ length (now out)) ⌝ }
-    ensures { λ r. ⌜ Sound (r .session) × (r .at ≤ length (now (out .exit))) ⌝ }
-{
-    let end = lines::write_bad(out, at, next_number(s.number));
-    let mut session = s;
-    session.ended = true;
-    Answered { session, at: end }
-}
-
-// the line read so far, at its end
-fn end_line(words: &mut [u32], out: &mut [u8], at: usize, s: Session) -> Answered
-    requires { ⌜ Sound s × (length (now words) ≡ 8192) × (at + room ≤ length (now out)) ⌝ }
-    ensures { λ r. ⌜ Sound (r .session) × (r .at ≤ length (now (out .exit))) ⌝ }
-{
-    let reading = s.reading;
-    let c = lines::finish(reading);
-    if let Command::Ill = c {
-        return bad(out, at, s);
-    }
-    answer(words, out, at, s, c)
-}
-
-// the line of the next node that T has to show
-fn show_node(words: &[u32], out: &mut [u8], at: usize, s: Session) -> Answered
-    requires { ⌜ Sound s × (0 < s .pending) × (length (now words) ≡ 8192) × (at + room ≤ length (now out)) ⌝ }
-    ensures { λ r. ⌜ Sound (r .session) × (r .session .pending < s .pending) × (r .at ≤ length (now (out .exit))) ⌝ }
-{
-    let lent = s.lent;
-    let node = lent / pool::NODE_WORDS - s.pending + 1;
-    let end = lines::write_node(out, at, &words[..lent], node as u32);
-    let mut session = s;
-    session.pending = s.pending - 1;
-    Answered { session, at: end }
-}
-
-// the input's next bytes, up to a newline; at a newline the line is run
-fn take_line(
-    words: &mut [u32],
-    out: &mut [u8],
-    at: usize,
-    s: Session,
-    input: &[u8],
-    from: usize,
-) -> Stepped
-    requires { ⌜ Sound s × (length (now words) ≡ 8192) × (at + room ≤ length (now out)) × (from < length (now input)) ⌝ }
-    ensures { λ r. ⌜ Sound (r .session) × (r .at ≤ length (now (out .exit))) × (from < r .from) × (r .from ≤ length (now (input .entry))) ⌝ }
-{
-    let before = s.reading;
-    let scanned = scan(input, from, before);
-    let reading = scanned.reading;
-    let session = with_reading(s, reading);
-    if scanned.whole {
-        let answered = end_line(words, out, at, session);
-        let after = answered.session;
-        return Stepped {
-            session: after,
-            from: scanned.next,
-            at: answered.at,
-        };
-    }
-    Stepped {
         session,
-        from: scanned.next,
+        at: end,
+    }
+}
+
+// what is left to do on an input from a position on: nodes to show, or else bytes to read
+pub fn left(pending: usize, input: &[u8], from: usize) -> usize
+    requires { ⌜ from ≤ length (now input) ⌝ }
+    ensures { λ r. ⌜ r ≤ workLeft pending (length (now (input .entry))) from ⌝ }
+    ensures { λ r. ⌜ (r ≡ 0 → workLeft pending (length (now (input .entry))) from ≡ 0) ⌝ }
+{
+    if pending == 0 {
+        return input.len() - from;
+    }
+    pending
+}
+
+// a run on its input, as far as there is room for the output; with room for a line at first it gets on
+pub fn advance(words: &mut [u32], out: &mut [u8], r: Run, input: &[u8]) -> Run
+    requires { ⌜ Sound (r .session) × (length (now words) ≡ 8192) × (r .at ≤ length (now out)) × (r .from ≤ length (now input)) ⌝ }
+    ensures { λ q. ⌜ Sound (q .session) × (q .at ≤ length (now (out .exit))) × (q .from ≤ length (now (input .entry))) ⌝ }
+    ensures { λ q. ⌜ Onward (length (now (input .entry))) (length (now (out .entry))) r q ⌝ }
+{
+    let mut register = r.register;
+    let mut session = r.session;
+    let mut from = r.from;
+    let mut at = r.at;
+    while 0 < left(session.pending, input, from) {
+        if out.len() - at < ROOM {
+            return Run {
+                register,
+                session,
+                from,
+                at,
+            };
+        }
+        if 0 < session.pending {
+            at = show_node(words, out, at, session.lent, session.pending);
+            session.pending -= 1;
+            continue;
+        }
+        let read = read_line(out, at, session, input, from);
+        let before = read.session;
+        from = read.from;
+        if read.found {
+            let c = read.command;
+            let answered = answer(words, out, at, before, register, c);
+            let kept = answered.register;
+            register = kept;
+            let after = answered.session;
+            session = after;
+            at = answered.at;
+            continue;
+        }
+        session = before;
+        at = read.at;
+    }
+    Run {
+        register,
+        session,
+        from,
         at,
     }
 }
 
-// One step of a run that has not ended: a node that T has still to show, or else the input's bytes up to the next newline.
-pub fn step(
-    words: &mut [u32],
-    out: &mut [u8],
-    at: usize,
-    s: Session,
-    input: &[u8],
-    from: usize,
-) -> Stepped
-    requires { ⌜ Sound s × (length (now words) ≡ 8192) × (at + room ≤ length (now out)) × (from ≤ length (now input)) ⌝ }
-    requires { ⌜ 0 < workLeft s (length (now input)) from ⌝ }
-    ensures { λ r. ⌜ Sound (r .session) × (r .at ≤ length (now (out .exit))) × (r .from ≤ length (now (input .entry))) ⌝ }
-    ensures { λ r. ⌜ workLeft (r .session) (length (now (input .entry))) (r .from) < workLeft s (length (now (input .entry))) from ⌝ }
-{
-    if s.pending == 0 {
-        return take_line(words, out, at, s, input, from);
-    }
-    let answered = show_node(words, out, at, s);
-    let after = answered.session;
-    Stepped {
-        session: after,
-        from,
-        at: answered.at,
-    }
-}
-
-// what is left to do on an input from a position on: nodes to show, or else bytes to read; nothing once the run has ended
-pub fn left(s: Session, input: &[u8], from: usize) -> usize
-    requires { ⌜ from ≤ length (now input) ⌝ }
-    ensures { λ r. ⌜ r ≤ workLeft s (length (now (input .entry))) from ⌝ }
-{
+// whether a line has begun that the input does not end
+pub fn unfinished(s: Session) -> bool {
     if s.ended {
-        return 0;
-    }
-    if s.pending == 0 {
-        return input.len() - from;
-    }
-    s.pending
-}
-
-// the input's end: a last line without a newline is run
-pub fn finish(words: &mut [u32], out: &mut [u8], at: usize, s: Session) -> Answered
-    requires { ⌜ Sound s × (length (now words) ≡ 8192) × (at + room ≤ length (now out)) ⌝ }
-    ensures { λ r. ⌜ Sound (r .session) × (r .at ≤ length (now (out .exit))) ⌝ }
-{
-    if s.ended {
-        return Answered { session: s, at };
+        return false;
     }
     let reading = s.reading;
     if let Reading::Fresh = reading {
-        return Answered { session: s, at };
+        return false;
     }
-    end_line(words, out, at, s)
+    true
 }

@@ -1,10 +1,8 @@
 // Runs the commands of standard input on the ticket index and prints a line a call.
 use libc::STDIN_FILENO;
 use libc::STDOUT_FILENO;
-use session::Answered;
-use session::Session;
-use session::Stepped;
-ghost use Prim.Native.Nat.{_≤_, _<_, _+_};
+use session::Run;
+ghost use Prim.Native.Nat.{_≤_, _<_};
 ghost use mathlib.Core.Path.{_≡_};
 ghost use lib.ListN.{length};
 ghost use Rattle.session.specs.Steps.{Sound};
@@ -17,101 +15,48 @@ fn write_out(out: &[u8], at: usize)
     io::write_all(STDOUT_FILENO, &out[..at]);
 }
 
-// room for a line is made by writing the output out
-fn flushed(out: &[u8], at: usize) -> usize
-    requires { ⌜ (at ≤ length (now out)) × (room ≤ length (now out)) ⌝ }
-    ensures { λ r. ⌜ r + room ≤ length (now (out .entry)) ⌝ }
+// all of an input, its output written out
+fn run(words: &mut [u32], out: &mut [u8], r: Run, input: &[u8]) -> Run
+    requires { ⌜ Sound (r .session) × (length (now words) ≡ 8192) × (room ≤ length (now out)) ⌝ }
+    ensures { λ q. ⌜ Sound (q .session) ⌝ }
 {
-    if session::ROOM <= out.len() - at {
-        return at;
+    let mut run = r;
+    run.from = 0;
+    while 0 < session::left(run.session.pending, input, run.from) {
+        run.at = 0;
+        run = session::advance(words, out, run, input);
+        write_out(out, run.at);
     }
-    write_out(out, at);
-    0
-}
-
-// all of the bytes that a read gave
-fn run(words: &mut [u32], out: &mut [u8], at: usize, s: Session, input: &[u8]) -> Answered
-    requires { ⌜ Sound s × (length (now words) ≡ 8192) × (at ≤ length (now out)) × (room ≤ length (now out)) ⌝ }
-    ensures { λ r. ⌜ Sound (r .session) × (r .at ≤ length (now (out .exit))) ⌝ }
-{
-    let mut session = s;
-    let mut end = at;
-    let mut from: usize = 0;
-    while 0 < session::left(session, input, from) {
-        let begin = flushed(out, end);
-        let stepped = session::step(words, out, begin, session, input, from);
-        let after = stepped.session;
-        session = after;
-        end = stepped.at;
-        from = stepped.from;
-    }
-    Answered { session, at: end }
-}
-
-// a last line without a newline is run, and all output written out
-fn end_input(words: &mut [u32], out: &mut [u8], at: usize, s: Session)
-    requires { ⌜ Sound s × (length (now words) ≡ 8192) × (at ≤ length (now out)) × (room ≤ length (now out)) ⌝ }
-{
-    let begin = flushed(out, at);
-    let answered = session::finish(words, out, begin, s);
-    let session = answered.session;
-    let last = run(words, out, answered.at, session, b"");
-    write_out(out, last.at);
-}
-
-// The run after a read, and whether to read on.
-struct Progress {
-    session: Session,
-    at: usize,
-    more: bool,
-}
-
-// one read, and all that it gives
-fn read_some(words: &mut [u32], input: &mut [u8], out: &mut [u8], at: usize, s: Session) -> Progress
-    requires { ⌜ Sound s × (length (now words) ≡ 8192) × (at ≤ length (now out)) × (room ≤ length (now out)) ⌝ }
-    ensures { λ r. ⌜ Sound (r .session) × (r .at ≤ length (now (out .exit))) ⌝ }
-{
-    let got = libc::read(STDIN_FILENO, input);
-    let n = io::count(got, input);
-    if n == 0 {
-        return Progress {
-            session: s,
-            at,
-            more: false,
-        };
-    }
-    let answered = run(words, out, at, s, &input[..n]);
-    let session = answered.session;
-    Progress {
-        session,
-        at: answered.at,
-        more: !session.ended,
-    }
+    run
 }
 
 // A proved loop has to end, and nothing says that an input does: the turns left are counted down from a number that no run uses up.
-fn turns_left(turns: u64, more: bool) -> u64
+fn turns_left(turns: u64, read: usize, ended: bool) -> u64
     requires { ⌜ 0 < turns ⌝ }
     ensures { λ r. ⌜ r < turns ⌝ }
 {
-    if more { turns - 1 } else { 0 }
+    if ended {
+        return 0;
+    }
+    if read == 0 { 0 } else { turns - 1 }
 }
 
-// standard input to its end, or to an ill-formed line
+// standard input to its end, or to an ill-formed line; the output of each read is written before the next
 fn run_all(words: &mut [u32], input: &mut [u8], out: &mut [u8])
     requires { ⌜ (length (now words) ≡ 8192) × (room ≤ length (now out)) ⌝ }
 {
-    let mut session = session::start();
-    let mut at: usize = 0;
+    let mut r = session::start();
     let mut turns = u64::MAX;
     while 0 < turns {
-        let progress = read_some(words, input, out, at, session);
-        let after = progress.session;
-        session = after;
-        at = progress.at;
-        turns = turns_left(turns, progress.more);
+        let got = libc::read(STDIN_FILENO, input);
+        let n = io::count(got, input);
+        r = run(words, out, r, &input[..n]);
+        turns = turns_left(turns, n, r.session.ended);
     }
-    end_input(words, out, at, session);
+    let s = r.session;
+    if session::unfinished(s) {
+        run(words, out, r, b"\n");
+    }
 }
 
 fn main() {

@@ -1,12 +1,9 @@
 // Runs stored inputs of trace and compares what comes out with the stored outputs. The arguments are pairs of files: an input, its output.
 use libc::STDOUT_FILENO;
-use session::Answered;
-use session::Session;
 ghost use Prim.Native.Nat.{_≤_, _<_};
 ghost use mathlib.Core.Path.{_≡_};
 ghost use lib.ListN.{length};
 ghost use Rattle.io.specs.Counts.{Counts};
-ghost use Rattle.session.specs.Steps.{Sound};
 
 const NEWLINE: u8 = b'\n';
 
@@ -25,49 +22,20 @@ fn load(argument: usize, buf: &mut [u8]) -> usize
     count
 }
 
-// a whole input, as far as there is room for its output
-fn run(words: &mut [u32], out: &mut [u8], at: usize, s: Session, input: &[u8]) -> Answered
-    requires { ⌜ Sound s × (length (now words) ≡ 8192) × (at ≤ length (now out)) ⌝ }
-    ensures { λ r. ⌜ Sound (r .session) × (r .at ≤ length (now (out .exit))) ⌝ }
-{
-    let mut session = s;
-    let mut end = at;
-    let mut from: usize = 0;
-    while 0 < session::left(session, input, from) {
-        if out.len() - end < session::ROOM {
-            return Answered { session, at: end };
-        }
-        let stepped = session::step(words, out, end, session, input, from);
-        let after = stepped.session;
-        session = after;
-        end = stepped.at;
-        from = stepped.from;
-    }
-    Answered { session, at: end }
-}
-
-// a last line without a newline is run too
-fn end_input(words: &mut [u32], out: &mut [u8], at: usize, s: Session) -> usize
-    requires { ⌜ Sound s × (length (now words) ≡ 8192) × (at ≤ length (now out)) ⌝ }
-    ensures { λ r. ⌜ r ≤ length (now (out .exit)) ⌝ }
-{
-    if out.len() - at < session::ROOM {
-        return at;
-    }
-    let answered = session::finish(words, out, at, s);
-    let session = answered.session;
-    let last = run(words, out, answered.at, session, b"");
-    last.at
-}
-
-// the output of a stored input
+// the output of a stored input, as far as there is room for it; a last line without a newline is run too
 fn output(words: &mut [u32], out: &mut [u8], input: &[u8]) -> usize
     requires { ⌜ length (now words) ≡ 8192 ⌝ }
     ensures { λ r. ⌜ r ≤ length (now (out .exit)) ⌝ }
 {
-    let answered = run(words, out, 0, session::start(), input);
-    let session = answered.session;
-    end_input(words, out, answered.at, session)
+    let r = session::advance(words, out, session::start(), input);
+    let s = r.session;
+    if session::unfinished(s) {
+        let mut last = r;
+        last.from = 0;
+        let q = session::advance(words, out, last, b"\n");
+        return q.at;
+    }
+    r.at
 }
 
 // the number of the line after a byte

@@ -1,6 +1,6 @@
 use mathlib.Core.Path.{sym}
-use lib.Seq.{length-take-le}
 use native.Mathlib.Omega.{arith}
+use lib.Seq.{length-take-le}
 use borrow.Author.Needs.{needs}
 use Rattle.session.proofs.show_node.Statement.{statement}
 use Rattle.session.proofs.show_node.Tie as tie
@@ -15,18 +15,13 @@ add-node : tie.Need-add-node
 add-node c = search needs
 
 slice-aggregate-write-node : tie.Need-slice-aggregate-write-node
-slice-aggregate-write-node c =
-    let a = c .before .before .before .before .before in
-    sym (length-take-le (a .args .s .lent) (a .args .words .now) (omega (arith, a .pre)))
+slice-aggregate-write-node c = let a = c .before .before .before .before .args in sym (length-take-le (a .lent) (a .words .now) (omega (arith, c .before .before .before .before .pre)))
 
 cast-write-node : tie.Need-cast-write-node
 cast-write-node c = search needs
 
 write-node-requires : tie.Need-write-node-requires
 write-node-requires c κs = search needs
-
-sub-session : tie.Need-sub-session
-sub-session c = search needs
 
 same-length : tie.Need-same-length
 same-length c = search needs
@@ -43,6 +38,5 @@ show-node-spec =
     slice-aggregate-write-node
     cast-write-node
     write-node-requires
-    sub-session
     same-length
     returns)

@@ -1,56 +1,50 @@
 use Prim.Native.Nat.{_≤_}
-use mathlib.Core.Path.{_≡_}
+use mathlib.Core.Path.{_≡_, refl, _∙_}
 use lib.ListN.{length}
 use borrow.Author.Needs.{needs}
 use Rattle.lines.specs.Text.{room}
-use Rattle.session.specs.Steps.{Sound, workLeft}
+use Rattle.session.specs.Steps.{Sound, workLeft, at-least, at-most, falls}
 use Rattle.trace.proofs.run.Statement.{statement}
 use Rattle.trace.proofs.run.Tie as tie
 use Rattle.trace.proofs.run.Reads as reads
 use Rattle.trace.proofs.run.Lts as lts
+use Rattle.session.proofs.advance.Reads as advance-reads
 use Rattle.session.proofs.left.Reads as left-reads
-use Rattle.session.proofs.step.Reads as step-reads
-use Rattle.trace.proofs.flushed.Reads as flushed-reads
+use Rattle.trace.proofs.write_out.Reads as write-out-reads
 
 abbrev Inv-loop : tie.InvT-loop
-Inv-loop words₀ out₀ at input session₀ end₀ from₀ words out session end from =
-    Sound session
-    × (end ≤ length out)
-    × (from ≤ length input)
-    × (room ≤ length out)
-    × (length words ≡ 8192)
-    × (length words ≡ length words₀)
-    × (length out ≡ length out₀)
+Inv-loop words₀ out₀ input run₀ words out run = Sound (run .session) × (run .from ≤ length input) × (room ≤ length out) × (length words ≡ 8192) × (length words ≡ length words₀) × (length out ≡ length out₀)
 
 abbrev μ-loop : tie.MeasureT-loop
-μ-loop words₀ out₀ at input session₀ end₀ from₀ words out session end from = workLeft session (length input) from
+μ-loop words₀ out₀ input run₀ words out run = workLeft (run .session .pending) (length input) (run .from)
 
 loop-holds : tie.Need-loop-holds Inv-loop μ-loop
-loop-holds c = search needs
+loop-holds c = let p = c .before .before .before .pre in (p .0, at-least _, p .2, p .1, refl, refl)
 
 left-requires : tie.Need-left-requires Inv-loop μ-loop
-left-requires c κs = search needs
+left-requires c κs = c .loop .inv .1
 
-flushed-requires : tie.Need-flushed-requires Inv-loop μ-loop
-flushed-requires c κs = search needs
+advance-requires : tie.Need-advance-requires Inv-loop μ-loop
+advance-requires c κs = let i = c .before .before .before .before .loop .inv in (i .0, i .3, at-least _, i .1)
 
-step-requires : tie.Need-step-requires Inv-loop μ-loop
-step-requires c κs = search needs
+write-out-requires : tie.Need-write-out-requires Inv-loop μ-loop
+write-out-requires c κs = c .before .before .before .before .before .advance .ensures .0 .1
 
 loop-less : tie.Need-loop-less Inv-loop μ-loop
-loop-less c = search needs
+loop-less c = let a = c .before .before .before .before .before .before .advance in falls (a .ensures .1 (c .before .before .before .before .before .before .before .before .before .before .before .loop .inv .2)) (c .before .before .before .before .before .before .before .before .before .before .left .ensures .0) (c .before .before .before .before .before .before .before .before .before .if1 .taken)
 
 loop-again : tie.Need-loop-again Inv-loop μ-loop
-loop-again c = search needs
+loop-again c = let a = c .before .before .before .before .before .before .advance .ensures .0 in let i = c .before .before .before .before .before .before .before .before .before .before .before .loop .inv in
+    (a .0, a .2, at-most (c .before .before .before .out .given) (i .2), c .before .before .before .before .before .words .given ∙ i .3, c .before .before .before .before .before .words .given ∙ i .4, c .before .before .before .out .given ∙ i .5)
 
 same-length : tie.Need-same-length Inv-loop μ-loop
-same-length c = search needs
+same-length c = c .before .before .loop .inv .4
 
 same-length-2 : tie.Need-same-length-2 Inv-loop μ-loop
-same-length-2 c = search needs
+same-length-2 c = c .before .before .loop .inv .5
 
 returns : tie.Need-returns Inv-loop μ-loop
-returns c = search needs
+returns c = c .before .before .loop .inv .0
 
 pub run-spec : {M : Type 1} → statement M
 run-spec =
@@ -60,8 +54,8 @@ run-spec =
     μ-loop
     loop-holds
     left-requires
-    flushed-requires
-    step-requires
+    advance-requires
+    write-out-requires
     loop-less
     loop-again
     same-length

@@ -1,0 +1,60 @@
+use Prim.Native.Nat.{_≤_, _-_}
+use mathlib.Core.Path.{_≡_, refl, sym, _∙_}
+use lib.ListN.{length}
+use native.Mathlib.Omega.{arith}
+use borrow.Author.Needs.{needs}
+use Rattle.lines.specs.Cut.{Onward, Ends, onward-none, onward-byte}
+use Rattle.lines.proofs.field_on.Statement.{statement}
+use Rattle.lines.proofs.field_on.Tie as tie
+use Rattle.lines.proofs.field_on.Reads as reads
+use Rattle.lines.proofs.field_on.Lts as lts
+use Rattle.lines.proofs.field_taken.Reads as field-taken-reads
+
+abbrev Inv-loop : tie.InvT-loop
+Inv-loop input from field₀ i₀ field i = (i ≤ length input) × Onward input field₀ from field i
+
+abbrev μ-loop : tie.MeasureT-loop
+μ-loop input from field₀ i₀ field i = length input - i
+
+loop-holds : tie.Need-loop-holds Inv-loop μ-loop
+loop-holds c = (search needs, onward-none (c .before .args .input .now) (c .before .args .f) (c .before .args .from))
+
+shared-slice-read-b : tie.Need-shared-slice-read-b Inv-loop μ-loop
+shared-slice-read-b c = search needs
+
+returns : tie.Need-returns Inv-loop μ-loop
+returns c = (c .before .before .before .loop .inv .1, record { within = c .before .before .before .loop .inv .0; tabbed = λ a b. c .if1 .taken })
+
+returns-2 : tie.Need-returns-2 Inv-loop μ-loop
+returns-2 c = (c .before .before .before .before .loop .inv .1, record { within = c .before .before .before .before .loop .inv .0; tabbed = λ a b. absurd (b (c .if2 .taken)) })
+
+field-taken-requires : tie.Need-field-taken-requires Inv-loop μ-loop
+field-taken-requires c κs = search needs
+
+add-i : tie.Need-add-i Inv-loop μ-loop
+add-i c = search needs
+
+loop-less : tie.Need-loop-less Inv-loop μ-loop
+loop-less c = search needs
+
+loop-again : tie.Need-loop-again Inv-loop μ-loop
+loop-again c = (search needs, rw (c .field-taken .ensures) (onward-byte (c .before .before .before .before .before .before .before .args .input .now) (c .before .before .before .before .before .before .before .args .f) (c .before .before .before .before .before .before .before .args .from) (c .before .before .before .before .before .loop .field) (c .before .before .before .before .before .loop .i) (c .before .before .before .before .loop-test .taken) (c .before .if2 .left) (c .before .before .if1 .left) (c .before .before .before .before .before .loop .inv .1)))
+
+returns-3 : tie.Need-returns-3 Inv-loop μ-loop
+returns-3 c = (c .before .loop .inv .1, record { within = c .before .loop .inv .0; tabbed = λ a b. absurd (let z : ⊥ = omega (arith, a, c .loop-test .left) in z) })
+
+pub field-on-spec : {M : Type 1} → statement M
+field-on-spec =
+    tie.close
+    (tie.spec
+    Inv-loop
+    μ-loop
+    loop-holds
+    shared-slice-read-b
+    returns
+    returns-2
+    field-taken-requires
+    add-i
+    loop-less
+    loop-again
+    returns-3)
