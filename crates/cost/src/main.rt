@@ -1,16 +1,32 @@
-// Repeats one kind of call on an index that holds N / 2 − 1 keys, so that the instructions of a call can be counted.
-// Arguments: the call's letter, the pool's size (s, m, l: N 8, 128, 1,023), and how often (0: not at all, 1: 1,000 times).
-// Letters: P set up, I insert, D delete, B begin, G a reader's turn that answers go, F one that answers found, E give up,
-// C an insert and a delete of the same key with all their turns. All but P and C leave the index as it was.
+// Repeats one call, and puts the pool back before each, so that the instructions of a call can be counted.
+// Arguments: CALL SIZE MODE SLOT. Instructions of a call: those of a run in mode 1 less those in mode 0, by 1,000.
+// CALL: P set up, I insert, D delete, B begin, G F A a reader's turn that answers go, found, absent, E give up,
+// W a writer's turn that answers wait. A small letter is a writer's turn, by its store: i insert under a black parent, j with colours above
+// alone, k with a rotation to come; d e diag lower, raise; x y z zig lower A, lower C, raise; u unlink, a adopt, r replace, p publish, t detach.
+// SIZE: s m l: N 8, 128, 1,023, with about N / 2 − 1 keys; v: N 128, a damaged tree with a path of 64 nodes.
+// MODE: 1,000 times, 0: the pool is put back, 1: and the call is made. SLOT: 1: slot 1 reads, so that a node let go is retired; 0: no slot.
+// Writes a sum of what the register has after the calls (in mode 0, before them), or 0 where no write came to the wanted turn.
 use libc::STDOUT_FILENO;
+use types::Link;
 use types::Register;
-use types::WriterAnswer;
+use types::Step;
+use types::Store;
+ghost use mathlib.Core.Path.{_≡_};
 ghost use Prim.Native.Nat.{ℕ, _<_, _≤_};
 ghost use lib.ListN.{length};
 
 const MOST_WORDS: usize = 8184;
 
-const TURNS: u32 = 7;
+// the most calls on the way to the wanted turn
+const MOST_STEPS: u32 = 10000;
+
+const REPEATS: u32 = 1000;
+
+// the damaged tree's nodes, and its keys
+const DEEP: u32 = 64;
+
+// no call, or no write in hand
+const NONE: u8 = b'-';
 
 fn argument(i: usize) -> u8 {
     let mut one = [0u8; 1];
@@ -24,166 +40,357 @@ fn size_of(letter: u8) -> usize
     if letter == b'l' {
         return 1023;
     }
-    if letter == b'm' {
-        return 128;
+    if letter == b's' {
+        return 8;
     }
-    8
+    128
 }
 
-// how many turns are made after the i-th: no more come after done, wait or a refusal
-fn turns_after(i: u32, a: WriterAnswer) -> u32
-    requires { ⌜ i < 7 ⌝ }
-    ensures { λ r. ⌜ (i < r) × (r ≤ 7) ⌝ }
+fn keys_of(letter: u8) -> u32
+    ensures { λ r. ⌜ (2 ≤ r) × (r ≤ 510) ⌝ }
 {
-    match a {
-        WriterAnswer::More(_, _) => i + 1,
-        WriterAnswer::Done(_, _) => TURNS,
-        WriterAnswer::Wait => TURNS,
-        WriterAnswer::Refused(_) => TURNS,
+    if letter == b'l' {
+        return 510;
+    }
+    if letter == b's' {
+        return 3;
+    }
+    if letter == b'v' { DEEP } else { 63 }
+}
+
+fn letter_of(step: Step) -> u8 {
+    match step {
+        Step::Vacant => NONE,
+        Step::Insert(_, _) => b'i',
+        Step::DiagLower(_, _) => b'd',
+        Step::DiagRaise(_, _) => b'e',
+        Step::ZigLowerA(_, _) => b'x',
+        Step::ZigLowerC(_, _) => b'y',
+        Step::ZigRaise(_, _) => b'z',
+        Step::Unlink => b'u',
+        Step::Adopt => b'a',
+        Step::Replace => b'r',
+        Step::Publish(_) => b'p',
+        Step::Detach(_) => b't',
     }
 }
 
-// the writer's turns of the write in hand
-fn finish(pool: &mut [u32], reg: Register) -> Register {
-    let mut r = reg;
-    let mut i: u32 = 0;
-    while i < TURNS {
-        let reply = index::writer_turn(pool, r);
-        let answer = reply.answer;
-        i = turns_after(i, answer);
-        r = reply.register;
+fn owner_of(link: Link) -> u32 {
+    match link {
+        Link::Root => 0,
+        Link::Left(n) => n,
+        Link::Right(n) => n,
     }
-    r
 }
 
-fn insert(pool: &mut [u32], reg: Register, k: u32) -> Register {
-    let reply = index::insert(pool, reg, k, k);
-    let r = reply.register;
-    finish(pool, r)
-}
-
-fn delete(pool: &mut [u32], reg: Register, k: u32) -> Register {
-    let reply = index::delete(pool, reg, k);
-    let r = reply.register;
-    finish(pool, r)
-}
-
-// keys 2, 4, 6 and so on, n of them
-fn fill(pool: &mut [u32], reg: Register, n: u32) -> Register {
-    let mut r = reg;
-    let mut i: u32 = 0;
-    while i < n {
-        i += 1;
-        r = insert(pool, r, i % 1024 * 2);
+// the letter of the turn that makes the first of c stores
+fn turn_of(pool: &[u32], store: Store, c: u32) -> u8 {
+    let step = store.step;
+    let letter = letter_of(step);
+    if letter != b'i' {
+        return letter;
     }
-    r
+    let link = store.link;
+    if pool::word(pool, owner_of(link), pool::COLOUR) == pool::BLACK {
+        return b'i';
+    }
+    if c == 1 { b'j' } else { b'k' }
 }
 
-// keys held for a delete, and keys not held for the others
-fn key_of(i: u32, kind: u8) -> u32 {
-    if kind == b'D' {
-        return i % 3 * 2 + 2;
-    }
-    i % 4 * 2 + 1
+// whether a call is an insert or its turn
+fn grows(call: u8) -> bool {
+    (call == b'I') | (call == b'i') | (call == b'j') | (call == b'k')
 }
 
-// one call, with the register that it answers
-fn once(pool: &mut [u32], reg: Register, kind: u8, k: u32) -> Register {
-    if kind == b'P' {
-        let reply = index::set_up(pool, reg);
-        return reply.register;
+// in the damaged tree: a new key, the key above the lowest node, the root's, the lowest
+fn deep_key(call: u8) -> u32 {
+    if grows(call) {
+        return 3;
     }
-    if kind == b'I' {
+    if (call == b'a') | (call == b'r') {
+        return 74;
+    }
+    if (call == b'p') | (call == b't') | (call == b'W') {
+        return 2;
+    }
+    72
+}
+
+// the i-th call's key: an even one is held
+fn call_key(call: u8, keys: u32, i: u32) -> u32
+    requires { ⌜ 1 ≤ keys ⌝ }
+{
+    if keys == DEEP {
+        return deep_key(call);
+    }
+    if call == b'D' {
+        return i % keys % 1024 * 2 + 2;
+    }
+    i % keys % 1024 * 2 + 1
+}
+
+// the turn before which the repeats begin: none for a capital letter
+fn wanted(call: u8) -> u8 {
+    if call == b'W' {
+        return b'p';
+    }
+    if call < b'a' { NONE } else { call }
+}
+
+// The key of a call on the way. A begin's: the root's, or for absent one that is not held; a write's: the even ones for a capital letter, else any.
+fn way_key(pool: &[u32], act: u8, root: u32, call: u8, keys: u32, held: u32, seed: u32) -> u32
+    requires { ⌜ (1 ≤ keys) × (keys ≤ 510) ⌝ }
+{
+    if act == b'B' {
+        return if call == b'A' {
+            1
+        } else {
+            pool::word(pool, root, pool::KEY)
+        };
+    }
+    if keys == DEEP {
+        return deep_key(call);
+    }
+    if wanted(call) == NONE {
+        return held % 1024 * 37 % keys % 1024 * 2 + 2;
+    }
+    seed / 16 % (2 * keys) % 1024 + 1
+}
+
+// a write on the way
+fn way_write(call: u8, keys: u32, held: u32, seed: u32) -> u8
+    requires { ⌜ 2 ≤ keys ⌝ }
+{
+    if keys == DEEP {
+        return if grows(call) { b'I' } else { b'D' };
+    }
+    if (wanted(call) == NONE) | (held < keys - 2) {
+        return b'I';
+    }
+    if (held > keys) | (seed / 65536 % 2 == 0) {
+        b'D'
+    } else {
+        b'I'
+    }
+}
+
+// while slot 1 reads: to the root for found, to the last node on the left for absent, and the turn that has to wait
+fn while_reading(pool: &[u32], call: u8, node: u32, awaited: u32) -> u8 {
+    if (call == b'W') & (awaited == 0) {
+        return b'w';
+    }
+    if (call == b'F') & (node == 0) {
+        return b'G';
+    }
+    if call != b'A' {
+        return NONE;
+    }
+    if (node == 0) | (pool::word(pool, node, pool::LEFT) != 0) {
+        b'G'
+    } else {
+        NONE
+    }
+}
+
+// one call, with the register that it answers; a letter of no call is a writer's turn, and NONE is nothing
+fn once(pool: &mut [u32], reg: Register, call: u8, k: u32) -> Register {
+    if call == NONE {
+        return reg;
+    }
+    if call == b'I' {
         let reply = index::insert(pool, reg, k, k);
         return reply.register;
     }
-    if kind == b'D' {
+    if call == b'D' {
         let reply = index::delete(pool, reg, k);
         return reply.register;
     }
-    if kind == b'B' {
+    if call == b'P' {
+        let reply = index::set_up(pool, reg);
+        return reply.register;
+    }
+    if call == b'B' {
         let reply = index::begin(pool, reg, 1, k);
         return reply.register;
     }
-    if kind == b'E' {
-        let reply = index::give_up(pool, reg, 0);
+    if call == b'E' {
+        let reply = index::give_up(pool, reg, 1);
         return reply.register;
     }
-    if kind == b'C' {
-        let r = insert(pool, reg, k);
-        return delete(pool, r, k);
+    if (call == b'G') | (call == b'F') | (call == b'A') {
+        let reply = index::reader_turn(pool, reg, 1);
+        return reply.register;
     }
-    let reply = index::reader_turn(pool, reg, 0);
+    let reply = index::writer_turn(pool, reg);
     reply.register
 }
 
-// slot 0 reads, for the calls of a reader; for F it is at the root, whose key it wants
-fn reading(pool: &mut [u32], reg: Register, kind: u8) -> Register {
-    if (kind == b'G') | (kind == b'F') | (kind == b'E') {
-        let key = pool::word(pool, reg.root, pool::KEY);
-        let begun = index::begin(pool, reg, 0, key);
-        return begun.register;
+// the next call on the way: set up, writes and their turns to the wanted one with about as many keys as wanted, then a begin
+fn way_call(pool: &[u32], reg: Register, call: u8, keys: u32, slot: bool, seed: u32) -> u8
+    requires { ⌜ 2 ≤ keys ⌝ }
+{
+    let reader = reg.readers[1];
+    if reader.reading {
+        return while_reading(pool, call, reader.node, reg.awaited);
     }
-    reg
+    if reg.last == 0 {
+        return b'P';
+    }
+    let hand = reg.write;
+    let store = hand.stores[0];
+    let next = turn_of(pool, store, hand.count);
+    if (next == wanted(call)) & ((reg.held == keys) | (next != NONE) & (reg.held >= keys - 2)) {
+        let reads = (call == b'G')
+            | (call == b'F')
+            | (call == b'A')
+            | (call == b'E')
+            | (call == b'W');
+        return if reads | slot { b'B' } else { NONE };
+    }
+    if hand.count != 0 {
+        return b'w';
+    }
+    way_write(call, keys, reg.held, seed)
 }
 
-fn at_root(pool: &mut [u32], reg: Register, kind: u8) -> Register {
-    if kind == b'F' {
-        let reply = index::reader_turn(pool, reg, 0);
-        return reply.register;
-    }
-    reg
-}
-
-// the calls begin from the same register, but for C
-fn kept(kind: u8, reg: Register, next: Register) -> Register {
-    if kind == b'C' {
-        return next;
-    }
-    reg
-}
-
-fn repeat(pool: &mut [u32], reg: Register, kind: u8, times: u32) -> u32 {
+// the way to the call, from a register that may not be set up; answers one with no keys where the wanted turn never came
+fn walk(pool: &mut [u32], reg: Register, call: u8, keys: u32, slot: bool) -> Register
+    requires { ⌜ (2 ≤ keys) × (keys ≤ 510) ⌝ }
+{
     let mut r = reg;
-    let mut sum: u32 = 0;
+    let mut seed: u32 = 1;
     let mut i: u32 = 0;
-    while i < times {
-        let next = once(pool, r, kind, key_of(i, kind));
-        sum = sum % 65536 + next.free % 65536 + next.awaited % 65536;
-        r = kept(kind, r, next);
+    while i < MOST_STEPS {
+        let act = way_call(pool, r, call, keys, slot, seed);
+        if act == NONE {
+            return r;
+        }
+        let k = way_key(pool, act, r.root, call, keys, r.held, seed);
+        r = once(pool, r, act, k);
+        seed = seed % 65536 * 25189 + 13849;
+        i += 1;
+    }
+    fresh::fresh_register(8)
+}
+
+// A register that is not set up, or the damaged tree's: from the root, node 1, to the right and then to the left down to node 64; node 65 is every
+// other child, and the rest is free. All red for an insert, so that its climb goes to the root, and all black for a delete.
+fn start(pool: &mut [u32], call: u8, keys: u32) -> Register {
+    if keys != DEEP {
+        return fresh::fresh_register(0);
+    }
+    let colour = if grows(call) { pool::RED } else { pool::BLACK };
+    let mut n: u32 = 1;
+    while n <= 65 {
+        pool::set_word(pool, n, pool::KEY, 200 - 2 * n);
+        pool::set_word(pool, n, pool::LEFT, n + 1);
+        pool::set_word(pool, n, pool::RIGHT, 65);
+        pool::set_word(pool, n, pool::COLOUR, colour);
+        pool::set_word(pool, n, pool::STANDING, pool::LINKED);
+        pool::set_word(pool, n + 64, pool::NEXT, (n + 65) % 129);
+        n += 1;
+    }
+    pool::set_word(pool, 1, pool::KEY, 2);
+    pool::set_word(pool, 1, pool::LEFT, 65);
+    pool::set_word(pool, 1, pool::RIGHT, 2);
+    pool::set_word(pool, 64, pool::LEFT, 0);
+    pool::set_word(pool, 64, pool::RIGHT, 0);
+    pool::set_word(pool, 65, pool::LEFT, 0);
+    pool::set_word(pool, 65, pool::RIGHT, 0);
+    let mut r = fresh::fresh_register(128);
+    r.root = 1;
+    r.first = 66;
+    r.free = 63;
+    r.held = DEEP;
+    r
+}
+
+fn copy(from: &[u32], to: &mut [u32])
+    requires { ⌜ length (now from) ≡ length (now to) ⌝ }
+{
+    let mut i: usize = 0;
+    while i < to.len() {
+        to[i] = from[i];
+        i += 1;
+    }
+}
+
+fn digest(reg: Register) -> u32 {
+    let hand = reg.write;
+    let reader = reg.readers[1];
+    reg.root
+        ^ (reg.first << 2)
+        ^ (reg.free << 4)
+        ^ (reg.held << 6)
+        ^ (hand.count << 12)
+        ^ (reader.key << 8)
+        ^ (reader.node << 10)
+}
+
+// the repeats, each with the pool as it was kept; act is the call, or NONE
+fn repeat(pool: &mut [u32], kept: &[u32], reg: Register, call: u8, act: u8, keys: u32) -> u32
+    requires { ⌜ (1 ≤ keys) × (length (now kept) ≡ length (now pool)) ⌝ }
+{
+    let mut sum: u32 = 1;
+    let mut i: u32 = 0;
+    while i < REPEATS {
+        copy(kept, pool);
+        let k = call_key(call, keys, i);
+        let r = once(pool, reg, act, k);
+        sum = std::num::wrapping_add_u32(sum ^ k, digest(r));
         i += 1;
     }
     sum
 }
 
-// the calls on a pool that is set up and filled
-fn run(pool: &mut [u32], keys: u32, kind: u8, times: u32) -> u32 {
-    let made = index::set_up(pool, fresh::fresh_register(8));
-    let filled = fill(pool, made.register, keys);
-    let begun = reading(pool, filled, kind);
-    let reg = at_root(pool, begun, kind);
-    repeat(pool, reg, kind, times)
+fn run(pool: &mut [u32], kept: &mut [u32], call: u8, keys: u32, mode: u8, slot: bool) -> u32
+    requires { ⌜ (2 ≤ keys) × (keys ≤ 510) × (length (now pool) ≡ length (now kept)) ⌝ }
+{
+    let first = start(pool, call, keys);
+    let r = walk(pool, first, call, keys, slot);
+    if r.held == 0 {
+        return 0;
+    }
+    copy(pool, kept);
+    repeat(
+        pool,
+        kept,
+        r,
+        call,
+        if mode == b'1' { call } else { NONE },
+        keys,
+    )
 }
 
 // the same on the first n words
-fn run_on(words: &mut [u32], n: usize, keys: u32, kind: u8, times: u32) -> u32
-    requires { ⌜ n ≤ length (now words) ⌝ }
+fn run_on(
+    words: &mut [u32],
+    kept: &mut [u32],
+    n: usize,
+    call: u8,
+    keys: u32,
+    mode: u8,
+    slot: bool,
+) -> u32
+    requires { ⌜ (2 ≤ keys) × (keys ≤ 510) × (n ≤ length (now words)) × (length (now words) ≡ length (now kept)) ⌝ }
 {
-    run(&mut words[..n], keys, kind, times)
-}
-
-fn times_of(letter: u8) -> u32 {
-    if letter == b'1' {
-        return 1000;
-    }
-    0
+    run(&mut words[..n], &mut kept[..n], call, keys, mode, slot)
 }
 
 fn main() {
-    let top = size_of(argument(2));
+    let size = argument(2);
+    let n = size_of(size) * 8;
+    let keys = keys_of(size);
     let mut words = [0u32; MOST_WORDS];
-    let n = top * 8;
-    let keys = (top / 2 - 1) as u32;
-    let sum = run_on(&mut words, n, keys, argument(1), times_of(argument(3)));
+    let mut kept = [0u32; MOST_WORDS];
+    let sum = run_on(
+        &mut words,
+        &mut kept,
+        n,
+        argument(1),
+        keys,
+        argument(3),
+        argument(4) == b'1',
+    );
     io::print_decimal(STDOUT_FILENO, sum as u64);
 }

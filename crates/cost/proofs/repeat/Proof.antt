@@ -1,43 +1,43 @@
-use lib.ListN.{length}
 use Prim.Native.Nat.{_≤_, _-_}
-use mathlib.Core.Path.{_≡_, refl, sym, ap, _∙_}
-use native.Mathlib.Omega.{arith}
-use borrow.Author.Tests.{eq-eqb, ne-eqb, lt-ltb, le-ltb, lt-leb, le-leb, not-true, not-false}
+use lib.ListN.{length}
 use borrow.Author.Needs.{needs}
+use mathlib.Core.Path.{_≡_}
 use Rattle.cost.proofs.repeat.Statement.{statement}
 use Rattle.cost.proofs.repeat.Tie as tie
 use Rattle.cost.proofs.repeat.Reads as reads
 use Rattle.cost.proofs.repeat.Lts as lts
-use Rattle.cost.proofs.kept.Reads as kept-reads
-use Rattle.cost.proofs.key_of.Reads as key-of-reads
+use Rattle.cost.proofs.call_key.Reads as call-key-reads
+use Rattle.cost.proofs.copy.Reads as copy-reads
+use Rattle.cost.proofs.digest.Reads as digest-reads
 use Rattle.cost.proofs.once.Reads as once-reads
+use Rattle.std.proofs.num.wrapping_add_u32.Reads as wrapping-add-u32-reads
 
 abbrev Inv-loop : tie.InvT-loop
-Inv-loop pool₀ kind times r₀ sum₀ i₀ pool r sum i = (i ≤ times) × (length pool ≡ length pool₀)
+Inv-loop pool₀ kept reg call act keys sum₀ i₀ pool sum i = (i ≤ 1000) × (length pool ≡ length pool₀)
 
 abbrev μ-loop : tie.MeasureT-loop
-μ-loop pool₀ kind times r₀ sum₀ i₀ pool r sum i = times - i
+μ-loop pool₀ kept reg call act keys sum₀ i₀ pool sum i = 1000 - i
 
 loop-holds : tie.Need-loop-holds Inv-loop μ-loop
 loop-holds c = search needs
 
-key-of-requires : tie.Need-key-of-requires Inv-loop μ-loop
-key-of-requires c κs = search needs
+copy-requires : tie.Need-copy-requires Inv-loop μ-loop
+copy-requires c κs = search needs
+
+call-key-requires : tie.Need-call-key-requires Inv-loop μ-loop
+call-key-requires c κs = search needs
 
 once-requires : tie.Need-once-requires Inv-loop μ-loop
 once-requires c κs = search needs
 
-add-sum : tie.Need-add-sum Inv-loop μ-loop
-add-sum c = search needs
+digest-requires : tie.Need-digest-requires Inv-loop μ-loop
+digest-requires c κs = search needs
 
-add-sum-2 : tie.Need-add-sum-2 Inv-loop μ-loop
-add-sum-2 c = search needs
-
-kept-requires : tie.Need-kept-requires Inv-loop μ-loop
-kept-requires c κs = search needs
+wrapping-add-u32-requires : tie.Need-wrapping-add-u32-requires Inv-loop μ-loop
+wrapping-add-u32-requires c κs = search needs
 
 add-i : tie.Need-add-i Inv-loop μ-loop
-add-i c = let h = c .before .before .before .before .before .before .before .before .loop-test .taken in let f = c .before .before .before .before .before .before .before .before .before .before .before .fits .times in search needs
+add-i c = search needs
 
 loop-less : tie.Need-loop-less Inv-loop μ-loop
 loop-less c = search needs
@@ -58,11 +58,11 @@ repeat-spec =
     Inv-loop
     μ-loop
     loop-holds
-    key-of-requires
+    copy-requires
+    call-key-requires
     once-requires
-    add-sum
-    add-sum-2
-    kept-requires
+    digest-requires
+    wrapping-add-u32-requires
     add-i
     loop-less
     loop-again

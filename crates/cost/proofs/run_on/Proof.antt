@@ -1,8 +1,7 @@
 use lib.Seq.{length-take-le}
-use mathlib.Core.Path.{_≡_, refl, sym, ap, _∙_}
-use native.Mathlib.Omega.{arith}
-use borrow.Author.Tests.{eq-eqb, ne-eqb, lt-ltb, le-ltb, lt-leb, le-leb, not-true, not-false}
+use mathlib.Core.Path.{sym, _∙_}
 use borrow.Author.Needs.{needs}
+use native.Mathlib.Omega.{arith}
 use Rattle.cost.proofs.run_on.Statement.{statement}
 use Rattle.cost.proofs.run_on.Tie as tie
 use Rattle.cost.proofs.run_on.Reads as reads
@@ -13,13 +12,22 @@ slice-relend-prefix-run : tie.Need-slice-relend-prefix-run
 slice-relend-prefix-run c = search needs
 
 slice-aggregate-run : tie.Need-slice-aggregate-run
-slice-aggregate-run c = sym (length-take-le (c .before .before .args .n) (c .before .before .args .words .now) (c .before .before .pre))
+slice-aggregate-run c = sym (length-take-le (c .before .before .before .args .n) (c .before .before .before .args .words .now) (c .before .before .before .pre .2))
+
+slice-relend-prefix-run-2 : tie.Need-slice-relend-prefix-run-2
+slice-relend-prefix-run-2 c = search needs
+
+slice-aggregate-run-2 : tie.Need-slice-aggregate-run-2
+slice-aggregate-run-2 c = sym (length-take-le (c .before .before .before .before .args .n) (c .before .before .before .before .args .kept .now) (omega (arith, c .before .before .before .before .pre)))
 
 run-requires : tie.Need-run-requires
-run-requires c κs = search needs
+run-requires c κs = (omega arith, omega arith, length-take-le (c .before .before .before .before .args .n) (c .before .before .before .before .args .words .now) (c .before .before .before .before .pre .2) ∙ sym (length-take-le (c .before .before .before .before .args .n) (c .before .before .before .before .args .kept .now) (omega (arith, c .before .before .before .before .pre))))
 
 same-length : tie.Need-same-length
 same-length c = search needs
+
+same-length-2 : tie.Need-same-length-2
+same-length-2 c = search needs
 
 returns : tie.Need-returns
 returns c = search needs
@@ -27,4 +35,12 @@ returns c = search needs
 pub run-on-spec : {M : Type 1} → statement M
 run-on-spec =
     tie.close
-    (tie.spec slice-relend-prefix-run slice-aggregate-run run-requires same-length returns)
+    (tie.spec
+    slice-relend-prefix-run
+    slice-aggregate-run
+    slice-relend-prefix-run-2
+    slice-aggregate-run-2
+    run-requires
+    same-length
+    same-length-2
+    returns)
