@@ -4,8 +4,9 @@
 // W a writer's turn that answers wait. A small letter is a writer's turn, by its store: i insert under a black parent, j with colours above
 // alone, k with a rotation to come; d e diag lower, raise; x y z zig lower A, lower C, raise; u unlink, a adopt, r replace, p publish, t detach.
 // SIZE: s m l: N 8, 128, 1,023, with about N / 2 − 1 keys; v: N 128, a damaged tree with a path of 64 nodes.
-// MODE: 1,000 times, 0: the pool is put back, 1: and the call is made. SLOT: 1: slot 1 reads, so that a node let go is retired; 0: no slot.
-// Writes a sum of what the register has after the calls (in mode 0, before them), or 0 where no write came to the wanted turn.
+// MODE: 1,000 times, 0: the pool is put back, 1: and the call is made. SLOT: the slot of a reader's call, 0 or 1; in a writer's turn 1: slot 1
+// reads, so that a node let go is retired, 0: none does.
+// Writes a sum over the free counts after the calls (in mode 0, before them), or 0 where no write came to the wanted turn.
 use libc::STDOUT_FILENO;
 use types::Link;
 use types::Register;
@@ -192,11 +193,8 @@ fn while_reading(pool: &[u32], call: u8, node: u32, awaited: u32) -> u8 {
     }
 }
 
-// one call, with the register that it answers; a letter of no call is a writer's turn, and NONE is nothing
-fn once(pool: &mut [u32], reg: Register, call: u8, k: u32) -> Register {
-    if call == NONE {
-        return reg;
-    }
+// a call on the way, with the register that it answers; a letter of no call is a writer's turn
+fn once(pool: &mut [u32], reg: Register, call: u8, k: u32, s: u32) -> Register {
     if call == b'I' {
         let reply = index::insert(pool, reg, k, k);
         return reply.register;
@@ -210,15 +208,15 @@ fn once(pool: &mut [u32], reg: Register, call: u8, k: u32) -> Register {
         return reply.register;
     }
     if call == b'B' {
-        let reply = index::begin(pool, reg, 1, k);
+        let reply = index::begin(pool, reg, s, k);
         return reply.register;
     }
     if call == b'E' {
-        let reply = index::give_up(pool, reg, 1);
+        let reply = index::give_up(pool, reg, s);
         return reply.register;
     }
     if (call == b'G') | (call == b'F') | (call == b'A') {
-        let reply = index::reader_turn(pool, reg, 1);
+        let reply = index::reader_turn(pool, reg, s);
         return reply.register;
     }
     let reply = index::writer_turn(pool, reg);
@@ -226,10 +224,11 @@ fn once(pool: &mut [u32], reg: Register, call: u8, k: u32) -> Register {
 }
 
 // the next call on the way: set up, writes and their turns to the wanted one with about as many keys as wanted, then a begin
-fn way_call(pool: &[u32], reg: Register, call: u8, keys: u32, slot: bool, seed: u32) -> u8
-    requires { ⌜ 2 ≤ keys ⌝ }
+fn way_call(pool: &[u32], reg: Register, call: u8, keys: u32, s: u32, seed: u32) -> u8
+    requires { ⌜ (2 ≤ keys) × (s < 8) ⌝ }
 {
-    let reader = reg.readers[1];
+    let i = s as usize;
+    let reader = reg.readers[i];
     if reader.reading {
         return while_reading(pool, call, reader.node, reg.awaited);
     }
@@ -245,7 +244,7 @@ fn way_call(pool: &[u32], reg: Register, call: u8, keys: u32, slot: bool, seed: 
             | (call == b'A')
             | (call == b'E')
             | (call == b'W');
-        return if reads | slot { b'B' } else { NONE };
+        return if reads | (s == 1) { b'B' } else { NONE };
     }
     if hand.count != 0 {
         return b'w';
@@ -254,19 +253,19 @@ fn way_call(pool: &[u32], reg: Register, call: u8, keys: u32, slot: bool, seed: 
 }
 
 // the way to the call, from a register that may not be set up; answers one with no keys where the wanted turn never came
-fn walk(pool: &mut [u32], reg: Register, call: u8, keys: u32, slot: bool) -> Register
-    requires { ⌜ (2 ≤ keys) × (keys ≤ 510) ⌝ }
+fn walk(pool: &mut [u32], reg: Register, call: u8, keys: u32, s: u32) -> Register
+    requires { ⌜ (2 ≤ keys) × (keys ≤ 510) × (s < 8) ⌝ }
 {
     let mut r = reg;
     let mut seed: u32 = 1;
     let mut i: u32 = 0;
     while i < MOST_STEPS {
-        let act = way_call(pool, r, call, keys, slot, seed);
+        let act = way_call(pool, r, call, keys, s, seed);
         if act == NONE {
             return r;
         }
         let k = way_key(pool, act, r.root, call, keys, r.held, seed);
-        r = once(pool, r, act, k);
+        r = once(pool, r, act, k, s);
         seed = seed % 65536 * 25189 + 13849;
         i += 1;
     }
@@ -315,20 +314,56 @@ fn copy(from: &[u32], to: &mut [u32])
     }
 }
 
-fn digest(reg: Register) -> u32 {
-    let hand = reg.write;
-    let reader = reg.readers[1];
-    reg.root
-        ^ (reg.first << 2)
-        ^ (reg.free << 4)
-        ^ (reg.held << 6)
-        ^ (hand.count << 12)
-        ^ (reader.key << 8)
-        ^ (reader.node << 10)
+// The call that is counted, or none: a number of the register that it answers, so that nothing but the call is done.
+fn counted(pool: &mut [u32], reg: Register, act: u8, k: u32, s: u32) -> u32 {
+    if act == NONE {
+        return reg.free;
+    }
+    if act == b'I' {
+        let reply = index::insert(pool, reg, k, k);
+        let r = reply.register;
+        return r.free;
+    }
+    if act == b'D' {
+        let reply = index::delete(pool, reg, k);
+        let r = reply.register;
+        return r.free;
+    }
+    if act == b'P' {
+        let reply = index::set_up(pool, reg);
+        let r = reply.register;
+        return r.free;
+    }
+    if act == b'B' {
+        let reply = index::begin(pool, reg, s, k);
+        let r = reply.register;
+        return r.free;
+    }
+    if act == b'E' {
+        let reply = index::give_up(pool, reg, s);
+        let r = reply.register;
+        return r.free;
+    }
+    if (act == b'G') | (act == b'F') | (act == b'A') {
+        let reply = index::reader_turn(pool, reg, s);
+        let r = reply.register;
+        return r.free;
+    }
+    let reply = index::writer_turn(pool, reg);
+    let r = reply.register;
+    r.free
 }
 
 // the repeats, each with the pool as it was kept; act is the call, or NONE
-fn repeat(pool: &mut [u32], kept: &[u32], reg: Register, call: u8, act: u8, keys: u32) -> u32
+fn repeat(
+    pool: &mut [u32],
+    kept: &[u32],
+    reg: Register,
+    call: u8,
+    act: u8,
+    keys: u32,
+    s: u32,
+) -> u32
     requires { ⌜ (1 ≤ keys) × (length (now kept) ≡ length (now pool)) ⌝ }
 {
     let mut sum: u32 = 1;
@@ -336,18 +371,17 @@ fn repeat(pool: &mut [u32], kept: &[u32], reg: Register, call: u8, act: u8, keys
     while i < REPEATS {
         copy(kept, pool);
         let k = call_key(call, keys, i);
-        let r = once(pool, reg, act, k);
-        sum = std::num::wrapping_add_u32(sum ^ k, digest(r));
+        sum = std::num::wrapping_add_u32(sum ^ k, counted(pool, reg, act, k, s));
         i += 1;
     }
     sum
 }
 
-fn run(pool: &mut [u32], kept: &mut [u32], call: u8, keys: u32, mode: u8, slot: bool) -> u32
-    requires { ⌜ (2 ≤ keys) × (keys ≤ 510) × (length (now pool) ≡ length (now kept)) ⌝ }
+fn run(pool: &mut [u32], kept: &mut [u32], call: u8, keys: u32, mode: u8, s: u32) -> u32
+    requires { ⌜ (2 ≤ keys) × (keys ≤ 510) × (s < 8) × (length (now pool) ≡ length (now kept)) ⌝ }
 {
     let first = start(pool, call, keys);
-    let r = walk(pool, first, call, keys, slot);
+    let r = walk(pool, first, call, keys, s);
     if r.held == 0 {
         return 0;
     }
@@ -359,6 +393,7 @@ fn run(pool: &mut [u32], kept: &mut [u32], call: u8, keys: u32, mode: u8, slot: 
         call,
         if mode == b'1' { call } else { NONE },
         keys,
+        s,
     )
 }
 
@@ -370,11 +405,11 @@ fn run_on(
     call: u8,
     keys: u32,
     mode: u8,
-    slot: bool,
+    s: u32,
 ) -> u32
-    requires { ⌜ (2 ≤ keys) × (keys ≤ 510) × (n ≤ length (now words)) × (length (now words) ≡ length (now kept)) ⌝ }
+    requires { ⌜ (2 ≤ keys) × (keys ≤ 510) × (s < 8) × (n ≤ length (now words)) × (length (now words) ≡ length (now kept)) ⌝ }
 {
-    run(&mut words[..n], &mut kept[..n], call, keys, mode, slot)
+    run(&mut words[..n], &mut kept[..n], call, keys, mode, s)
 }
 
 fn main() {
@@ -390,7 +425,7 @@ fn main() {
         argument(1),
         keys,
         argument(3),
-        argument(4) == b'1',
+        (argument(4) % 2) as u32,
     );
     io::print_decimal(STDOUT_FILENO, sum as u64);
 }

@@ -2,20 +2,18 @@
 use mathlib.Core.Path.{_≡_, ap, _∙_}
 use mathlib.Core.List.{List}
 use mathlib.Core.Bool.{Bool, true, false, cond}
-use lib.Dec.{eqb}
 use Prim.Native.Nat.{ℕ}
 use Rattle.types.specs.declared.Link.{Link}
 use Rattle.types.specs.declared.Head.{Head}
 use Rattle.types.specs.declared.Register.{Register}
 use Rattle.types.specs.declared.Turned.{Turned}
 use Rattle.types.specs.declared.Write.{Write}
-use Rattle.types.specs.declared.WriterAnswer.{WriterAnswer}
 use Rattle.types.specs.declared.Step.{Step}
 use Rattle.types.specs.declared.Step.the-variants.{Vacant, Insert, DiagLower, DiagRaise, ZigLowerA, ZigLowerC, ZigRaise, Unlink, Adopt, Replace, Publish, Detach}
-use Rattle.spec.specs.Register.{state, nodeAt, readingSlots, withWrite, lessFirst}
+use Rattle.spec.specs.Register.{State, state, storeOf, nodeAt, readingSlots, withWrite}
 use Rattle.spec.specs.Turn.{movedWrite}
-use Rattle.spec.specs.Calls.{Outcome, stored, writerSays, done, more}
-use Rattle.heads.specs.Head.{at, withHead, left, Tells}
+use Rattle.spec.specs.Calls.{Answer, Outcome, stored}
+use Rattle.heads.specs.Head.{at, left, Tells}
 
 abbrev pub publishes : Step → Bool
 publishes Vacant = false
@@ -43,11 +41,16 @@ abbrev pub TriesAny : ℕ → Link → Step → List ℕ → Head → List ℕ �
 TriesAny m l x p h p′ t =
     (q : Register) → readingSlots q ≡ m → Tells (at p h q) l x p′ t (movedRest x (nodeAt p (h .root) l) (h .first) q)
 
--- what the turn answers and leaves, from its step's answer
-pub turn-made : (p : List ℕ) (t : Turned) (reg r : Register) (x : Step) (b n : ℕ) (a : WriterAnswer) (w : Write) (o : Outcome)
-    → stored (left p t (movedRest x b n reg)) ≡ o → w ≡ lessFirst (movedBy x b n (reg .write))
-    → writerSays a ≡ cond (eqb (w .count) 0) (done (t .link) (t .node)) (more (t .link) (t .node)) → r ≡ withWrite (withHead reg (t .head)) w
-    → (writerSays a ≡ o .answer) × (state p r ≡ o .after)
-unfolding stored withWrite
-turn-made p t reg r x b n a w o e ew ea er =
-    (ea ∙ rw ew (ap (λ (z : Outcome). z .answer) e), rw (er, ew) (ap (λ (z : Outcome). z .after) e))
+-- the step of the first store, tried on a whole register
+abbrev pub FirstTold : List ℕ → Register → List ℕ → Turned → Type 0
+FirstTold p reg p′ t =
+    let x = storeOf reg 0 in
+    Tells (state p reg) (x .link) (x .step) p′ t (movedRest (x .step) (nodeAt p (reg .root) (x .link)) (reg .first) reg)
+
+-- what the turn answers and leaves, from its step's answer; w is the write in hand, moved by a publish
+pub turn-made : (p : List ℕ) (t : Turned) (reg : Register) (x : Step) (b n : ℕ) (w : Write) (says : Answer) (after : State) (o : Outcome)
+    → stored (left p t (movedRest x b n reg)) ≡ o → w ≡ movedBy x b n (reg .write)
+    → (says ≡ stored (left p t (withWrite reg w)) .answer) × (after ≡ stored (left p t (withWrite reg w)) .after)
+    → (says ≡ o .answer) × (after ≡ o .after)
+turn-made p t reg x b n w says after o e ew s =
+    (s .0 ∙ rw ew (ap (λ (z : Outcome). z .answer) e), s .1 ∙ rw ew (ap (λ (z : Outcome). z .after) e))

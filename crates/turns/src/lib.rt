@@ -9,14 +9,15 @@ use types::Write;
 use types::WriterAnswer;
 use types::WriterReply;
 ghost use mathlib.Core.Path.{_≡_};
-ghost use mathlib.Core.Bool.{true, cond};
+ghost use mathlib.Core.Bool.{true};
+ghost use mathlib.Core.List.{List};
 ghost use Prim.Native.Nat.{ℕ, _<_};
-ghost use lib.Dec.{eqb};
 ghost use lib.ListN.{length};
-ghost use Rattle.spec.specs.Register.{state, lessFirst};
-ghost use Rattle.spec.specs.Calls.{writerSays, refused, done, more, writeInHand, writerTurn};
+ghost use Rattle.spec.specs.Register.{state, withWrite, lessFirst};
+ghost use Rattle.spec.specs.Calls.{writerSays, refused, stored, writeInHand, writerTurn};
 ghost use Rattle.laws.specs.Tests.{lentNumber};
-ghost use Rattle.turns.specs.Made.{publishes, movedBy, TriesAny};
+ghost use Rattle.heads.specs.Head.{left};
+ghost use Rattle.turns.specs.Made.{publishes, TriesAny, FirstTold};
 
 // Tries the step x at the link l.
 pub fn try_step(pool: &mut [u32], h: Head, reading: u32, l: Link, x: Step) -> Turned
@@ -77,24 +78,24 @@ fn publishes(x: Step) -> bool
     }
 }
 
-// The write in hand after the step x was made: a publish, which put the copy n in the place of b, moves the stores to come.
-fn moved_by(x: Step, b: u32, n: u32, w: Write) -> Write
-    ensures { λ r. ⌜ r ≡ movedBy x b n w ⌝ }
+// The register put together after a made step, and the answer: done if no store is left, more otherwise. w is the write in hand before.
+fn stored(reg: Register, t: Turned, w: Write) -> WriterReply
+    ensures { λ r. ⌜ ((p : List ℕ) → (writerSays (r .answer) ≡ stored (left p t (withWrite reg w)) .answer) × (state p (r .register) ≡ stored (left p t (withWrite reg w)) .after)) ⌝ }
 {
-    if publishes(x) {
-        return stores::moved_write(b, n, w);
+    let link = t.link;
+    let head = t.head;
+    let left = less_first(w);
+    let register = register::with_write(heads::with_head(reg, head), left);
+    if left.count == 0 {
+        return WriterReply {
+            answer: WriterAnswer::Done(link, t.node),
+            register,
+        };
     }
-    w
-}
-
-// done if no store is left, more otherwise
-fn answer_of(left: u32, link: Link, node: u32) -> WriterAnswer
-    ensures { λ r. ⌜ writerSays r ≡ cond (eqb left 0) (done link node) (more link node) ⌝ }
-{
-    if left == 0 {
-        return WriterAnswer::Done(link, node);
+    WriterReply {
+        answer: WriterAnswer::More(link, t.node),
+        register,
     }
-    WriterAnswer::More(link, node)
 }
 
 pub fn refused(number: u32, register: Register) -> WriterReply
@@ -106,7 +107,27 @@ pub fn refused(number: u32, register: Register) -> WriterReply
     }
 }
 
-// A turn with a write in hand and no awaited slot makes the first store.
+// The step of the first store, tried.
+fn first_step(pool: &mut [u32], reg: Register) -> Turned
+    requires { ⌜ length (now pool) < 8192 ⌝ }
+    ensures { λ r. ⌜ FirstTold (now (pool .entry)) reg (now (pool .exit)) r ⌝ }
+{
+    let hand = reg.write;
+    let x = hand.stores[0];
+    let link = x.link;
+    let step = x.step;
+    try_step(
+        pool,
+        heads::head_of(reg),
+        register::reading_slots(reg),
+        link,
+        step,
+    )
+}
+
+// A turn with a write in hand and no awaited slot makes the first store. A publish puts a copy in the place of a node b, and the stores
+// to come move to the copy. (With two calls of first_step the compiler keeps it apart and the register whole: it is copied, not taken to
+// pieces.)
 pub fn make_first(pool: &mut [u32], reg: Register) -> WriterReply
     requires { ⌜ (lentNumber (state (now pool) reg) ≡ 0) × (writeInHand (state (now pool) reg) ≡ true) × (reg .awaited ≡ 0) ⌝ }
     ensures { λ r. ⌜ writerSays (r .answer) ≡ writerTurn (state (now (pool .entry)) reg) .answer ⌝ }
@@ -116,16 +137,17 @@ pub fn make_first(pool: &mut [u32], reg: Register) -> WriterReply
     let x = hand.stores[0];
     let link = x.link;
     let step = x.step;
-    let h = heads::head_of(reg);
-    let b = register::node_at(pool, h.root, link);
-    let t = try_step(pool, h, register::reading_slots(reg), link, step);
+    if publishes(step) {
+        let b = register::node_at(pool, reg.root, link);
+        let t = first_step(pool, reg);
+        if t.found {} else {
+            return refused(12, reg);
+        }
+        return stored(reg, t, stores::moved_write(b, reg.first, hand));
+    }
+    let t = first_step(pool, reg);
     if t.found {} else {
         return refused(12, reg);
     }
-    let head = t.head;
-    let stored = t.link;
-    let left = less_first(moved_by(step, b, h.first, hand));
-    let answer = answer_of(left.count, stored, t.node);
-    let register = register::with_write(heads::with_head(reg, head), left);
-    WriterReply { answer, register }
+    stored(reg, t, hand)
 }
