@@ -193,8 +193,12 @@ fn while_reading(pool: &[u32], call: u8, node: u32, awaited: u32) -> u8 {
     }
 }
 
-// a call on the way, with the register that it answers; a letter of no call is a writer's turn
+// a call on the way, with the register that it answers
 fn once(pool: &mut [u32], reg: Register, call: u8, k: u32, s: u32) -> Register {
+    if call == b'P' {
+        let reply = index::set_up(pool, reg);
+        return reply.register;
+    }
     if call == b'I' {
         let reply = index::insert(pool, reg, k, k);
         return reply.register;
@@ -203,19 +207,11 @@ fn once(pool: &mut [u32], reg: Register, call: u8, k: u32, s: u32) -> Register {
         let reply = index::delete(pool, reg, k);
         return reply.register;
     }
-    if call == b'P' {
-        let reply = index::set_up(pool, reg);
-        return reply.register;
-    }
     if call == b'B' {
         let reply = index::begin(pool, reg, s, k);
         return reply.register;
     }
-    if call == b'E' {
-        let reply = index::give_up(pool, reg, s);
-        return reply.register;
-    }
-    if (call == b'G') | (call == b'F') | (call == b'A') {
+    if call == b'G' {
         let reply = index::reader_turn(pool, reg, s);
         return reply.register;
     }
@@ -321,37 +317,30 @@ fn counted(pool: &mut [u32], reg: Register, act: u8, k: u32, s: u32) -> u32 {
     }
     if act == b'I' {
         let reply = index::insert(pool, reg, k, k);
-        let r = reply.register;
-        return r.free;
+        return reply.register.free;
     }
     if act == b'D' {
         let reply = index::delete(pool, reg, k);
-        let r = reply.register;
-        return r.free;
+        return reply.register.free;
     }
     if act == b'P' {
         let reply = index::set_up(pool, reg);
-        let r = reply.register;
-        return r.free;
+        return reply.register.free;
     }
     if act == b'B' {
         let reply = index::begin(pool, reg, s, k);
-        let r = reply.register;
-        return r.free;
+        return reply.register.free;
     }
     if act == b'E' {
         let reply = index::give_up(pool, reg, s);
-        let r = reply.register;
-        return r.free;
+        return reply.register.free;
     }
     if (act == b'G') | (act == b'F') | (act == b'A') {
         let reply = index::reader_turn(pool, reg, s);
-        let r = reply.register;
-        return r.free;
+        return reply.register.free;
     }
     let reply = index::writer_turn(pool, reg);
-    let r = reply.register;
-    r.free
+    reply.register.free
 }
 
 // the repeats, each with the pool as it was kept; act is the call, or NONE

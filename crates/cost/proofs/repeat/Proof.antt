@@ -8,15 +8,14 @@ use Rattle.cost.proofs.repeat.Reads as reads
 use Rattle.cost.proofs.repeat.Lts as lts
 use Rattle.cost.proofs.call_key.Reads as call-key-reads
 use Rattle.cost.proofs.copy.Reads as copy-reads
-use Rattle.cost.proofs.digest.Reads as digest-reads
-use Rattle.cost.proofs.once.Reads as once-reads
+use Rattle.cost.proofs.counted.Reads as counted-reads
 use Rattle.std.proofs.num.wrapping_add_u32.Reads as wrapping-add-u32-reads
 
 abbrev Inv-loop : tie.InvT-loop
-Inv-loop pool₀ kept reg call act keys sum₀ i₀ pool sum i = (i ≤ 1000) × (length pool ≡ length pool₀)
+Inv-loop pool₀ kept reg call act keys s sum₀ i₀ pool sum i = (i ≤ 1000) × (length pool ≡ length pool₀)
 
 abbrev μ-loop : tie.MeasureT-loop
-μ-loop pool₀ kept reg call act keys sum₀ i₀ pool sum i = 1000 - i
+μ-loop pool₀ kept reg call act keys s sum₀ i₀ pool sum i = 1000 - i
 
 loop-holds : tie.Need-loop-holds Inv-loop μ-loop
 loop-holds c = search needs
@@ -27,11 +26,8 @@ copy-requires c κs = search needs
 call-key-requires : tie.Need-call-key-requires Inv-loop μ-loop
 call-key-requires c κs = search needs
 
-once-requires : tie.Need-once-requires Inv-loop μ-loop
-once-requires c κs = search needs
-
-digest-requires : tie.Need-digest-requires Inv-loop μ-loop
-digest-requires c κs = search needs
+counted-requires : tie.Need-counted-requires Inv-loop μ-loop
+counted-requires c κs = search needs
 
 wrapping-add-u32-requires : tie.Need-wrapping-add-u32-requires Inv-loop μ-loop
 wrapping-add-u32-requires c κs = search needs
@@ -60,8 +56,7 @@ repeat-spec =
     loop-holds
     copy-requires
     call-key-requires
-    once-requires
-    digest-requires
+    counted-requires
     wrapping-add-u32-requires
     add-i
     loop-less

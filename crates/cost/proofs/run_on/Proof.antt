@@ -12,7 +12,7 @@ slice-relend-prefix-run : tie.Need-slice-relend-prefix-run
 slice-relend-prefix-run c = search needs
 
 slice-aggregate-run : tie.Need-slice-aggregate-run
-slice-aggregate-run c = sym (length-take-le (c .before .before .before .args .n) (c .before .before .before .args .words .now) (c .before .before .before .pre .2))
+slice-aggregate-run c = sym (length-take-le (c .before .before .before .args .n) (c .before .before .before .args .words .now) (c .before .before .before .pre .3))
 
 slice-relend-prefix-run-2 : tie.Need-slice-relend-prefix-run-2
 slice-relend-prefix-run-2 c = search needs
@@ -21,7 +21,7 @@ slice-aggregate-run-2 : tie.Need-slice-aggregate-run-2
 slice-aggregate-run-2 c = sym (length-take-le (c .before .before .before .before .args .n) (c .before .before .before .before .args .kept .now) (omega (arith, c .before .before .before .before .pre)))
 
 run-requires : tie.Need-run-requires
-run-requires c κs = (omega arith, omega arith, length-take-le (c .before .before .before .before .args .n) (c .before .before .before .before .args .words .now) (c .before .before .before .before .pre .2) ∙ sym (length-take-le (c .before .before .before .before .args .n) (c .before .before .before .before .args .kept .now) (omega (arith, c .before .before .before .before .pre))))
+run-requires c κs = (omega arith, omega arith, omega arith, length-take-le (c .before .before .before .before .args .n) (c .before .before .before .before .args .words .now) (c .before .before .before .before .pre .3) ∙ sym (length-take-le (c .before .before .before .before .args .n) (c .before .before .before .before .args .kept .now) (omega (arith, c .before .before .before .before .pre))))
 
 same-length : tie.Need-same-length
 same-length c = search needs

@@ -12,10 +12,10 @@ use Rattle.cost.proofs.way_key.Reads as way-key-reads
 use Rattle.fresh.proofs.fresh_register.Reads as fresh-register-reads
 
 abbrev Inv-loop : tie.InvT-loop
-Inv-loop pool₀ call keys slot r₀ seed₀ i₀ pool r seed i = (i ≤ 10000) × (length pool ≡ length pool₀)
+Inv-loop pool₀ call keys s r₀ seed₀ i₀ pool r seed i = (i ≤ 10000) × (length pool ≡ length pool₀)
 
 abbrev μ-loop : tie.MeasureT-loop
-μ-loop pool₀ call keys slot r₀ seed₀ i₀ pool r seed i = 10000 - i
+μ-loop pool₀ call keys s r₀ seed₀ i₀ pool r seed i = 10000 - i
 
 loop-holds : tie.Need-loop-holds Inv-loop μ-loop
 loop-holds c = search needs
