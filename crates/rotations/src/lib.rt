@@ -16,31 +16,13 @@ ghost use Rattle.spec.specs.Turn.{painted, copyNode, copyColour, risenColour, u
 ghost use Rattle.types.specs.declared.Register.{Register};
 ghost use Rattle.heads.specs.Head.{Follows, Tries, TriesReading};
 
-// The link l := a copy of node n, which has x on the side s and y on the other side.
-pub fn hang_copy(
-    pool: &mut [u32],
-    h: Head,
-    l: Link,
-    n: u32,
-    s: Side,
-    x: u32,
-    y: u32,
-    colour: u32,
-) -> Turned
-    ensures { λ r. ⌜ (r .found ≡ true) × (r .link ≡ l) × (r .node ≡ h .first) ⌝ }
-    ensures { λ r. ⌜ Follows (λ st. setLink (copyNode st n s x y colour) l (h .first)) (now (pool .entry)) h (now (pool .exit)) (r .head) ⌝ }
+// A copy of node n is taken, with x on the side s and y on the other side.
+pub fn take_copy(pool: &mut [u32], h: Head, n: u32, s: Side, x: u32, y: u32, colour: u32) -> Head
+    ensures { λ r. ⌜ Follows (λ st. copyNode st n s x y colour) (now (pool .entry)) h (now (pool .exit)) r ⌝ }
 {
-    let first = h.first;
     let k = pool::word(pool, n, pool::KEY);
     let v = pool::word(pool, n, pool::RECORD);
-    let taken = queue::take_node(pool, h, k, v, s, x, y, colour);
-    let head = heads::set_link(pool, taken, l, first);
-    Turned {
-        found: true,
-        link: l,
-        node: first,
-        head,
-    }
+    queue::take_node(pool, h, k, v, s, x, y, colour)
 }
 
 fn copy_colour(rule: Rule) -> u32
@@ -79,16 +61,15 @@ pub fn diag_lower(pool: &mut [u32], h: Head, l: Link, s: Side, rule: Rule) -> Tu
     let z = pool::other(s);
     let x = pool::child(pool, z, b);
     let y = pool::child(pool, z, c);
-    hang_copy(
-        pool,
-        h,
-        register::link_at(z, b),
-        c,
-        s,
-        x,
-        y,
-        copy_colour(rule),
-    )
+    let link = register::link_at(z, b);
+    let taken = take_copy(pool, h, c, s, x, y, copy_colour(rule));
+    let head = heads::set_link(pool, taken, link, h.first);
+    Turned {
+        found: true,
+        link,
+        node: h.first,
+        head,
+    }
 }
 
 // A' takes B's child on A's side; B's link on that side := A'.
@@ -105,16 +86,15 @@ pub fn zig_lower_a(pool: &mut [u32], h: Head, l: Link, s: Side, rule: Rule) -> T
     }
     let x = pool::child(pool, s, a);
     let y = pool::child(pool, s, b);
-    hang_copy(
-        pool,
-        h,
-        register::link_at(s, b),
-        a,
-        s,
-        x,
-        y,
-        copy_colour(rule),
-    )
+    let link = register::link_at(s, b);
+    let taken = take_copy(pool, h, a, s, x, y, copy_colour(rule));
+    let head = heads::set_link(pool, taken, link, h.first);
+    Turned {
+        found: true,
+        link,
+        node: h.first,
+        head,
+    }
 }
 
 // C' takes B's child on the other side; B's link on that side := C'.
@@ -132,16 +112,15 @@ pub fn zig_lower_c(pool: &mut [u32], h: Head, l: Link, s: Side, rule: Rule) -> T
     }
     let x = pool::child(pool, z, b);
     let y = pool::child(pool, z, c);
-    hang_copy(
-        pool,
-        h,
-        register::link_at(z, b),
-        c,
-        s,
-        x,
-        y,
-        copy_colour(rule),
-    )
+    let link = register::link_at(z, b);
+    let taken = take_copy(pool, h, c, s, x, y, copy_colour(rule));
+    let head = heads::set_link(pool, taken, link, h.first);
+    Turned {
+        found: true,
+        link,
+        node: h.first,
+        head,
+    }
 }
 
 // The link from above := B, which takes its colour.

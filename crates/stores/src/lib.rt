@@ -183,8 +183,8 @@ pub fn publish(pool: &mut [u32], h: Head, reading: u32, l: Link, c: u32) -> Turn
     let x = pool::child(pool, Side::L, b);
     let y = pool::child(pool, Side::R, b);
     let colour = pool::word(pool, b, pool::COLOUR);
-    let copied = rotations::hang_copy(pool, h, l, c, Side::L, x, y, colour);
-    let linked = copied.head;
+    let taken = rotations::take_copy(pool, h, c, Side::L, x, y, colour);
+    let linked = heads::set_link(pool, taken, l, first);
     let awaiting = await_readers(linked, reading);
     let head = queue::retire(pool, awaiting, reading, b);
     Turned {

@@ -16,12 +16,13 @@ use Rattle.stores.proofs.publish.Tie as tie
 use Rattle.stores.proofs.publish.Reads as reads
 use Rattle.stores.proofs.publish.Lts as lts
 use Rattle.heads.proofs.missed.Reads as missed-reads
-use Rattle.stores.proofs.await_readers.Reads as await-readers-reads
-use Rattle.queue.proofs.retire.Reads as retire-reads
-use Rattle.rotations.proofs.hang_copy.Reads as hang-copy-reads
+use Rattle.heads.proofs.set_link.Reads as set-link-reads
 use Rattle.pool.proofs.child.Reads as child-reads
 use Rattle.pool.proofs.word.Reads as word-reads
+use Rattle.queue.proofs.retire.Reads as retire-reads
 use Rattle.register.proofs.node_at.Reads as node-at-reads
+use Rattle.rotations.proofs.take_copy.Reads as take-copy-reads
+use Rattle.stores.proofs.await_readers.Reads as await-readers-reads
 
 node-at-requires : tie.Need-node-at-requires
 node-at-requires c κs = search needs
@@ -59,26 +60,29 @@ child-requires-2 c κs = search needs
 word-requires : tie.Need-word-requires
 word-requires c κs = search needs
 
-hang-copy-requires : tie.Need-hang-copy-requires
-hang-copy-requires c κs = search needs
+take-copy-requires : tie.Need-take-copy-requires
+take-copy-requires c κs = search needs
+
+set-link-requires : tie.Need-set-link-requires
+set-link-requires c κs = search needs
 
 await-readers-requires : tie.Need-await-readers-requires
 await-readers-requires c κs = search needs
 
 retire-requires : tie.Need-retire-requires
-retire-requires c κs = omega (arith, c .before .before .before .before .before .before .before .before .before .before .before .before .before .before .before .before .before .before .pre, c .before .before .before .before .before .hang-copy .kept)
+retire-requires c κs = omega (arith, c .before .before .before .before .before .before .before .before .before .before .before .before .before .before .before .before .before .before .before .before .before .pre, c .before .before .before .before .before .before .before .before .take-copy .kept, c .before .before .before .before .set-link .kept)
 
 same-length-3 : tie.Need-same-length-3
 same-length-3 c = search needs
 
 returns-3 : tie.Need-returns-3
 unfolding stepFinds stepMade
-returns-3 c = let a = c .before .before .before .before .before .before .before .before .before .before .before .before .before .before .before .before .before .before .before .before .before .args in let n = c .before .before .before .before .before .before .before .before .before .before .before .before .before .before .before .before .before .before .node-at in let k = c .before .before .before .before .before .before .before .before .hang-copy in let t = c .before .before .retire in
-    let z : FollowsReading (a .reading) (λ st. retire st (n .result)) (k .last .0) (awaiting (k .result .head) (a .reading)) (t .last .0) (t .result) = rw (c .before .before .before .before .await-readers .ensures) at (t .ensures) in
-    λ q e. let f : stepFinds (at (a .pool .now) (a .h) q) (a .l) (Publish (a .c)) ≡ true = takes-node (at (a .pool .now) (a .h) q) (linkNode (at (a .pool .now) (a .h) q) (a .l)) (rw (← (n .ensures)) (c .before .before .before .before .before .before .before .before .before .before .before .before .before .before .before .before .before .if1 .left)) (c .before .before .before .before .before .before .before .before .before .before .before .before .before .before .before .before .if2 .left) in (
+returns-3 c = let a = c .before .before .before .before .before .before .before .before .before .before .before .before .before .before .before .before .before .before .before .before .before .before .before .before .args in let n = c .before .before .before .before .before .before .before .before .before .before .before .before .before .before .before .before .before .before .before .before .before .node-at in let k = c .before .before .before .before .before .before .before .before .before .before .before .take-copy in let j = c .before .before .before .before .before .before .before .set-link in let t = c .before .before .retire in
+    let z : FollowsReading (a .reading) (λ st. retire st (n .result)) (j .last .0) (awaiting (j .result) (a .reading)) (t .last .0) (t .result) = rw (c .before .before .before .before .await-readers .ensures) at (t .ensures) in
+    λ q e. let f : stepFinds (at (a .pool .now) (a .h) q) (a .l) (Publish (a .c)) ≡ true = takes-node (at (a .pool .now) (a .h) q) (linkNode (at (a .pool .now) (a .h) q) (a .l)) (rw (← (n .ensures)) (c .before .before .before .before .before .before .before .before .before .before .before .before .before .before .before .before .before .before .before .before .if1 .left)) (c .before .before .before .before .before .before .before .before .before .before .before .before .before .before .before .before .before .before .before .if2 .left) in (
       sym f,
-      λ g. published (a .pool .now) (k .last .0) (t .last .0) (a .h) (k .result .head) (t .result) (a .l) (a .reading) (a .c) (n .result) (c .before .before .before .before .before .before .before .before .before .before .before .before .before .before .child .result) (c .before .before .before .before .before .before .before .before .before .before .before .before .child2 .result) (c .before .before .before .before .before .before .before .before .before .before .word .result)
-          (n .ensures) (c .before .before .before .before .before .before .before .before .before .before .before .before .before .before .child .ensures) (c .before .before .before .before .before .before .before .before .before .before .before .before .child2 .ensures) (λ q. c .before .before .before .before .before .before .before .before .before .before .word .ensures) (k .ensures .1) z q e,
+      λ g. published (a .pool .now) (j .last .0) (t .last .0) (a .h) (j .result) (t .result) (a .l) (a .reading) (a .c) (n .result) (c .before .before .before .before .before .before .before .before .before .before .before .before .before .before .before .before .before .child .result) (c .before .before .before .before .before .before .before .before .before .before .before .before .before .before .before .child2 .result) (c .before .before .before .before .before .before .before .before .before .before .before .before .before .word .result)
+          (n .ensures) (c .before .before .before .before .before .before .before .before .before .before .before .before .before .before .before .before .before .child .ensures) (c .before .before .before .before .before .before .before .before .before .before .before .before .before .before .before .child2 .ensures) (λ q. c .before .before .before .before .before .before .before .before .before .before .before .before .before .word .ensures) (λ q. j .ensures q ∙ rw (k .ensures q)) z q e,
       λ g. absurd (false≢true (sym g)),
     )
 
@@ -96,7 +100,8 @@ publish-spec =
     child-requires
     child-requires-2
     word-requires
-    hang-copy-requires
+    take-copy-requires
+    set-link-requires
     await-readers-requires
     retire-requires
     same-length-3

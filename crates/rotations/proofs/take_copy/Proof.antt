@@ -1,0 +1,27 @@
+use mathlib.Core.Path.{_≡_, refl, sym, ap, _∙_}
+use borrow.Author.Needs.{needs}
+use Rattle.rotations.proofs.take_copy.Statement.{statement}
+use Rattle.rotations.proofs.take_copy.Tie as tie
+use Rattle.rotations.proofs.take_copy.Reads as reads
+use Rattle.rotations.proofs.take_copy.Lts as lts
+use Rattle.pool.proofs.word.Reads as word-reads
+use Rattle.queue.proofs.take_node.Reads as take-node-reads
+
+word-requires : tie.Need-word-requires
+word-requires c κs = search needs
+
+word-requires-2 : tie.Need-word-requires-2
+word-requires-2 c κs = search needs
+
+take-node-requires : tie.Need-take-node-requires
+take-node-requires c κs = search needs
+
+same-length : tie.Need-same-length
+same-length c = search needs
+
+returns : tie.Need-returns
+returns c = λ q. c .before .before .take-node .ensures q ∙ rw (c .before .before .before .before .word2 .ensures, c .before .before .before .before .before .before .word .ensures)
+
+pub take-copy-spec : {M : Type 1} → statement M
+take-copy-spec =
+    tie.close (tie.spec word-requires word-requires-2 take-node-requires same-length returns)
