@@ -1,5 +1,5 @@
 -- What releasing, freeing and retiring leave as it was.
-use mathlib.Core.Path.{_≡_, refl}
+use mathlib.Core.Path.{_≡_}
 use mathlib.Core.List.{List}
 use mathlib.Core.Bool.{false}
 use lib.Dec.{eqb}
@@ -7,7 +7,7 @@ use lib.ListN.{length}
 use Prim.Native.Nat.{ℕ}
 use Rattle.base.specs.Walk.{cond-both}
 use Rattle.spec.specs.Pool.{word, setWord, standingWord, standingRetired, holdersWord, nextWord, standingFree}
-use Rattle.spec.specs.Register.{State, dropSlot}
+use Rattle.spec.specs.Register.{State}
 use Rattle.spec.specs.Free.{queueEmpty, freeNode, release}
 use Rattle.laws.specs.Words.{length-setWord}
 
@@ -25,12 +25,3 @@ free-length st n =
     (cond-both (λ (p : List ℕ). length p ≡ length (st .pool)) (queueEmpty st) {x = q} {y = setWord q (st .register .last) nextWord n}
     (simp length-setWord)
     (simp length-setWord))
-
-pub release-length : (s : ℕ) (st : State) (n : ℕ) → length (release s st n .pool) ≡ length (st .pool)
-unfolding release
-release-length s st n =
-    let h = dropSlot (word (st .pool) n holdersWord) s in
-    let P : State → Type 0 = λ x. length (x .pool) ≡ length (st .pool) in
-    cond-both P (eqb (word (st .pool) n standingWord) standingRetired)
-    (cond-both P (eqb h 0) (free-length st n) (simp length-setWord))
-    refl

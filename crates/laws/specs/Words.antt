@@ -6,11 +6,10 @@ use mathlib.Core.Logic.{_≢_, _⊎_, inl, inr}
 use lib.Dec.{eqb, leb, ltb}
 use lib.ListN.{length, getD, set, length-set}
 use lib.Seq.{getD-set-same, getD-set-other, set-set}
-use borrow.Author.Tests.{eq-eqb, ne-eqb, leb-true, ltb-true, lt-ltb, le-ltb, lt-leb, le-leb}
-use mir.Val.{boolByte}
-use native.Mathlib.Decide.{ℕ-discrete, decLe}
+use borrow.Author.Tests.{eq-eqb, ne-eqb, leb-true, ltb-true}
+use native.Mathlib.Decide.{ℕ-discrete}
 use native.Mathlib.Omega.{arith}
-use Prim.Native.Nat.{ℕ, _+_, _-_, _*_, _<_, _≤_}
+use Prim.Native.Nat.{ℕ, _-_, _*_, _<_, _≤_}
 use Rattle.spec.specs.Pool.{nodeWords, place, word, setWord}
 
 -- n is a node of the pool
@@ -86,24 +85,4 @@ set-twice p n f v w =
       | yes e ↦ rw (e, set-none p f v)
       | no d ↦
           rw (set-at p n f v (omega arith), set-at (set p (place n f) v) n f w (omega arith), set-at p n f w (omega arith)) (set-set p (place n f) v w)
-    ]
-
--- a sum is 0 where both parts are
-pub sum-zero : (a b : ℕ) → eqb (a + b) 0 ≡ (eqb a 0 && eqb b 0)
-sum-zero a b =
-    elim (ℕ-discrete a 0) [
-      | yes e ↦
-          elim (ℕ-discrete b 0) [
-            | yes i ↦ rw (eq-eqb a 0 e, eq-eqb b 0 i) (eq-eqb (a + b) 0 (omega arith))
-            | no d ↦ rw (eq-eqb a 0 e, ne-eqb b 0 d) (ne-eqb (a + b) 0 (omega arith))
-          ]
-      | no d ↦ rw (ne-eqb a 0 d) (ne-eqb (a + b) 0 (omega arith))
-    ]
-
--- a test as a number: 0 where the word is within its limit
-pub fault-zero : (w l : ℕ) → (eqb (boolByte (ltb l w)) 0 ≡ leb w l) × (boolByte (ltb l w) ≤ 1)
-fault-zero w l =
-    elim (decLe w l) [
-      | yes h ↦ rw (le-ltb l w h, le-leb w l h) (refl, omega arith)
-      | no h ↦ (let k : l < w = omega arith in rw (lt-ltb l w k, lt-leb w l k) (refl, omega arith))
     ]

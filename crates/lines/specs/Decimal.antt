@@ -41,9 +41,6 @@ pub decimal-more : (n : ℕ) → 10 ≤ n → decimal n ≡ decimal (n / 10) ++ 
 unfolding decimal digits
 decimal-more n h = rw (le-ltb n 10 h, digits-most n (suc (n / 10)) (n / 10) (omega arith) (omega arith))
 
-pub length-more : (n : ℕ) → 10 ≤ n → length (decimal n) ≡ length (decimal (n / 10)) + 1
-length-more n h = rw (decimal-more n h, length-append)
-
 -- the last two digits, and those of a hundredth before them
 abbrev pub two : ℕ → List ℕ
 two n = digit (n / 10) ∷ digit (n % 10) ∷ []

@@ -1,6 +1,6 @@
 -- The tests of a call that names a slot, from the number of tests 1 and 2 and the slot's own record.
 use mathlib.Core.Path.{_≡_, refl, sym, _∙_}
-use mathlib.Core.List.{List, [], _∷_}
+use mathlib.Core.List.{[], _∷_}
 use mathlib.Core.Bool.{Bool, true, false, cond, _&&_}
 use lib.Dec.{eqb, ltb}
 use native.Mathlib.Decide.{decLt}

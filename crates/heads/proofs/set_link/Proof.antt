@@ -1,8 +1,6 @@
 use Rattle.heads.specs.Head.{at}
 use Rattle.spec.specs.Register.{setLink, withRoot}
-use borrow.Author.Tests.{eq-eqb, ne-eqb, lt-ltb, le-ltb, lt-leb, le-leb, not-true, not-false}
-use native.Mathlib.Omega.{arith}
-use mathlib.Core.Path.{_≡_, refl, sym, ap, _∙_}
+use mathlib.Core.Path.{refl}
 use borrow.Author.Needs.{needs}
 use Rattle.heads.proofs.set_link.Statement.{statement}
 use Rattle.heads.proofs.set_link.Tie as tie

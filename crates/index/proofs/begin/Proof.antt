@@ -1,9 +1,8 @@
-use mathlib.Core.Path.{_≡_, refl, sym, ap, _∙_}
+use mathlib.Core.Path.{_≡_, sym, ap, _∙_}
 use native.Mathlib.Omega.{arith}
 use mathlib.Core.Bool.{Bool, true}
-use mathlib.Core.List.{[], _∷_}
 use Rattle.spec.specs.Register.{state, withReader}
-use Rattle.laws.specs.Tests.{lent-of, slot-of, unless-refused, unless-done}
+use Rattle.laws.specs.Tests.{slot-of, unless-refused, unless-done}
 use Rattle.refusals.specs.Slots.{index-of, slot-tests}
 use Rattle.types.specs.declared.Reader.{Reader}
 use Rattle.spec.specs.Calls.{Outcome, outcome, ok, firstOf, begin, beginTests, reading}

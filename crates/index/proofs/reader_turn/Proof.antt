@@ -1,12 +1,12 @@
-use mathlib.Core.Path.{_≡_, refl, sym, ap, _∙_}
+use mathlib.Core.Path.{_≡_, sym, ap, _∙_}
 use native.Mathlib.Omega.{arith}
-use mathlib.Core.Bool.{Bool, not}
+use mathlib.Core.Bool.{not}
 use mathlib.Core.List.{[], _∷_}
 use Rattle.spec.specs.Register.{state, withReader}
 use Rattle.laws.specs.Tests.{lent-of, slot-of, unless-refused, unless-done}
 use Rattle.refusals.specs.Slots.{index-of, slot-tests}
 use Rattle.types.specs.declared.Reader.{Reader}
-use Rattle.spec.specs.Calls.{Outcome, outcome, _gives_, firstOf, slotTooHigh, reading, readerSays, readerStep, readerTurn, readerTests}
+use Rattle.spec.specs.Calls.{Outcome, _gives_, firstOf, slotTooHigh, reading, readerSays, readerStep, readerTurn, readerTests}
 use Rattle.lookups.specs.Looked.{turn-looked}
 use borrow.Author.Needs.{needs}
 use Rattle.index.proofs.reader_turn.Statement.{statement}

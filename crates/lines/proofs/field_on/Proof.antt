@@ -1,9 +1,8 @@
 use Prim.Native.Nat.{_≤_, _-_}
-use mathlib.Core.Path.{_≡_, refl, sym, _∙_}
 use lib.ListN.{length}
 use native.Mathlib.Omega.{arith}
 use borrow.Author.Needs.{needs}
-use Rattle.lines.specs.Cut.{Onward, Ends, onward-none, onward-byte}
+use Rattle.lines.specs.Cut.{Onward, onward-none, onward-byte}
 use Rattle.lines.proofs.field_on.Statement.{statement}
 use Rattle.lines.proofs.field_on.Tie as tie
 use Rattle.lines.proofs.field_on.Reads as reads

@@ -1,9 +1,9 @@
-use mathlib.Core.Path.{_≡_, sym, _∙_}
-use Prim.Native.Nat.{_<_, _≤_}
+use mathlib.Core.Path.{sym, _∙_}
+use Prim.Native.Nat.{_<_}
 use lib.ListN.{length}
 use native.Mathlib.Omega.{arith}
-use Rattle.lines.specs.Cut.{cut-end, cut-line, cut-tab, cut-byte}
-use Rattle.lines.specs.declared.Reading.the-variants.{Fresh, Letter, One, Two}
+use Rattle.lines.specs.Cut.{cut-end, cut-line, cut-tab}
+use Rattle.lines.specs.declared.Reading.the-variants.{Two}
 use borrow.Author.Needs.{needs}
 use Rattle.lines.proofs.two_on.Statement.{statement}
 use Rattle.lines.proofs.two_on.Tie as tie

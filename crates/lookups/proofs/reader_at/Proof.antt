@@ -1,5 +1,4 @@
-use mathlib.Core.Path.{_≡_, refl, sym, ap, _∙_}
-use borrow.Author.Tests.{eq-eqb, ne-eqb, lt-ltb, le-ltb, lt-leb, le-leb}
+use borrow.Author.Tests.{eq-eqb, ne-eqb}
 use Rattle.lookups.proofs.reader_at.Statement.{statement}
 use Rattle.lookups.proofs.reader_at.Tie as tie
 use Rattle.lookups.proofs.reader_at.Reads as reads

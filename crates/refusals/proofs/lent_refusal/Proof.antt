@@ -3,9 +3,7 @@ use Rattle.spec.specs.Register.{registerInRange}
 use Rattle.spec.specs.Pool.{lengthRight, poolInRange, nodes}
 use Rattle.laws.specs.Tests.{right-length}
 use mathlib.Core.Bool.{true, false, _&&_}
-use mathlib.Core.Path.{_≡_, refl, sym, ap, _∙_}
-use native.Mathlib.Omega.{arith}
-use borrow.Author.Tests.{eq-eqb, ne-eqb, lt-ltb, le-ltb, lt-leb, le-leb, not-true, not-false}
+use mathlib.Core.Path.{_≡_, sym, ap, _∙_}
 use borrow.Author.Needs.{needs}
 use Rattle.refusals.proofs.lent_refusal.Statement.{statement}
 use Rattle.refusals.proofs.lent_refusal.Tie as tie

@@ -4,9 +4,7 @@ use Rattle.base.specs.Walk.{allIn}
 use Rattle.spec.specs.Pool.{slots, allSlots}
 use Rattle.register.specs.Ranges.{stops, goes}
 use Rattle.spec.specs.Register.{registerInRange, readerInRange, storeInRange, mostStores}
-use mathlib.Core.Path.{_≡_, refl, sym, ap, _∙_}
-use native.Mathlib.Omega.{arith}
-use borrow.Author.Tests.{eq-eqb, ne-eqb, lt-ltb, le-ltb, lt-leb, le-leb, not-true, not-false}
+use mathlib.Core.Path.{_≡_, sym, _∙_}
 use borrow.Author.Needs.{needs}
 use Rattle.register.proofs.register_in_range.Statement.{statement}
 use Rattle.register.proofs.register_in_range.Tie as tie

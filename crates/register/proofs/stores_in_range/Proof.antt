@@ -1,9 +1,7 @@
 use Rattle.spec.specs.Register.{storeInRange, mostStores}
 use Rattle.base.specs.Walk.{allIn, all-bad, all-ok, all-end}
-use Prim.Native.Nat.{ℕ, _≤_, _+_, _-_}
-use mathlib.Core.Path.{_≡_, refl, sym, ap, _∙_}
-use native.Mathlib.Omega.{arith}
-use borrow.Author.Tests.{eq-eqb, ne-eqb, lt-ltb, le-ltb, lt-leb, le-leb, not-true, not-false}
+use Prim.Native.Nat.{_≤_, _-_}
+use mathlib.Core.Path.{_≡_, refl, sym, _∙_}
 use borrow.Author.Needs.{needs}
 use Rattle.register.proofs.stores_in_range.Statement.{statement}
 use Rattle.register.proofs.stores_in_range.Tie as tie

@@ -3,9 +3,8 @@ use Rattle.spec.specs.Register.{State}
 use Rattle.heads.specs.Head.{at, tells-missed, tells-made}
 use Rattle.spec.specs.Turn.{stepFinds, stepMade, replaceStore}
 use mathlib.Core.Bool.{true, false}
-use mathlib.Core.Path.{_≡_, refl, sym, ap, _∙_}
+use mathlib.Core.Path.{_≡_}
 use native.Mathlib.Omega.{arith}
-use borrow.Author.Tests.{eq-eqb, ne-eqb, lt-ltb, le-ltb, lt-leb, le-leb, not-true, not-false}
 use borrow.Author.Needs.{needs}
 use Rattle.removals.proofs.replace.Statement.{statement}
 use Rattle.removals.proofs.replace.Tie as tie

@@ -1,8 +1,6 @@
 use Rattle.heads.specs.Head.{withHead}
 use Rattle.spec.specs.Plan.{paintLoss}
-use mathlib.Core.Path.{_≡_, refl, sym, ap, _∙_}
-use native.Mathlib.Omega.{arith}
-use borrow.Author.Tests.{eq-eqb, ne-eqb, lt-ltb, le-ltb, lt-leb, le-leb, not-true, not-false}
+use mathlib.Core.Path.{refl, _∙_}
 use borrow.Author.Needs.{needs}
 use Rattle.removals.proofs.settle.Statement.{statement}
 use Rattle.removals.proofs.settle.Tie as tie

@@ -1,9 +1,7 @@
 use Rattle.spec.specs.Register.{State}
 use Rattle.spec.specs.Turn.{painted}
 use Rattle.spec.specs.Turn.{painted}
-use mathlib.Core.Path.{_≡_, refl, sym, ap, _∙_}
-use native.Mathlib.Omega.{arith}
-use borrow.Author.Tests.{eq-eqb, ne-eqb, lt-ltb, le-ltb, lt-leb, le-leb, not-true, not-false}
+use mathlib.Core.Path.{ap}
 use borrow.Author.Needs.{needs}
 use Rattle.rotations.proofs.raise.Statement.{statement}
 use Rattle.rotations.proofs.raise.Tie as tie

@@ -1,4 +1,4 @@
-use mathlib.Core.Path.{_≡_, refl, sym, ap, _∙_}
+use mathlib.Core.Path.{_∙_}
 use borrow.Author.Needs.{needs}
 use Rattle.rotations.proofs.take_copy.Statement.{statement}
 use Rattle.rotations.proofs.take_copy.Tie as tie

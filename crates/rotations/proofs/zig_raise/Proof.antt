@@ -1,15 +1,11 @@
 use Rattle.spec.specs.Register.{State}
 use Rattle.heads.specs.Head.{at, withHead, tells-missed, tells-made}
-use Rattle.spec.specs.Turn.{stepFinds, stepMade, diagLower, zigLowerA, zigLowerC, diagRaise, zigRaise, diagChild, zigChild}
-use Rattle.laws.specs.Turns.{no-node, no-free, takes-node, node-there, and-false}
-use Rattle.types.specs.declared.Step.the-variants.{DiagLower, DiagRaise, ZigLowerA, ZigLowerC, ZigRaise}
-use mathlib.Core.Bool.{true, false}
-use Rattle.spec.specs.Turn.{endZig}
+use Rattle.spec.specs.Turn.{stepFinds, stepMade, zigChild}
+use Rattle.types.specs.declared.Step.the-variants.{ZigRaise}
 use Rattle.spec.specs.Free.{retire}
-use Rattle.rotations.specs.Raises.{diag-raised, zig-raised}
-use mathlib.Core.Path.{_≡_, refl, sym, ap, _∙_}
-use native.Mathlib.Omega.{arith}
-use borrow.Author.Tests.{eq-eqb, ne-eqb, lt-ltb, le-ltb, lt-leb, le-leb, not-true, not-false}
+use Rattle.rotations.specs.Raises.{zig-raised}
+use mathlib.Core.Path.{_≡_, refl, _∙_}
+use borrow.Author.Tests.{eq-eqb, ne-eqb}
 use borrow.Author.Needs.{needs}
 use Rattle.rotations.proofs.zig_raise.Statement.{statement}
 use Rattle.rotations.proofs.zig_raise.Tie as tie

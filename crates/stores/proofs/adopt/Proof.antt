@@ -1,12 +1,11 @@
 use Rattle.spec.specs.Register.{State, linkNode}
-use Rattle.heads.specs.Head.{at, withHead, tells-missed, tells-made}
+use Rattle.heads.specs.Head.{at, tells-missed, tells-made}
 use Rattle.spec.specs.Pool.{child}
 use Rattle.spec.specs.Turn.{stepFinds, stepMade, adoptStore}
 use Rattle.types.specs.declared.Step.the-variants.{Adopt}
 use Rattle.types.specs.declared.Side.the-variants.{R}
-use mathlib.Core.Path.{_≡_, refl, sym, ap, _∙_}
-use native.Mathlib.Omega.{arith}
-use borrow.Author.Tests.{eq-eqb, ne-eqb, lt-ltb, le-ltb, lt-leb, le-leb, not-true, not-false}
+use mathlib.Core.Path.{_≡_, refl}
+use borrow.Author.Tests.{eq-eqb, ne-eqb}
 use borrow.Author.Needs.{needs}
 use Rattle.stores.proofs.adopt.Statement.{statement}
 use Rattle.stores.proofs.adopt.Tie as tie

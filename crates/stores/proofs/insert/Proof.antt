@@ -1,13 +1,11 @@
 use Rattle.spec.specs.Register.{State}
-use Rattle.heads.specs.Head.{at, withHead, tells-missed, tells-made}
+use Rattle.heads.specs.Head.{at, tells-missed}
 use Rattle.spec.specs.Pool.{isRed}
 use Rattle.types.specs.Side.{owner}
 use Rattle.types.specs.declared.Step.the-variants.{Insert}
-use Rattle.stores.specs.Inserted.{insert-empty, calm-found}
+use Rattle.stores.specs.Inserted.{insert-empty}
 use mathlib.Core.Bool.{true, false}
-use mathlib.Core.Path.{_≡_, refl, sym, ap, _∙_}
-use native.Mathlib.Omega.{arith}
-use borrow.Author.Tests.{eq-eqb, ne-eqb, lt-ltb, le-ltb, lt-leb, le-leb, not-true, not-false}
+use mathlib.Core.Path.{_≡_}
 use borrow.Author.Needs.{needs}
 use Rattle.stores.proofs.insert.Statement.{statement}
 use Rattle.stores.proofs.insert.Tie as tie

@@ -1,10 +1,8 @@
 use Rattle.spec.specs.Register.{State}
-use Rattle.heads.specs.Head.{at, withHead, tells-missed, tells-made}
+use Rattle.heads.specs.Head.{at, withHead, tells-made}
 use Rattle.types.specs.declared.Step.the-variants.{Insert}
 use Rattle.stores.specs.Inserted.{calm-found, calm-made}
-use mathlib.Core.Path.{_≡_, refl, sym, ap, _∙_}
-use native.Mathlib.Omega.{arith}
-use borrow.Author.Tests.{eq-eqb, ne-eqb, lt-ltb, le-ltb, lt-leb, le-leb, not-true, not-false}
+use mathlib.Core.Path.{refl}
 use borrow.Author.Needs.{needs}
 use Rattle.stores.proofs.insert_calm.Statement.{statement}
 use Rattle.stores.proofs.insert_calm.Tie as tie

@@ -5,9 +5,7 @@ use Rattle.spec.specs.Plan.{rise, paintRise, missing}
 use Rattle.types.specs.declared.Step.the-variants.{Insert}
 use Rattle.stores.specs.Inserted.{climb-missing, climb-found, climb-made}
 use mathlib.Core.Bool.{true, false}
-use mathlib.Core.Path.{_≡_, refl, sym, ap, _∙_}
-use native.Mathlib.Omega.{arith}
-use borrow.Author.Tests.{eq-eqb, ne-eqb, lt-ltb, le-ltb, lt-leb, le-leb, not-true, not-false}
+use mathlib.Core.Path.{_≡_, refl, sym, _∙_}
 use borrow.Author.Needs.{needs}
 use Rattle.stores.proofs.insert_climbing.Statement.{statement}
 use Rattle.stores.proofs.insert_climbing.Tie as tie

@@ -1,8 +1,6 @@
 use Rattle.spec.specs.Register.{withHeld}
 use Rattle.spec.specs.Turn.{oneMore}
-use mathlib.Core.Path.{_≡_, refl, sym, ap, _∙_}
-use native.Mathlib.Omega.{arith}
-use borrow.Author.Tests.{eq-eqb, ne-eqb, lt-ltb, le-ltb, lt-leb, le-leb, not-true, not-false}
+use mathlib.Core.Path.{ap, _∙_}
 use borrow.Author.Needs.{needs}
 use Rattle.stores.proofs.link_new.Statement.{statement}
 use Rattle.stores.proofs.link_new.Tie as tie

@@ -6,10 +6,9 @@ use Rattle.types.specs.declared.Step.the-variants.{Publish}
 use Rattle.laws.specs.Turns.{no-node, no-free, takes-node}
 use Rattle.spec.specs.Turn.{stepFinds, stepMade}
 use Rattle.spec.specs.Free.{queueEmpty, retire}
-use Rattle.spec.specs.Register.{State, linkNode}
-use borrow.Author.Tests.{eq-eqb, ne-eqb, lt-ltb, le-ltb, lt-leb, le-leb, not-true, not-false}
+use Rattle.spec.specs.Register.{linkNode}
 use native.Mathlib.Omega.{arith}
-use mathlib.Core.Path.{_≡_, refl, sym, ap, _∙_}
+use mathlib.Core.Path.{_≡_, sym, _∙_}
 use borrow.Author.Needs.{needs}
 use Rattle.stores.proofs.publish.Statement.{statement}
 use Rattle.stores.proofs.publish.Tie as tie

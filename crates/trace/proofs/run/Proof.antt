@@ -1,7 +1,6 @@
 use Prim.Native.Nat.{_≤_}
 use mathlib.Core.Path.{_≡_, refl, _∙_}
 use lib.ListN.{length}
-use borrow.Author.Needs.{needs}
 use Rattle.lines.specs.Text.{room}
 use Rattle.session.specs.Steps.{Sound, workLeft, at-least, at-most, falls}
 use Rattle.trace.proofs.run.Statement.{statement}

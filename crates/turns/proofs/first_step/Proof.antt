@@ -1,4 +1,4 @@
-use mathlib.Core.Path.{_≡_, refl, sym, ap, _∙_}
+use mathlib.Core.Path.{sym}
 use Rattle.heads.specs.Head.{headOf}
 use Rattle.spec.specs.Register.{storeOf}
 use Rattle.turns.specs.Made.{TriesAny}

@@ -2,9 +2,7 @@ use Rattle.spec.specs.Register.{withWrite}
 use Rattle.heads.specs.Head.{tells-missed}
 use Rattle.spec.specs.Turn.{stepFinds}
 use Rattle.types.specs.declared.Step.the-variants.{Vacant}
-use mathlib.Core.Path.{_≡_, refl, sym, ap, _∙_}
-use native.Mathlib.Omega.{arith}
-use borrow.Author.Tests.{eq-eqb, ne-eqb, lt-ltb, le-ltb, lt-leb, le-leb, not-true, not-false}
+use mathlib.Core.Path.{refl}
 use borrow.Author.Needs.{needs}
 use Rattle.turns.proofs.try_step.Statement.{statement}
 use Rattle.turns.proofs.try_step.Tie as tie
