@@ -17,6 +17,7 @@ pub struct Call {
     pub kind: u32,
     pub slot: u32,
     pub ticket: u32,
+    pub key: u32,
     pub record: u32,
 }
 
@@ -55,7 +56,7 @@ fn mood_at(i: u64, nodes: u32) -> Mood {
 }
 
 // how many different keys a run draws from
-pub fn tickets(nodes: u32) -> u32 {
+fn tickets(nodes: u32) -> u32 {
     if nodes < 1024 {
         nodes + nodes / 2
     } else {
@@ -64,7 +65,7 @@ pub fn tickets(nodes: u32) -> u32 {
 }
 
 // The key of a ticket: spread over all 32-bit numbers, 0 the first and 4,294,967,295 the last.
-pub fn key_of(t: u32, tickets: u32) -> u32 {
+fn key_of(t: u32, tickets: u32) -> u32 {
     if t < tickets {
         if t == tickets - 1 {
             return 4_294_967_295;
@@ -118,11 +119,12 @@ fn kind_of(c: u32, m: Mood) -> u32 {
 pub fn draw_call(x: u32, i: u64, nodes: u32) -> Call {
     let first = next(x);
     let second = next(first);
-    let third = next(second);
+    let ticket = high(next(second), tickets(nodes));
     Call {
         kind: kind_of(high(first, 64), mood_at(i, nodes)),
         slot: slot_of(high(second, 256)),
-        ticket: high(third, tickets(nodes)),
+        ticket,
+        key: key_of(ticket, tickets(nodes)),
         record: second,
     }
 }

@@ -1,6 +1,7 @@
 // Long random runs of the index beside a plain sequential red-black tree (crate reference) and document 01's plain list (model): after every
 // finished write both trees are walked together, every lookup's answer is held against its moments, and of every call it is foretold
 // whether it is refused, of a writer's turn whether it answers more, done or wait.
+mod calls;
 mod draws;
 mod model;
 mod print;
@@ -10,73 +11,127 @@ mod walk;
 mod writing;
 
 use draws::Call;
-use types::Register;
 
 // the words of 1,023 nodes
 const POOL_WORDS: usize = 8184;
 
-// one call of the index, compared
-fn make_call(
-    pool: &mut [u32],
-    reg: Register,
+// What a call is compared by: the free nodes and the row of the store in hand before it, its answer, and the register's numbers after it.
+struct Said {
+    free_before: u32,
+    row: usize,
+    number: u32,
+    record: u32,
+    root: u32,
+    free: u32,
+    held: u32,
+    awaited: u32,
+}
+
+fn compare_answer(
+    pool: &[u32],
     tree: &mut [u32],
     model: &mut [u32],
     counts: &mut [u64],
     call: Call,
-) -> Register {
+    said: Said,
+) {
     if call.kind == draws::INSERT {
-        return writing::insert(pool, reg, tree, model, counts, call);
+        let nodes = walk::nodes(pool);
+        writing::insert(
+            nodes,
+            tree,
+            model,
+            counts,
+            call,
+            said.free_before,
+            said.number,
+        );
+        return;
     }
     if call.kind == draws::DELETE {
-        return writing::delete(pool, reg, tree, model, counts, call);
+        writing::delete(tree, model, counts, call, said.free_before, said.number);
+        return;
     }
     if call.kind == draws::WRITER_TURN {
-        return writing::writer_turn(pool, reg, tree, model, counts);
+        writing::writer_turn(pool, said.root, tree, model, counts, said.row, said.number);
+        return;
     }
     if call.kind == draws::BEGIN {
-        return reading::begin(pool, reg, model, counts, call);
+        reading::begin(model, counts, call, said.number);
+        return;
     }
     if call.kind == draws::READER_TURN {
-        return reading::reader_turn(pool, reg, model, counts, call.slot);
+        reading::reader_turn(model, counts, call.slot, said.number, said.record);
+        return;
     }
-    reading::give_up(pool, reg, model, counts, call.slot)
+    reading::give_up(model, counts, call.slot, said.number);
 }
 
 // What holds after every call: keys held, free nodes and awaited slots; and a moment of every lookup passes.
-fn compare_state(pool: &[u32], reg: Register, model: &mut [u32], counts: &mut [u64]) {
+fn compare_state(pool: &[u32], model: &mut [u32], counts: &mut [u64], said: Said) {
     let room = model::observe(model);
-    let held = reg.held == model::held(model);
-    let free = reg.free == walk::free_nodes(pool);
-    let awaited = reg.awaited == model::awaited(model);
+    let held = said.held == model::held(model);
+    let free = said.free == walk::free_nodes(pool);
+    let awaited = said.awaited == model::awaited(model);
     tally::same(counts, room & held & free & awaited);
     tally::one(counts, tally::STATES);
+}
+
+fn compare(
+    pool: &[u32],
+    tree: &mut [u32],
+    model: &mut [u32],
+    counts: &mut [u64],
+    call: Call,
+    said: Said,
+) {
+    compare_answer(pool, tree, model, counts, call, said);
+    tally::one(counts, call.kind as usize);
+    compare_state(pool, model, counts, said);
 }
 
 fn greater(a: u32, b: u32) -> u32 {
     if a < b { b } else { a }
 }
 
-fn compared_call(
+// Calls drawn from a seed, on an index just set up, each compared. Answers the most keys held.
+fn make_calls(
     pool: &mut [u32],
-    reg: Register,
     tree: &mut [u32],
     model: &mut [u32],
     counts: &mut [u64],
-    call: Call,
-) -> Register {
-    let after = make_call(pool, reg, tree, model, counts, call);
-    tally::one(counts, call.kind as usize);
-    compare_state(pool, after, model, counts);
-    after
+    calls: u64,
+    seed: u32,
+) -> u32 {
+    let nodes = walk::nodes(pool);
+    let mut made = calls::set_up(pool);
+    writing::set_up(counts, made.number);
+    let mut most: u32 = 0;
+    let mut x = seed;
+    let mut i: u64 = 0;
+    while i < calls {
+        let call = draws::draw_call(x, i, nodes);
+        let reg = made.register;
+        let row = writing::step_row(calls::step_in_hand(reg));
+        made = calls::call_index(pool, reg, call);
+        let said = Said {
+            free_before: reg.free,
+            row,
+            number: made.number,
+            record: made.record,
+            root: made.register.root,
+            free: made.register.free,
+            held: made.register.held,
+            awaited: made.register.awaited,
+        };
+        compare(pool, tree, model, counts, call, said);
+        most = greater(most, said.held);
+        x = draws::after_call(x);
+        i += 1;
+    }
+    most
 }
 
-fn set_up(pool: &mut [u32], tree: &mut [u32], model: &mut [u32], counts: &mut [u64]) -> Register {
-    reference::clear(tree);
-    model::clear(model);
-    writing::set_up(pool, blank::register(), counts)
-}
-
-// calls drawn from a seed, on an index just set up
 fn run(
     pool: &mut [u32],
     tree: &mut [u32],
@@ -85,20 +140,11 @@ fn run(
     calls: u64,
     seed: u32,
 ) {
-    let nodes = walk::nodes(pool);
-    let mut reg = set_up(pool, tree, model, counts);
-    let mut most: u32 = 0;
-    let mut x = seed;
-    let mut i: u64 = 0;
-    while i < calls {
-        let call = draws::draw_call(x, i, nodes);
-        reg = compared_call(pool, reg, tree, model, counts, call);
-        most = greater(most, reg.held);
-        x = draws::after_call(x);
-        i += 1;
-    }
+    reference::clear(tree);
+    model::clear(model);
+    let most = make_calls(pool, tree, model, counts, calls, seed);
     tally::same(counts, reference::overruns(tree) == 0);
-    print::run(nodes, calls, most);
+    print::run(walk::nodes(pool), calls, most);
 }
 
 // a run on the first so many nodes of the words lent

@@ -1,12 +1,9 @@
 // The readers' calls, each beside the plain list.
-use crate::draws;
+use crate::calls;
 use crate::draws::Call;
 use crate::model;
 use crate::tally;
-use crate::walk;
 use crate::writing;
-use types::ReaderAnswer;
-use types::Register;
 
 fn begin_foretold(model: &[u32], s: u32) -> u32 {
     if 7 < s {
@@ -15,7 +12,7 @@ fn begin_foretold(model: &[u32], s: u32) -> u32 {
     if model::reading(model, s) {
         return 4;
     }
-    writing::ACCEPTED
+    calls::ACCEPTED
 }
 
 // of a reader's turn and of a give up
@@ -24,29 +21,18 @@ fn slot_foretold(model: &[u32], s: u32) -> u32 {
         return 3;
     }
     if model::reading(model, s) {
-        return writing::ACCEPTED;
+        return calls::ACCEPTED;
     }
     5
 }
 
-pub fn begin(
-    pool: &[u32],
-    reg: Register,
-    model: &mut [u32],
-    counts: &mut [u64],
-    call: Call,
-) -> Register {
-    let key = draws::key_of(call.ticket, draws::tickets(walk::nodes(pool)));
+pub fn begin(model: &mut [u32], counts: &mut [u64], call: Call, number: u32) {
     let foretold = begin_foretold(model, call.slot);
-    let reply = index::begin(pool, reg, call.slot, key);
-    let answer = reply.answer;
-    writing::answered(counts, writing::acceptance_number(answer), foretold);
-    let after = reply.register;
-    if foretold == writing::ACCEPTED {
+    writing::answered(counts, number, foretold);
+    if foretold == calls::ACCEPTED {
         model::begin_lookup(model, call.slot, call.ticket);
         tally::one(counts, tally::BEGUN);
     }
-    after
 }
 
 // An answer is right if it was so at one of the lookup's moments; it is counted as an older one if it isn't so at the last.
@@ -74,55 +60,39 @@ fn absent(model: &mut [u32], counts: &mut [u64], s: u32) {
 }
 
 // The list stays in a reader's turn, so the moment after it is like the last one seen.
-fn follow_turn(model: &mut [u32], counts: &mut [u64], s: u32, answer: ReaderAnswer) {
-    match answer {
-        ReaderAnswer::Go => tally::one(counts, tally::GO),
-        ReaderAnswer::Found(v) => found(model, counts, s, v),
-        ReaderAnswer::Absent => absent(model, counts, s),
-        ReaderAnswer::Refused(_) => {}
+fn follow_turn(model: &mut [u32], counts: &mut [u64], s: u32, number: u32, record: u32) {
+    if number == calls::GO {
+        tally::one(counts, tally::GO);
+        return;
+    }
+    if number == calls::FOUND {
+        found(model, counts, s, record);
+        return;
+    }
+    if number == calls::ABSENT {
+        absent(model, counts, s);
     }
 }
 
-fn turn_number(a: ReaderAnswer) -> u32 {
-    match a {
-        ReaderAnswer::Go => writing::ACCEPTED,
-        ReaderAnswer::Found(_) => writing::ACCEPTED,
-        ReaderAnswer::Absent => writing::ACCEPTED,
-        ReaderAnswer::Refused(n) => n,
+fn turn_number(number: u32) -> u32 {
+    if calls::GO <= number {
+        calls::ACCEPTED
+    } else {
+        number
     }
 }
 
-pub fn reader_turn(
-    pool: &mut [u32],
-    reg: Register,
-    model: &mut [u32],
-    counts: &mut [u64],
-    s: u32,
-) -> Register {
+pub fn reader_turn(model: &mut [u32], counts: &mut [u64], s: u32, number: u32, record: u32) {
     let foretold = slot_foretold(model, s);
-    let reply = index::reader_turn(pool, reg, s);
-    let answer = reply.answer;
-    let after = reply.register;
-    writing::answered(counts, turn_number(answer), foretold);
-    follow_turn(model, counts, s, answer);
-    after
+    writing::answered(counts, turn_number(number), foretold);
+    follow_turn(model, counts, s, number, record);
 }
 
-pub fn give_up(
-    pool: &mut [u32],
-    reg: Register,
-    model: &mut [u32],
-    counts: &mut [u64],
-    s: u32,
-) -> Register {
+pub fn give_up(model: &mut [u32], counts: &mut [u64], s: u32, number: u32) {
     let foretold = slot_foretold(model, s);
-    let reply = index::give_up(pool, reg, s);
-    let answer = reply.answer;
-    let after = reply.register;
-    writing::answered(counts, writing::acceptance_number(answer), foretold);
-    if foretold == writing::ACCEPTED {
+    writing::answered(counts, number, foretold);
+    if foretold == calls::ACCEPTED {
         model::end_lookup(model, s);
         tally::one(counts, tally::GIVEN_UP);
     }
-    after
 }

@@ -1,41 +1,13 @@
 // The writer's calls, each beside the reference tree and the plain list.
-use crate::draws;
+use crate::calls;
 use crate::draws::Call;
 use crate::model;
 use crate::tally;
 use crate::walk;
-use types::Acceptance;
-use types::Register;
 use types::Rule;
 use types::Side;
 use types::Step;
-use types::WriterAnswer;
 ghost use Prim.Native.Nat.{_<_};
-
-// Answers as numbers: a refusal is its number, accepted is 0.
-pub const ACCEPTED: u32 = 0;
-
-const MORE: u32 = 101;
-
-const DONE: u32 = 102;
-
-const WAIT: u32 = 103;
-
-pub fn acceptance_number(a: Acceptance) -> u32 {
-    match a {
-        Acceptance::Accepted => ACCEPTED,
-        Acceptance::Refused(n) => n,
-    }
-}
-
-fn writer_number(a: WriterAnswer) -> u32 {
-    match a {
-        WriterAnswer::More(_, _) => MORE,
-        WriterAnswer::Done(_, _) => DONE,
-        WriterAnswer::Wait => WAIT,
-        WriterAnswer::Refused(n) => n,
-    }
-}
 
 fn count_refusal(counts: &mut [u64], number: u32) {
     if (0 < number) & (number < 13) {
@@ -50,13 +22,9 @@ pub fn answered(counts: &mut [u64], number: u32, foretold: u32) {
     tally::one(counts, tally::ANSWERS);
 }
 
-pub fn set_up(pool: &mut [u32], reg: Register, counts: &mut [u64]) -> Register {
-    let reply = index::set_up(pool, reg);
-    let answer = reply.answer;
-    answered(counts, acceptance_number(answer), ACCEPTED);
+pub fn set_up(counts: &mut [u64], number: u32) {
+    answered(counts, number, calls::ACCEPTED);
     tally::one(counts, tally::CALLS);
-    let after = reply.register;
-    after
 }
 
 // the stores of the last write's rotations: two for a single one, three for a double one
@@ -73,61 +41,58 @@ fn delete_stores(form: u32) -> u32
     if form == 1 { 1 } else { 2 }
 }
 
-fn insert_foretold(pool: &[u32], reg: Register, tree: &mut [u32], model: &[u32], key: u32) -> u32 {
+fn insert_foretold(nodes: u32, tree: &mut [u32], model: &[u32], key: u32, free: u32) -> u32 {
     if model::kind_in_hand(model) != model::NONE {
         return 6;
     }
     if reference::find(tree, key) != reference::NIL {
         return 8;
     }
-    if walk::nodes(pool) <= reference::held(tree) % 4096 + 4 {
+    if nodes <= reference::held(tree) % 4096 + 4 {
         return 10;
     }
-    if reg.free < 3 {
+    if free < 3 {
         return 11;
     }
-    ACCEPTED
+    calls::ACCEPTED
 }
 
 // takes an accepted insert in hand
-fn begin_insert(tree: &mut [u32], model: &mut [u32], counts: &mut [u64], key: u32, call: Call) {
-    reference::insert(tree, key, call.record);
+fn begin_insert(tree: &mut [u32], model: &mut [u32], counts: &mut [u64], call: Call) {
+    reference::insert(tree, call.key, call.record);
     model::take_in_hand(model, model::INSERT, call.ticket, call.record);
     model::plan_stores(model, 0, 1 + rotation_stores(tree));
     tally::one(counts, tally::ACCEPTED + 1);
 }
 
+// free: the free nodes before the call
 pub fn insert(
-    pool: &[u32],
-    reg: Register,
+    nodes: u32,
     tree: &mut [u32],
     model: &mut [u32],
     counts: &mut [u64],
     call: Call,
-) -> Register {
-    let key = draws::key_of(call.ticket, draws::tickets(walk::nodes(pool)));
-    let foretold = insert_foretold(pool, reg, tree, model, key);
-    let reply = index::insert(pool, reg, key, call.record);
-    let answer = reply.answer;
-    answered(counts, acceptance_number(answer), foretold);
-    let after = reply.register;
-    if foretold == ACCEPTED {
-        begin_insert(tree, model, counts, key, call);
+    free: u32,
+    number: u32,
+) {
+    let foretold = insert_foretold(nodes, tree, model, call.key, free);
+    answered(counts, number, foretold);
+    if foretold == calls::ACCEPTED {
+        begin_insert(tree, model, counts, call);
     }
-    after
 }
 
-fn delete_foretold(reg: Register, tree: &mut [u32], model: &[u32], key: u32) -> u32 {
+fn delete_foretold(tree: &mut [u32], model: &[u32], key: u32, free: u32) -> u32 {
     if model::kind_in_hand(model) != model::NONE {
         return 6;
     }
     if reference::find(tree, key) == reference::NIL {
         return 9;
     }
-    if reg.free < 4 {
+    if free < 4 {
         return 11;
     }
-    ACCEPTED
+    calls::ACCEPTED
 }
 
 // takes an accepted delete in hand
@@ -140,23 +105,18 @@ fn begin_delete(tree: &mut [u32], model: &mut [u32], counts: &mut [u64], key: u3
 }
 
 pub fn delete(
-    pool: &[u32],
-    reg: Register,
     tree: &mut [u32],
     model: &mut [u32],
     counts: &mut [u64],
     call: Call,
-) -> Register {
-    let key = draws::key_of(call.ticket, draws::tickets(walk::nodes(pool)));
-    let foretold = delete_foretold(reg, tree, model, key);
-    let reply = index::delete(pool, reg, key);
-    let answer = reply.answer;
-    answered(counts, acceptance_number(answer), foretold);
-    let after = reply.register;
-    if foretold == ACCEPTED {
-        begin_delete(tree, model, counts, key, call.ticket);
+    free: u32,
+    number: u32,
+) {
+    let foretold = delete_foretold(tree, model, call.key, free);
+    answered(counts, number, foretold);
+    if foretold == calls::ACCEPTED {
+        begin_delete(tree, model, counts, call.key, call.ticket);
     }
-    after
 }
 
 fn turn_foretold(model: &[u32]) -> u32 {
@@ -164,12 +124,12 @@ fn turn_foretold(model: &[u32]) -> u32 {
         return 7;
     }
     if model::awaited(model) != 0 {
-        return WAIT;
+        return calls::WAIT;
     }
     if model::last_is_next(model) {
-        return DONE;
+        return calls::DONE;
     }
-    MORE
+    calls::MORE
 }
 
 fn rule_column(rule: Rule) -> usize
@@ -198,11 +158,8 @@ fn rotation_row(step: usize, side: Side, rule: Rule) -> usize
     tally::ROTATIONS + step * 6 + rule_column(rule) + side_column(side)
 }
 
-// the row of the store in hand
-fn step_row(reg: Register) -> usize {
-    let hand = reg.write;
-    let first = hand.stores[0];
-    let step = first.step;
+// the row of a store
+pub fn step_row(step: Step) -> usize {
     match step {
         Step::Vacant => tally::STEPS + 6,
         Step::Insert(_, _) => tally::STEPS,
@@ -247,43 +204,39 @@ fn follow_turn(
     counts: &mut [u64],
     number: u32,
 ) {
-    if number == MORE {
+    if number == calls::MORE {
         tally::one(counts, tally::MORE);
         model::store_made(model);
         return;
     }
-    if number == DONE {
+    if number == calls::DONE {
         tally::one(counts, tally::DONE);
         model::store_made(model);
         finish_write(pool, root, tree, model, counts);
         return;
     }
-    if number == WAIT {
+    if number == calls::WAIT {
         tally::one(counts, tally::WAIT);
     }
 }
 
 fn count_step(counts: &mut [u64], number: u32, row: usize) {
-    if (number == MORE) | (number == DONE) {
+    if (number == calls::MORE) | (number == calls::DONE) {
         tally::one(counts, row);
     }
 }
 
 pub fn writer_turn(
-    pool: &mut [u32],
-    reg: Register,
+    pool: &[u32],
+    root: u32,
     tree: &[u32],
     model: &mut [u32],
     counts: &mut [u64],
-) -> Register {
-    let row = step_row(reg);
+    row: usize,
+    number: u32,
+) {
     let foretold = turn_foretold(model);
-    let reply = index::writer_turn(pool, reg);
-    let answer = reply.answer;
-    let number = writer_number(answer);
-    let after = reply.register;
     answered(counts, number, foretold);
     count_step(counts, number, row);
-    follow_turn(pool, after.root, tree, model, counts, number);
-    after
+    follow_turn(pool, root, tree, model, counts, number);
 }

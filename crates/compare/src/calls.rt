@@ -1,0 +1,144 @@
+// The index's calls: the register goes from one to the next, and all else of an answer is numbers.
+use crate::draws;
+use crate::draws::Call;
+use types::Acceptance;
+use types::ReaderAnswer;
+use types::ReaderReply;
+use types::Register;
+use types::Reply;
+use types::Step;
+use types::WriterAnswer;
+use types::WriterReply;
+
+// Answers as numbers: a refusal is its number, accepted is 0.
+pub const ACCEPTED: u32 = 0;
+
+pub const MORE: u32 = 101;
+
+pub const DONE: u32 = 102;
+
+pub const WAIT: u32 = 103;
+
+pub const GO: u32 = 104;
+
+pub const FOUND: u32 = 105;
+
+pub const ABSENT: u32 = 106;
+
+// A call made: the register after it, its answer's number, and the record of found.
+pub struct Made {
+    pub register: Register,
+    pub number: u32,
+    pub record: u32,
+}
+
+fn acceptance_number(a: Acceptance) -> u32 {
+    match a {
+        Acceptance::Accepted => ACCEPTED,
+        Acceptance::Refused(n) => n,
+    }
+}
+
+fn writer_number(a: WriterAnswer) -> u32 {
+    match a {
+        WriterAnswer::More(_, _) => MORE,
+        WriterAnswer::Done(_, _) => DONE,
+        WriterAnswer::Wait => WAIT,
+        WriterAnswer::Refused(n) => n,
+    }
+}
+
+fn reader_number(a: ReaderAnswer) -> u32 {
+    match a {
+        ReaderAnswer::Go => GO,
+        ReaderAnswer::Found(_) => FOUND,
+        ReaderAnswer::Absent => ABSENT,
+        ReaderAnswer::Refused(n) => n,
+    }
+}
+
+fn record_found(a: ReaderAnswer) -> u32 {
+    match a {
+        ReaderAnswer::Go => 0,
+        ReaderAnswer::Found(v) => v,
+        ReaderAnswer::Absent => 0,
+        ReaderAnswer::Refused(_) => 0,
+    }
+}
+
+fn accepted(reply: Reply) -> Made {
+    let answer = reply.answer;
+    let register = reply.register;
+    Made {
+        register,
+        number: acceptance_number(answer),
+        record: 0,
+    }
+}
+
+fn written(reply: WriterReply) -> Made {
+    let answer = reply.answer;
+    let register = reply.register;
+    Made {
+        register,
+        number: writer_number(answer),
+        record: 0,
+    }
+}
+
+fn read(reply: ReaderReply) -> Made {
+    let answer = reply.answer;
+    let register = reply.register;
+    Made {
+        register,
+        number: reader_number(answer),
+        record: record_found(answer),
+    }
+}
+
+pub fn set_up(pool: &mut [u32]) -> Made {
+    accepted(index::set_up(pool, fresh::fresh_register(0)))
+}
+
+// the calls that are accepted or refused
+fn ask(pool: &mut [u32], reg: Register, call: Call) -> Reply {
+    if call.kind == draws::INSERT {
+        return index::insert(pool, reg, call.key, call.record);
+    }
+    if call.kind == draws::DELETE {
+        return index::delete(pool, reg, call.key);
+    }
+    if call.kind == draws::BEGIN {
+        return index::begin(pool, reg, call.slot, call.key);
+    }
+    index::give_up(pool, reg, call.slot)
+}
+
+fn asked(pool: &mut [u32], reg: Register, call: Call) -> Made {
+    accepted(ask(pool, reg, call))
+}
+
+fn writer_turn(pool: &mut [u32], reg: Register) -> Made {
+    written(index::writer_turn(pool, reg))
+}
+
+fn reader_turn(pool: &mut [u32], reg: Register, s: u32) -> Made {
+    read(index::reader_turn(pool, reg, s))
+}
+
+pub fn call_index(pool: &mut [u32], reg: Register, call: Call) -> Made {
+    if call.kind == draws::WRITER_TURN {
+        return writer_turn(pool, reg);
+    }
+    if call.kind == draws::READER_TURN {
+        return reader_turn(pool, reg, call.slot);
+    }
+    asked(pool, reg, call)
+}
+
+// the step of the store in hand
+pub fn step_in_hand(reg: Register) -> Step {
+    let hand = reg.write;
+    let first = hand.stores[0];
+    first.step
+}
