@@ -1,4 +1,4 @@
-// The lines of the program trace: a command read a byte at a time, and the text of an answer.
+// The lines of the program trace: a command read field by field, and the text of an answer.
 use types::Acceptance;
 use types::Link;
 use types::ReaderAnswer;
