@@ -59,6 +59,7 @@ pub fn less_first(w: Write) -> Write
     r
 }
 
+// whether the step x is a publish
 fn publishes(x: Step) -> bool
     ensures { λ r. ⌜ r ≡ publishes x ⌝ }
 {
@@ -126,8 +127,7 @@ fn first_step(pool: &mut [u32], reg: Register) -> Turned
 }
 
 // A turn with a write in hand and no awaited slot makes the first store. A publish puts a copy in the place of a node b, and the stores
-// to come move to the copy. (With two calls of first_step the compiler keeps it apart and the register whole: it is copied, not taken to
-// pieces.)
+// to come move to the copy. Why first_step is called in two places: docs/DECISIONS.md, 46.
 pub fn make_first(pool: &mut [u32], reg: Register) -> WriterReply
     requires { ⌜ (lentNumber (state (now pool) reg) ≡ 0) × (writeInHand (state (now pool) reg) ≡ true) × (reg .awaited ≡ 0) ⌝ }
     ensures { λ r. ⌜ writerSays (r .answer) ≡ writerTurn (state (now (pool .entry)) reg) .answer ⌝ }
