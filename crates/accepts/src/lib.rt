@@ -1,13 +1,13 @@
 // Insert and delete after the tests of the search: the last tests, and the plan as the write in hand.
-use types::Acceptance;
-use types::Link;
-use types::Register;
-use types::Reply;
-use types::Write;
+use datatypes::Acceptance;
+use datatypes::Link;
+use datatypes::Register;
+use datatypes::Reply;
+use datatypes::Write;
 ghost use mathlib.Core.Path.{_≡_};
 ghost use mathlib.Core.Bool.{false};
 ghost use Prim.Native.Nat.{ℕ, _<_, _≤_};
-ghost use Rattle.types.specs.declared.Place.the-variants.{Held, Empty};
+ghost use Rattle.datatypes.specs.declared.Place.the-variants.{Held, Empty};
 ghost use Rattle.spec.specs.Register.{state, withWrite};
 ghost use Rattle.laws.specs.Tests.{lentNumber};
 ghost use Rattle.spec.specs.Calls.{ok, refused, accepts, placeOf, writeInHand, insert, delete};
@@ -45,8 +45,8 @@ pub fn insert_at(pool: &[u32], reg: Register, k: u32, v: u32, l: Link) -> Reply
     ensures { λ r. ⌜ accepts (r .answer) ≡ insert (state (now (pool .entry)) reg) k v .answer ⌝ }
     ensures { λ r. ⌜ state (now (pool .entry)) (r .register) ≡ insert (state (now (pool .entry)) reg) k v .after ⌝ }
 {
-    let top = pool::nodes(pool);
-    if top as u64 <= reg.held as u64 + RESERVE {
+    let capacity = pool::nodes(pool);
+    if capacity as u64 <= reg.held as u64 + RESERVE {
         return refused(10, reg);
     }
     if reg.free < FREE_FOR_INSERT {

@@ -12,7 +12,7 @@ use Rattle.spec.specs.Calls.{Answer, absent, found, Call, turning, call}
 use Rattle.spec.specs.PlainList.{Ticket, recordFor}
 use Rattle.promise.specs.Run.{callAt, indexAfter, ticketsAfter, Lookup}
 use Rattle.promise.specs.Demands.{Going, answerOf, Reaches}
-use Rattle.joined.specs.Theorem.{promise}
+use Rattle.theorem.specs.Theorem.{promise}
 
 -- what a call answers
 abbrev pub answerTo : State → Call → Answer

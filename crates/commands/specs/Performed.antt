@@ -7,7 +7,7 @@ use borrow.Author.Tests.{ltb-true}
 use mathlib.Core.List.{List, [], _∷_}
 use lib.Dec.{ltb}
 use lib.ListN.{take}
-use Rattle.types.specs.declared.Register.{Register}
+use Rattle.datatypes.specs.declared.Register.{Register}
 use Rattle.spec.specs.Register.{State, state}
 use Rattle.spec.specs.Calls.{
   Answer,

@@ -1,10 +1,10 @@
 // The commands of the program trace, each run on the words lent.
+use datatypes::ReaderReply;
+use datatypes::Register;
+use datatypes::Reply;
+use datatypes::WriterReply;
 use lines::Command;
 use lines::Said;
-use types::ReaderReply;
-use types::Register;
-use types::Reply;
-use types::WriterReply;
 ghost use mathlib.Core.Path.{_≡_};
 ghost use mathlib.Core.List.{_++_};
 ghost use Prim.Native.Nat.{_≤_};

@@ -1,14 +1,14 @@
 // The index's calls: the register goes from one to the next, and all else of an answer is numbers.
 use crate::draws;
 use crate::draws::Call;
-use types::Acceptance;
-use types::ReaderAnswer;
-use types::ReaderReply;
-use types::Register;
-use types::Reply;
-use types::Step;
-use types::WriterAnswer;
-use types::WriterReply;
+use datatypes::Acceptance;
+use datatypes::ReaderAnswer;
+use datatypes::ReaderReply;
+use datatypes::Register;
+use datatypes::Reply;
+use datatypes::Step;
+use datatypes::WriterAnswer;
+use datatypes::WriterReply;
 
 // Answers as numbers: a refusal is its number, accepted is 0.
 pub const ACCEPTED: u32 = 0;

@@ -37,10 +37,10 @@ pub fn nodes(pool: &[u32]) -> u32 {
 
 // how many nodes stand free
 pub fn free_nodes(pool: &[u32]) -> u32 {
-    let top = nodes(pool);
+    let capacity = nodes(pool);
     let mut free: u32 = 0;
     let mut n: u32 = 0;
-    while n < top {
+    while n < capacity {
         if word(pool, n + 1, STANDING) == 0 {
             free += 1;
         }

@@ -4,9 +4,9 @@ use crate::draws::Call;
 use crate::model;
 use crate::tally;
 use crate::walk;
-use types::Rule;
-use types::Side;
-use types::Step;
+use datatypes::Purpose;
+use datatypes::Side;
+use datatypes::Step;
 ghost use Prim.Native.Nat.{_<_};
 
 fn count_refusal(counts: &mut [u64], number: u32) {
@@ -132,13 +132,13 @@ fn turn_foretold(model: &[u32]) -> u32 {
     calls::MORE
 }
 
-fn rule_column(rule: Rule) -> usize
+fn purpose_column(purpose: Purpose) -> usize
     ensures { λ r. ⌜ r < 5 ⌝ }
 {
-    match rule {
-        Rule::Grow => 0,
-        Rule::Pass => 2,
-        Rule::Borrow => 4,
+    match purpose {
+        Purpose::ForInsert => 0,
+        Purpose::RedSibling => 2,
+        Purpose::BlackSibling => 4,
     }
 }
 
@@ -152,10 +152,10 @@ fn side_column(side: Side) -> usize
 }
 
 // the row of a rotation's step in the counts: six a step, by rule and side
-fn rotation_row(step: usize, side: Side, rule: Rule) -> usize
+fn rotation_row(step: usize, side: Side, purpose: Purpose) -> usize
     requires { ⌜ step < 5 ⌝ }
 {
-    tally::ROTATIONS + step * 6 + rule_column(rule) + side_column(side)
+    tally::ROTATIONS + step * 6 + purpose_column(purpose) + side_column(side)
 }
 
 // the row of a store
@@ -163,11 +163,11 @@ pub fn step_row(step: Step) -> usize {
     match step {
         Step::Vacant => tally::STEPS + 6,
         Step::Insert(_, _) => tally::STEPS,
-        Step::DiagLower(side, rule) => rotation_row(0, side, rule),
-        Step::DiagRaise(side, rule) => rotation_row(1, side, rule),
-        Step::ZigLowerA(side, rule) => rotation_row(2, side, rule),
-        Step::ZigLowerC(side, rule) => rotation_row(3, side, rule),
-        Step::ZigRaise(side, rule) => rotation_row(4, side, rule),
+        Step::DiagLower(side, purpose) => rotation_row(0, side, purpose),
+        Step::DiagRaise(side, purpose) => rotation_row(1, side, purpose),
+        Step::ZigLowerA(side, purpose) => rotation_row(2, side, purpose),
+        Step::ZigLowerC(side, purpose) => rotation_row(3, side, purpose),
+        Step::ZigRaise(side, purpose) => rotation_row(4, side, purpose),
         Step::Unlink => tally::STEPS + 1,
         Step::Adopt => tally::STEPS + 2,
         Step::Replace => tally::STEPS + 3,

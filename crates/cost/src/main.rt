@@ -7,11 +7,11 @@
 // MODE: 1,000 times, 0: the pool is put back, 1: and the call is made. SLOT: the slot of a reader's call, 0 or 1; in a writer's turn 1: slot 1
 // reads, so that a node let go is retired, 0: none does.
 // Writes a sum over the free counts after the calls (in mode 0, before them), or 0 where no write came to the wanted turn.
+use datatypes::Link;
+use datatypes::Register;
+use datatypes::Step;
+use datatypes::Store;
 use libc::STDOUT_FILENO;
-use types::Link;
-use types::Register;
-use types::Step;
-use types::Store;
 ghost use mathlib.Core.Path.{_≡_};
 ghost use Prim.Native.Nat.{ℕ, _<_, _≤_};
 ghost use lib.ListN.{length};

@@ -4,12 +4,12 @@ use mathlib.Core.Path.{_≡_, refl, sym, _∙_}
 use mathlib.Core.List.{List}
 use mathlib.Core.Bool.{true, false, false≢true}
 use Prim.Native.Nat.{ℕ}
-use Rattle.types.specs.declared.Head.{Head}
-use Rattle.types.specs.declared.Register.{Register}
-use Rattle.types.specs.declared.Turned.{Turned}
-use Rattle.types.specs.declared.Link.{Link}
-use Rattle.types.specs.declared.Link.the-variants.{Root}
-use Rattle.types.specs.declared.Step.{Step}
+use Rattle.datatypes.specs.declared.Head.{Head}
+use Rattle.datatypes.specs.declared.Register.{Register}
+use Rattle.datatypes.specs.declared.StepResult.{StepResult}
+use Rattle.datatypes.specs.declared.Link.{Link}
+use Rattle.datatypes.specs.declared.Link.the-variants.{Root}
+use Rattle.datatypes.specs.declared.Step.{Step}
 use Rattle.spec.specs.Register.{State, state, readingSlots}
 use Rattle.spec.specs.Turn.{Made, made, stepFinds, stepMade}
 
@@ -38,28 +38,28 @@ abbrev pub FollowsReading : ℕ → (State → State) → List ℕ → Head → 
 FollowsReading m f p h p′ h′ = (q : Register) → readingSlots q ≡ m → at p′ h′ q ≡ f (at p h q)
 
 -- What the answer of a tried step leaves, with the pool and the rest of the register.
-abbrev pub left : List ℕ → Turned → Register → Made
+abbrev pub left : List ℕ → StepResult → Register → Made
 left p t q = made (at p (t .head) q) (t .link) (t .node)
 
 -- The answer t, with the pool p and the rest q that it leaves, is that of the step x tried on st: made if it finds every node that it
 -- names, and with the pool as it was otherwise.
-abbrev pub Tells : State → Link → Step → List ℕ → Turned → Register → Type 0
+abbrev pub Tells : State → Link → Step → List ℕ → StepResult → Register → Type 0
 Tells st l x p t q = (t .found ≡ stepFinds st l x) × (t .found ≡ true → left p t q ≡ stepMade st l x) × (t .found ≡ false → p ≡ st .pool)
 
-abbrev pub Tries : Link → Step → List ℕ → Head → List ℕ → Turned → Type 0
+abbrev pub Tries : Link → Step → List ℕ → Head → List ℕ → StepResult → Type 0
 Tries l x p h p′ t = (q : Register) → Tells (at p h q) l x p′ t q
 
-abbrev pub TriesReading : ℕ → Link → Step → List ℕ → Head → List ℕ → Turned → Type 0
+abbrev pub TriesReading : ℕ → Link → Step → List ℕ → Head → List ℕ → StepResult → Type 0
 TriesReading m l x p h p′ t = (q : Register) → readingSlots q ≡ m → Tells (at p h q) l x p′ t q
 
 -- The answer of a step that misses a node, and of one that finds all.
-abbrev pub missedBy : Head → Turned
+abbrev pub missedBy : Head → StepResult
 missedBy h = record { found = false; link = Root; node = 0; head = h }
 
 module _ (p : List ℕ) (h : Head) (l : Link) (x : Step) (q : Register) where
-  pub tells-missed : (t : Turned) → stepFinds (at p h q) l x ≡ false → t ≡ missedBy h → Tells (at p h q) l x p t q
+  pub tells-missed : (t : StepResult) → stepFinds (at p h q) l x ≡ false → t ≡ missedBy h → Tells (at p h q) l x p t q
   tells-missed t e m = rw m (sym e, λ f. absurd (false≢true f), λ f. refl)
 
-  pub tells-made : (p′ : List ℕ) (t : Turned) → stepFinds (at p h q) l x ≡ true → t .found ≡ true → left p′ t q ≡ stepMade (at p h q) l x
+  pub tells-made : (p′ : List ℕ) (t : StepResult) → stepFinds (at p h q) l x ≡ true → t .found ≡ true → left p′ t q ≡ stepMade (at p h q) l x
       → Tells (at p h q) l x p′ t q
   tells-made p′ t e f m = (f ∙ sym e, λ g. m, λ g. absurd (false≢true (sym g ∙ f)))

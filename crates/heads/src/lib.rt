@@ -1,8 +1,8 @@
 // The register's head: taken out of a register and put into it, and the store of a link, which is the root's or a word of the pool.
-use types::Head;
-use types::Link;
-use types::Register;
-use types::Turned;
+use datatypes::Head;
+use datatypes::Link;
+use datatypes::Register;
+use datatypes::StepResult;
 ghost use mathlib.Core.Path.{_≡_};
 ghost use Rattle.spec.specs.Register.{setLink};
 ghost use Rattle.heads.specs.Head.{headOf, withHead, Follows, missedBy};
@@ -34,10 +34,10 @@ pub fn with_head(reg: Register, h: Head) -> Register
 }
 
 // the answer of a step that names a node where there is none
-pub fn missed(head: Head) -> Turned
+pub fn missed(head: Head) -> StepResult
     ensures { λ r. ⌜ r ≡ missedBy head ⌝ }
 {
-    Turned {
+    StepResult {
         found: false,
         link: Link::Root,
         node: 0,

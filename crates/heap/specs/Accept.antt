@@ -7,20 +7,20 @@ use mathlib.Core.List.{List, [], _∷_, _++_}
 use mathlib.Core.Option.{Option, none, some}
 use lib.ListN.{length}
 use native.Mathlib.Omega.{arith}
-use Rattle.types.specs.declared.Side.{Side}
-use Rattle.types.specs.declared.Side.the-variants.{R}
-use Rattle.types.specs.declared.Link.{Link}
-use Rattle.types.specs.declared.Form.{Form}
-use Rattle.types.specs.declared.Form.the-variants.{Diag, Zig}
-use Rattle.types.specs.declared.Rule.{Rule}
-use Rattle.types.specs.declared.Rule.the-variants.{Borrow}
-use Rattle.types.specs.declared.Place.{Place}
-use Rattle.types.specs.declared.Store.{Store}
-use Rattle.types.specs.Side.{other, linkAt}
+use Rattle.datatypes.specs.declared.Side.{Side}
+use Rattle.datatypes.specs.declared.Side.the-variants.{R}
+use Rattle.datatypes.specs.declared.Link.{Link}
+use Rattle.datatypes.specs.declared.Form.{Form}
+use Rattle.datatypes.specs.declared.Form.the-variants.{Diag, Zig}
+use Rattle.datatypes.specs.declared.Purpose.{Purpose}
+use Rattle.datatypes.specs.declared.Purpose.the-variants.{BlackSibling}
+use Rattle.datatypes.specs.declared.Place.{Place}
+use Rattle.datatypes.specs.declared.Store.{Store}
+use Rattle.datatypes.specs.Side.{other, linkAt}
 use Rattle.spec.specs.Pool.{freshNodes, freshPool}
 use Rattle.spec.specs.Register.{State, mostStores, writeOf, freshRegister, fresh}
 use Rattle.spec.specs.Plan.{Plan, turnStores, endingStores}
-use Rattle.spec.specs.Calls.{accepted, placeOf, insertAt, deleteAt, isHeld, tooDeep}
+use Rattle.spec.specs.Calls.{acceptedPlan, placeOf, insertAt, deleteAt, isHeld, tooDeep}
 use Rattle.sequential.specs.Tree.{Colour, red, black, Tree, colourOf}
 use Rattle.sequential.specs.Insert as SeqInsert
 use Rattle.sequential.specs.Delete as SeqDelete
@@ -28,46 +28,46 @@ use Rattle.tree.specs.Changes.{proper-leaf}
 use Rattle.tree.specs.Linked.{copy, Linked, nil, find}
 use Rattle.tree.specs.Zipper.{Frame, hole}
 use Rattle.tree.specs.Erase.{erase, eraseWay}
-use Rattle.tree.specs.Rise as Rise
-use Rattle.tree.specs.Rise.{RiseEnd, calm, rotate, rootRed}
-use Rattle.tree.specs.Sink.{noLoan, loan, SinkEnd, darken, borrowed, passed}
+use Rattle.tree.specs.InsertFixup as InsertFixup
+use Rattle.tree.specs.InsertFixup.{InsertFixupEnd, balanced, rotate, rootRed}
+use Rattle.tree.specs.DeleteFixup.{noNephew, nephew, DeleteFixupEnd, darken, blackSiblingOf, passed}
 use Rattle.heap.specs.Sites.{linkTo}
 use Rattle.heap.specs.Colours.{colours}
-use Rattle.heap.specs.Climbs.{formOf, numOf, pairsUp, riseEnding, framesUp, tip, sinkEnding}
-use Rattle.heap.specs.SinkRun.{sinkOf}
-use Rattle.heap.specs.Phase.{Follow, byGrow, byBorrow, byPass, followStores, lossEnding, standIn, Phases, at-rest, diag-0, diag-1, zig-0, zig-1, zig-2, insert-0, unlink-0, adopt-0, replace-0, publish-0, detach-0}
+use Rattle.heap.specs.Fixups.{formOf, numOf, pairsUp, insertFixupEnding, framesUp, tip, deleteFixupEnding}
+use Rattle.heap.specs.DeleteFixupRun.{deleteFixupOf}
+use Rattle.heap.specs.Phase.{Follow, forInsert, onBlackSibling, onRedSibling, followStores, removalEnding, standIn, Phases, at-rest, diag-0, diag-1, zig-0, zig-1, zig-2, insert-0, unlink-0, adopt-0, replace-0, publish-0, detach-0}
 use Rattle.heap.specs.Plans.{Rest, Placed, empty-at, held-at, placed, Planned, insert-planned}
 use Rattle.heap.specs.DeletePlans.{delete-planned}
 use Rattle.heap.specs.Writes.{InHand, with-root, with-write}
 
 -- The stores to come are at most seven.
-turn-room : (f : Form) (l : Link) (s : Side) (c : Rule) → length (turnStores f l s c) ≤ 3
+turn-room : (f : Form) (l : Link) (s : Side) (c : Purpose) → length (turnStores f l s c) ≤ 3
 turn-room Diag l s c = omega arith
 turn-room Zig l s c = omega arith
 
-grow-room : (e : RiseEnd) (fs : List Frame) → length (endingStores (riseEnding e fs)) ≤ 3
-grow-room calm fs = omega arith
-grow-room (rotate b z) fs = turn-room (formOf b) _ _ _
-grow-room rootRed fs = omega arith
+forInsert-room : (e : InsertFixupEnd) (fs : List Frame) → length (endingStores (insertFixupEnding e fs)) ≤ 3
+forInsert-room balanced fs = omega arith
+forInsert-room (rotate b z) fs = turn-room (formOf b) _ _ _
+forInsert-room rootRed fs = omega arith
 
-loss-room : (e : SinkEnd) (c : Colour) (fs : List Frame) → length (endingStores (sinkEnding e c fs)) ≤ 5
-loss-room darken red fs = omega arith
-loss-room darken black fs = omega arith
-loss-room (borrowed b) c [] = omega arith
-loss-room (borrowed b) c (hole s N y ∷ fs) = let a = turn-room (formOf b) (linkTo fs) (other s) Borrow in omega arith
-loss-room (passed o) c [] = omega arith
-loss-room (passed noLoan) c (hole s N y ∷ fs) = omega arith
-loss-room (passed (loan b)) c (hole s N y ∷ fs) = let a = turn-room (formOf b) (linkAt s (numOf y)) (other s) Borrow in omega arith
+removal-room : (e : DeleteFixupEnd) (c : Colour) (fs : List Frame) → length (endingStores (deleteFixupEnding e c fs)) ≤ 5
+removal-room darken red fs = omega arith
+removal-room darken black fs = omega arith
+removal-room (blackSiblingOf b) c [] = omega arith
+removal-room (blackSiblingOf b) c (hole s N y ∷ fs) = let a = turn-room (formOf b) (linkTo fs) (other s) BlackSibling in omega arith
+removal-room (passed o) c [] = omega arith
+removal-room (passed noNephew) c (hole s N y ∷ fs) = omega arith
+removal-room (passed (nephew b)) c (hole s N y ∷ fs) = let a = turn-room (formOf b) (linkAt s (numOf y)) (other s) BlackSibling in omega arith
 
 follow-room : (w : Follow) (s : Side) (b : ℕ) → length (followStores w s b) ≤ 3
-follow-room byGrow s b = omega arith
-follow-room byBorrow s b = omega arith
-follow-room (byPass noLoan) s b = omega arith
-follow-room (byPass (loan o)) s b = turn-room (formOf o) _ _ _
+follow-room forInsert s b = omega arith
+follow-room onBlackSibling s b = omega arith
+follow-room (onRedSibling noNephew) s b = omega arith
+follow-room (onRedSibling (nephew o)) s b = turn-room (formOf o) _ _ _
 
-lost-room : (d : Colour) (f : ℕ → Colour) (c : Colour) (fs : List Frame) → length (endingStores (lossEnding d f c fs)) ≤ 5
+lost-room : (d : Colour) (f : ℕ → Colour) (c : Colour) (fs : List Frame) → length (endingStores (removalEnding d f c fs)) ≤ 5
 lost-room red f c fs = omega arith
-lost-room black f c fs = loss-room (sinkOf f c fs .end) (tip f c (sinkOf f c fs .levels) fs) (framesUp (sinkOf f c fs .levels) fs)
+lost-room black f c fs = removal-room (deleteFixupOf f c fs .end) (tip f c (deleteFixupOf f c fs .levels) fs) (framesUp (deleteFixupOf f c fs .levels) fs)
 
 pub phase-room : {p : List ℕ} {root : ℕ} {f : ℕ → Colour} {G : Tree} {T : Linked} {l : List Store} → Phases p root f G T l → length l ≤ mostStores
 phase-room (at-rest T h s e) = omega arith
@@ -76,7 +76,7 @@ phase-room (diag-1 w fs s B C n o x r h i z c g d e) = let a = follow-room w s (
 phase-room (zig-0 w fs s A B C b x y r h i g e) = omega arith
 phase-room (zig-1 w fs s A B C m b x y r h i z c g e) = omega arith
 phase-room (zig-2 w fs s A B C m n b x y r h i z u d c k g e) = omega arith
-phase-room {f = f} (insert-0 k v fs h s i e) = let a = grow-room (Rise.rise (eraseWay f fs) .end) (pairsUp (Rise.rise (eraseWay f fs) .levels) fs) in omega arith
+phase-room {f = f} (insert-0 k v fs h s i e) = let a = forInsert-room (InsertFixup.insertFixup (eraseWay f fs) .end) (pairsUp (InsertFixup.insertFixup (eraseWay f fs) .levels) fs) in omega arith
 phase-room {f = f} (unlink-0 fs s B x h i g e) = let a = lost-room (f (B .num)) f (colourOf (erase f x)) fs in omega arith
 phase-room {f = f} (adopt-0 fs B C l y h i g d e) = let a = lost-room (f (C .num)) f (colourOf (erase f y)) (hole R (standIn B C) l ∷ fs) in omega arith
 phase-room {f = f} (replace-0 fs B C l y h i g d e) = let a = lost-room (f (C .num)) f (colourOf (erase f y)) (hole R (standIn B C) l ∷ fs) in omega arith
@@ -84,7 +84,7 @@ phase-room {f = f} (publish-0 fs gs B C l y al h i g d e) = let a = lost-room (f
 phase-room {f = f} (detach-0 fs gs B C n l y al sh h t i k z c g e) = let a = lost-room (f (C .num)) f (colourOf (erase f y)) (gs ++ (hole R (copy C n) l ∷ fs)) in omega arith
 
 -- an accepted write is in hand
-pub accepted-in-hand : (st : State) (G : Tree) (T : Linked) (w : Plan) → Rest st T → Planned st G T w → InHand (accepted st w .after) G T (w .stores)
+pub accepted-in-hand : (st : State) (G : Tree) (T : Linked) (w : Plan) → Rest st T → Planned st G T w → InHand (acceptedPlan st w .after) G T (w .stores)
 accepted-in-hand st G T w h i = record {
   phase = rw (with-root (st .register) (writeOf (w .stores))) (i .phase);
   write = with-write (st .register) (writeOf (w .stores));
@@ -137,10 +137,10 @@ fresh-length zero n = refl
 fresh-length (suc zero) n = refl
 fresh-length (suc (suc k)) n = let a = fresh-length (suc k) (n + 1) in omega arith
 
-pub fresh-rest : (top : ℕ) → top ≤ 1023 → Rest (fresh top) nil
+pub fresh-rest : (capacity : ℕ) → capacity ≤ 1023 → Rest (fresh capacity) nil
 unfolding fresh freshRegister freshPool
-fresh-rest top h = record {
+fresh-rest capacity h = record {
   rep = refl;
   sound = record { once = λ i. omega arith; proper = proper-leaf };
-  small = let a = fresh-length top 1 in omega arith;
+  small = let a = fresh-length capacity 1 in omega arith;
 }

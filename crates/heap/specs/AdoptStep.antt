@@ -4,9 +4,9 @@ use mathlib.Core.Path.{_≡_, refl, fun-ext}
 use mathlib.Core.Bool.{true}
 use mathlib.Core.List.{List, [], _∷_}
 use native.Mathlib.Omega.{arith}
-use Rattle.types.specs.declared.Side.the-variants.{L, R}
-use Rattle.types.specs.declared.Link.the-variants.{Left}
-use Rattle.types.specs.declared.Step.the-variants.{Adopt, Replace}
+use Rattle.datatypes.specs.declared.Side.the-variants.{L, R}
+use Rattle.datatypes.specs.declared.Link.the-variants.{Left}
+use Rattle.datatypes.specs.declared.Step.the-variants.{Adopt, Replace}
 use Rattle.spec.specs.Pool.{child}
 use Rattle.spec.specs.Register.{State, setLink}
 use Rattle.spec.specs.Plan.{store, endingStores}
@@ -26,9 +26,9 @@ use Rattle.heap.specs.Moves.{At}
 use Rattle.heap.specs.Lowers.{is-node, Top, top-of, near-down, far-down, below-is}
 use Rattle.heap.specs.Raises.{Raised, raised-link}
 use Rattle.heap.specs.Parts.{unchanged, copied}
-use Rattle.heap.specs.Phase.{lossEnding, standIn, Sound, replace-0}
+use Rattle.heap.specs.Phase.{removalEnding, standIn, Sound, replace-0}
 use Rattle.heap.specs.Shift.{by-adopt, Next}
-use Rattle.heap.specs.LossClimb.{rep-num}
+use Rattle.heap.specs.RemovalFixup.{rep-num}
 
 pub form-count : (fs : List Frame) (B C : Node) (l x y : Linked) (i : ℕ)
     → occ i (nodes (plug fs (at L B l (at L C x y)))) ≡ one i (B .num) + occ i (nodes l) + (one i (C .num) + occ i (nodes x) + occ i (nodes y)) + occWay i fs
@@ -47,18 +47,18 @@ module _ (st : State) (G : Tree) (fs : List Frame) (B C : Node) (l y : Linked) (
   abbrev n : ℕ
   n = child (st .pool) L (B .num)
 
-  top : Top st fs L B l (at L C nil y)
-  top = top-of st fs L B l (at L C nil y) h
+  capacity : Top st fs L B l (at L C nil y)
+  capacity = top-of st fs L B l (at L C nil y) h
 
   low : Top st (hole R B l ∷ fs) L C nil y
   low = top-of st (hole R B l ∷ fs) L C nil y (far-down st fs L B l (at L C nil y) h)
 
   c-is : child (st .pool) R (B .num) ≡ C .num
-  c-is = below-is st R L (B .num) C nil y (top .far)
+  c-is = below-is st R L (B .num) C nil y (capacity .far)
 
   adopt-is : adoptStore st (linkTo fs) ≡ made (setLink st (Left (C .num)) n) (Left (C .num)) n
   unfolding adoptStore
-  adopt-is = rw (top .is, c-is)
+  adopt-is = rw (capacity .is, c-is)
 
   raised : Raised st (setLink st (Left (C .num)) n) (hole L C y ∷ hole R B l ∷ fs) l
   raised =
@@ -66,10 +66,10 @@ module _ (st : State) (G : Tree) (fs : List Frame) (B C : Node) (l y : Linked) (
       let b = form-count fs B C l nil y (C .num) in
       let c = one-same (C .num) in
       raised-link st (hole L C y ∷ hole R B l ∷ fs) nil l n (omega arith, omega arith, omega arith)
-      (near-down st (hole R B l ∷ fs) L C nil y (far-down st fs L B l (at L C nil y) h)) (top .near)
+      (near-down st (hole R B l ∷ fs) L C nil y (far-down st fs L B l (at L C nil y) h)) (capacity .near)
 
   pub adopt-0-next : Next st G (plug fs (form₀ L B C l y)) (adoptStore st (linkTo fs)) Adopt
-      (store (linkTo fs) Replace ∷ endingStores (lossEnding (f (C .num)) f (colourOf (erase f y)) (hole R (standIn B C) l ∷ fs)))
+      (store (linkTo fs) Replace ∷ endingStores (removalEnding (f (C .num)) f (colourOf (erase f y)) (hole R (standIn B C) l ∷ fs)))
   adopt-0-next =
       let after = setLink st (Left (C .num)) n in
       let e : colours (after .pool) ≡ f = fun-ext (colours-link st (Left (C .num)) n) in
@@ -77,7 +77,7 @@ module _ (st : State) (G : Tree) (fs : List Frame) (B C : Node) (l y : Linked) (
       rw adopt-is record {
         tree = plug fs (form₁ L B C l y);
         gone = [];
-        shift = rw (rep-num (st .pool) n l (top .near)) (by-adopt fs B C l y (ordered-bare f _ (plug fs (form₀ L B C l y)) (good .proper .ordered)) (good .once));
+        shift = rw (rep-num (st .pool) n l (capacity .near)) (by-adopt fs B C l y (ordered-bare f _ (plug fs (form₀ L B C l y)) (good .proper .ordered)) (good .once));
         phase = rw e (replace-0 fs B C l y site good proper deletes goal);
         parts = copied st st _ (Left (C .num)) n [] unchanged refl;
         size = raised .size;
@@ -87,4 +87,4 @@ module _ (st : State) (G : Tree) (fs : List Frame) (B C : Node) (l y : Linked) (
 
   pub adopt-0-finds : stepFinds st (linkTo fs) Adopt ≡ true
   unfolding stepFinds
-  adopt-0-finds = rw (top .is, c-is, is-node (C .num) (low .words .within .low))
+  adopt-0-finds = rw (capacity .is, c-is, is-node (C .num) (low .words .within .low))

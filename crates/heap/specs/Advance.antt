@@ -3,8 +3,8 @@ use Prim.Native.Nat.{ℕ}
 use mathlib.Core.Path.{_≡_, refl}
 use mathlib.Core.Bool.{true}
 use mathlib.Core.List.{List, _∷_}
-use Rattle.types.specs.declared.Side.{Side}
-use Rattle.types.specs.declared.Store.{Store}
+use Rattle.datatypes.specs.declared.Side.{Side}
+use Rattle.datatypes.specs.declared.Store.{Store}
 use Rattle.spec.specs.Register.{State}
 use Rattle.spec.specs.Turn.{stepFinds, stepMade, endDiagFinds}
 use Rattle.sequential.specs.Tree.{Tree}
@@ -15,9 +15,9 @@ use Rattle.tree.specs.Rotations.{diag₁}
 use Rattle.heap.specs.Colours.{colours}
 use Rattle.heap.specs.Moves.{At, Once}
 use Rattle.heap.specs.Lowers.{diag-lower-finds, zig-lower-A-finds, zig-lower-C-finds}
-use Rattle.heap.specs.Raises.{diag-raise-finds, pass-finds, borrow-finds}
+use Rattle.heap.specs.Raises.{diag-raise-finds, pass-finds, blackSibling-finds}
 use Rattle.heap.specs.ZigRaises.{zig-raise-finds}
-use Rattle.heap.specs.Phase.{Follow, byGrow, byBorrow, byPass, ruleOf, DiagNeeds, zigRule, Phase, diag-0, diag-1, zig-0, zig-1, zig-2, insert-0, unlink-0, adopt-0, replace-0, publish-0, detach-0}
+use Rattle.heap.specs.Phase.{Follow, forInsert, onBlackSibling, onRedSibling, purposeOf, DiagNeeds, zigPurpose, Phase, diag-0, diag-1, zig-0, zig-1, zig-2, insert-0, unlink-0, adopt-0, replace-0, publish-0, detach-0}
 use Rattle.heap.specs.Shift.{takenBy, Ready, later, Next}
 use Rattle.heap.specs.TurnSteps.{diag-0-next, zig-0-next, zig-1-next}
 use Rattle.heap.specs.RaiseSteps.{diag-1-next, zig-2-next}
@@ -30,10 +30,10 @@ use Rattle.heap.specs.PublishStep.{publish-0-next, publish-0-finds}
 use Rattle.heap.specs.DetachStep.{detach-0-next, detach-0-finds}
 
 needs-find : (w : Follow) (st : State) (fs : List Frame) (s : Side) (B C : Node) (n : ℕ) (o x r : Linked) → At st fs (diag₁ s B C n o x r) → Once (plug fs (at s C (at s B o x) r))
-    → occ n (nodes (plug fs (at s C (at s B o x) r))) ≡ 0 → DiagNeeds w (colours (st .pool)) s o x → endDiagFinds (ruleOf w) st s (B .num) ≡ true
-needs-find byGrow st fs s B C n o x r h once old d = refl
-needs-find byBorrow st fs s B C n o x r h once old d = borrow-finds st fs s B C n o x r h once old d
-needs-find (byPass l) st fs s B C n o x r h once old d = pass-finds st fs s B C n o x r h once old (d .0)
+    → occ n (nodes (plug fs (at s C (at s B o x) r))) ≡ 0 → DiagNeeds w (colours (st .pool)) s o x → endDiagFinds (purposeOf w) st s (B .num) ≡ true
+needs-find forInsert st fs s B C n o x r h once old d = refl
+needs-find onBlackSibling st fs s B C n o x r h once old d = blackSibling-finds st fs s B C n o x r h once old d
+needs-find (onRedSibling l) st fs s B C n o x r h once old d = pass-finds st fs s B C n o x r h once old (d .0)
 
 -- what a turn makes of a phase's first store
 pub record Advanced (st : State) (G : Tree) (T : Linked) (x : Store) (l : List Store) : Type 0 where
@@ -44,23 +44,23 @@ pub advance : (st : State) (G : Tree) {T : Linked} {x : Store} {l : List Store} 
     → Ready st T (takenBy (x .step) (st .register .first)) → Advanced st G T x l
 unfolding stepMade
 advance st G (diag-0 w fs s B C o x r h i g d e) small ready = record {
-  finds = diag-lower-finds st fs s (ruleOf w) B C o x r h (i .once) ready;
+  finds = diag-lower-finds st fs s (purposeOf w) B C o x r h (i .once) ready;
   next = diag-0-next st G fs s w B C o x r h i g d e ready;
 }
 advance st G (diag-1 w fs s B C n o x r h i z c g d e) small ready = record {
-  finds = diag-raise-finds st fs s B C n o x r h (i .once) z (ruleOf w) (needs-find w st fs s B C n o x r h (i .once) z d);
+  finds = diag-raise-finds st fs s B C n o x r h (i .once) z (purposeOf w) (needs-find w st fs s B C n o x r h (i .once) z d);
   next = diag-1-next st G fs s B C n o w x r h i z c g d e;
 }
 advance st G (zig-0 w fs s A B C a x y r h i g e) small ready = record {
-  finds = zig-lower-A-finds st fs s (zigRule w) A B C a x y r h (i .once) ready;
+  finds = zig-lower-A-finds st fs s (zigPurpose w) A B C a x y r h (i .once) ready;
   next = zig-0-next st G fs s w A B C a x y r h i g e ready;
 }
 advance st G (zig-1 w fs s A B C m a x y r h i z c g e) small ready = record {
-  finds = zig-lower-C-finds st fs s (zigRule w) A B C m a x y r h (i .once) z ready;
+  finds = zig-lower-C-finds st fs s (zigPurpose w) A B C m a x y r h (i .once) z ready;
   next = zig-1-next st G fs s w A B C m a x y r h i z c g e ready;
 }
 advance st G (zig-2 w fs s A B C m n a x y r h i z u d c k g e) small ready = record {
-  finds = zig-raise-finds st fs s A B C m n a x y r h (i .once) z u (zigRule w);
+  finds = zig-raise-finds st fs s A B C m n a x y r h (i .once) z u (zigPurpose w);
   next = zig-2-next st G fs s A B C m n a x y r w h i z u d c k g e;
 }
 advance st G (insert-0 k v fs h s i e) small ready = record {

@@ -6,11 +6,11 @@ use mathlib.Core.Bool.{Bool, true, false}
 use mathlib.Core.List.{List, [], _∷_}
 use lib.Dec.{eqb}
 use native.Mathlib.Omega.{arith}
-use Rattle.types.specs.declared.Link.{Link}
-use Rattle.types.specs.declared.Link.the-variants.{Root, Left, Right}
+use Rattle.datatypes.specs.declared.Link.{Link}
+use Rattle.datatypes.specs.declared.Link.the-variants.{Root, Left, Right}
 use Rattle.spec.specs.Pool.{word, setWord, isRed, paint, colourWord, redColour, leftWord, rightWord}
 use Rattle.spec.specs.Register.{State, setLink}
-use Rattle.laws.specs.Words.{Node as Within, word-same, word-other, word-none, set-none}
+use Rattle.laws.specs.Words.{InPool, word-same, word-other, word-none, set-none}
 use Rattle.sequential.specs.Tree as Seq
 use Rattle.sequential.specs.Tree.{Colour, red, black, colourOf}
 use Rattle.tree.specs.Linked.{Linked, nil, cell, nodes}
@@ -75,7 +75,7 @@ paint-none p c = set-none p colourWord c
 pub paint-other : (p : List ℕ) (n c m : ℕ) → n ≢ m → colours (paint p n c) m ≡ colours p m
 paint-other p n c m d = colours-word p (paint p n c) m (word-other p n m colourWord colourWord c (omega arith) (omega arith) (inl d))
 
-pub paint-same : (p : List ℕ) (n c : ℕ) → Within p n → colours (paint p n c) n ≡ hue c
+pub paint-same : (p : List ℕ) (n c : ℕ) → InPool p n → colours (paint p n c) n ≡ hue c
 paint-same p n c w = colours-is (paint p n c) n c (word-same p n colourWord c w (omega arith))
 
 -- The coloured tree depends on the colours of its nodes alone.

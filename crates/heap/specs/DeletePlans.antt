@@ -8,14 +8,14 @@ use lib.ListN.{length, length-append}
 use lib.Dec.{eqb}
 use borrow.Author.Tests.{ne-eqb, eq-eqb}
 use native.Mathlib.Omega.{arith}
-use Rattle.types.specs.declared.Side.{Side}
-use Rattle.types.specs.declared.Side.the-variants.{L, R}
-use Rattle.types.specs.declared.Step.the-variants.{Adopt, Replace, Publish, Detach}
-use Rattle.types.specs.Side.{other, linkAt}
+use Rattle.datatypes.specs.declared.Side.{Side}
+use Rattle.datatypes.specs.declared.Side.the-variants.{L, R}
+use Rattle.datatypes.specs.declared.Step.the-variants.{Adopt, Replace, Publish, Detach}
+use Rattle.datatypes.specs.Side.{other, linkAt}
 use Rattle.spec.specs.Pool.{child, isRed}
 use Rattle.spec.specs.Register.{State}
 use Rattle.spec.specs.Search.{pathTo}
-use Rattle.spec.specs.Plan.{plan, store, missing, lossClimb, twoChildren, successorPath, unlinkPlan, deletePlan}
+use Rattle.spec.specs.Plan.{plan, store, missing, fixupAfterRemoval, twoChildren, successorPath, unlinkPlan, deletePlan}
 use Rattle.sequential.specs.Tree.{Colour, black, colourOf}
 use Rattle.sequential.specs.Delete as SeqDelete
 use Rattle.sequential.specs.Delete.{lose, deletion}
@@ -25,22 +25,22 @@ use Rattle.tree.specs.LinkedOrder.{ordered-bare, into-top}
 use Rattle.tree.specs.Zipper.{Frame, hole, plug, plug-append, Into, Along}
 use Rattle.tree.specs.Erase.{erase, eraseWay, erase-at, erase-plug}
 use Rattle.tree.specs.Forms.{delete-first, delete-other}
-use Rattle.tree.specs.Ways.{first-sinks, other-sinks}
-use Rattle.tree.specs.Sink.{Sinks}
+use Rattle.tree.specs.Ways.{first-deleteFixup, other-deleteFixup}
+use Rattle.tree.specs.DeleteFixup.{DeleteFixups}
 use Rattle.tree.specs.Successor.{third₀}
 use Rattle.heap.specs.Rep.{Rep}
 use Rattle.heap.specs.Sites.{linkTo, links}
 use Rattle.heap.specs.Colours.{redly, colours, red-tree}
 use Rattle.heap.specs.Paths.{path-to, successor-path}
-use Rattle.heap.specs.Climbs.{Sides, way-sides}
+use Rattle.heap.specs.Fixups.{Sides, way-sides}
 use Rattle.heap.specs.Moves.{At}
 use Rattle.heap.specs.Lowers.{Top, top-of, far-down}
-use Rattle.heap.specs.Phase.{lossEnding, standIn, unlink-0, adopt-0, publish-0}
+use Rattle.heap.specs.Phase.{removalEnding, standIn, unlink-0, adopt-0, publish-0}
 use Rattle.heap.specs.Inserts.{way-short, once-way}
 use Rattle.heap.specs.UnlinkStep.{only-is}
-use Rattle.heap.specs.LossClimb.{loss-there}
+use Rattle.heap.specs.RemovalFixup.{removal-there}
 use Rattle.heap.specs.Rename.{site-append, way-append}
-use Rattle.heap.specs.Plans.{Rest, rest-at, Planned, loss-ending}
+use Rattle.heap.specs.Plans.{Rest, rest-at, Planned, removal-ending}
 
 and-no : (b : Bool) → (b && false) ≡ false
 and-no true = refl
@@ -71,19 +71,19 @@ module _ (st : State) (fs : List Frame) (s : Side) (B : Node) (x : Linked) (h : 
       let p = st .pool in
       let root = st .register .root in
       let site = rest-at h fs (at s B x nil) refl in
-      let top = top-of st fs s B x nil site in
+      let capacity = top-of st fs s B x nil site in
       let l = way-short p root fs (at s B x nil) (h .small) site (h .sound) in
       let into = into-top fs s B x nil (ordered-bare f _ T (h .sound .proper .ordered)) in
       let path = path-to p root (B .key) fs into (once-way fs (at s B x nil) (h .sound .once)) (omega arith) (site .way) in
       let c = colourOf (erase f x) in
-      let is-red = red-tree p (child p s (B .num)) x (top .near) in
+      let is-red = red-tree p (child p s (B .num)) x (capacity .near) in
       let sides = way-sides p root fs (site .way) in
-      let sinks : f (B .num) ≡ black → Sinks c (eraseWay f fs)
-      = λ e. first-sinks s (eraseWay f fs) (B .key) (B .val) (erase f x) c (rw (erase-plug f fs (at s B x nil), erase-at f s B x nil, e) at (h .sound .proper .redblack)) in
+      let deleteFixups : f (B .num) ≡ black → DeleteFixups c (eraseWay f fs)
+      = λ e. first-deleteFixup s (eraseWay f fs) (B .key) (B .val) (erase f x) c (rw (erase-plug f fs (at s B x nil), erase-at f s B x nil, e) at (h .sound .proper .redblack)) in
       let goal = delete-first f fs s B x into in
-      let gone = loss-there p (B .num) (child p s (B .num)) c fs is-red sides sinks in
-      let ending = loss-ending p (B .num) (child p s (B .num)) c fs is-red sides sinks in
-      rw (top .words .key-is, path, two-no p s (B .num) (top .far), only-is p s (B .num) (top .far), ending) record {
+      let gone = removal-there p (B .num) (child p s (B .num)) c fs is-red sides deleteFixups in
+      let ending = removal-ending p (B .num) (child p s (B .num)) c fs is-red sides deleteFixups in
+      rw (capacity .words .key-is, path, two-no p s (B .num) (capacity .far), only-is p s (B .num) (capacity .far), ending) record {
         possible = rw (rw ending at gone);
         phase = unlink-0 fs s B x site (h .sound) (changed-proper (erase f T) (deletion (B .key)) (h .sound .proper)) goal;
       }
@@ -99,14 +99,14 @@ sides-stand p (hole s P y ∷ gs) B C l fs h = (h .0, h .1, sides-stand p gs B C
 
 -- the outermost node of a way that turns left has a left child
 record Outer (t : Linked) : Type 0 where
-  top : Node
+  capacity : Node
   left : Linked
   right : Linked
-  is : t ≡ cell top left right
+  is : t ≡ cell capacity left right
   left-there : NotNil left
 
 outer : (gs : List Frame) (N : Node) (t u : Linked) → Along L gs → NotNil t → Outer (plug gs (cell N t u))
-outer [] N t u a n = record { top = N; left = t; right = u; is = refl; left-there = n }
+outer [] N t u a n = record { capacity = N; left = t; right = u; is = refl; left-there = n }
 outer (hole R M v ∷ gs) N t u a n = let e = a .0 in let z : _≡_ {A = ℕ} 0 1 = cc in absurd (omega arith)
 outer (hole L M v ∷ gs) N t u a n = outer gs M (cell N t u) v (a .1) tt
 
@@ -128,8 +128,8 @@ module _ (st : State) (fs : List Frame) (B : Node) (l : Linked) (gs : List Frame
   site : At st fs (third₀ L B C 0 l y gs)
   site = rest-at h fs (third₀ L B C 0 l y gs) refl
 
-  top : Top st fs L B l (plug gs (at L C nil y))
-  top = top-of st fs L B l (plug gs (at L C nil y)) site
+  capacity : Top st fs L B l (plug gs (at L C nil y))
+  capacity = top-of st fs L B l (plug gs (at L C nil y)) site
 
   siteC : At st (gs ++ (hole R B l ∷ fs)) (cell C nil y)
   siteC = site-append (st .pool) (st .register .root) gs (hole R B l ∷ fs) (cell C nil y) (far-down st fs L B l (plug gs (at L C nil y)) site)
@@ -160,10 +160,10 @@ module _ (st : State) (fs : List Frame) (B : Node) (l : Linked) (gs : List Frame
   is-red : isRed (st .pool) (child (st .pool) R (C .num)) ≡ redly (colourOf (erase f2 y))
   is-red = red-tree (st .pool) (child (st .pool) R (C .num)) y (topC .far)
 
-  sinks : f2 (C .num) ≡ black → Sinks (colourOf (erase f2 y)) (eraseWay f2 old)
-  sinks e =
+  deleteFixups : f2 (C .num) ≡ black → DeleteFixups (colourOf (erase f2 y)) (eraseWay f2 old)
+  deleteFixups e =
       rw (way-append f2 gs (hole R (standIn B C) l ∷ fs))
-      (other-sinks (eraseWay f2 fs) (eraseWay f2 gs) (f2 (B .num)) (B .key) (B .val) (erase f2 l) (C .key) (C .val) (erase f2 y) (colourOf (erase f2 y))
+      (other-deleteFixup (eraseWay f2 fs) (eraseWay f2 gs) (f2 (B .num)) (B .key) (B .val) (erase f2 l) (C .key) (C .val) (erase f2 y) (colourOf (erase f2 y))
       (rw (erase-plug f2 fs (third₀ L B C 0 l y gs), erase-plug f2 gs (cell C nil y), e) at (h .sound .proper .redblack)))
 
   goal : SeqDelete.delete (erase f2 T2) (B .key) ≡ lose (f2 (C .num)) (eraseWay f2 old) (erase f2 y)
@@ -172,28 +172,28 @@ module _ (st : State) (fs : List Frame) (B : Node) (l : Linked) (gs : List Frame
   good : Proper (SeqDelete.delete (erase f2 T2) (B .key))
   good = changed-proper (erase f2 T2) (deletion (B .key)) (h .sound .proper)
 
-  ending : lossClimb (st .pool) (C .num) (child (st .pool) R (C .num)) (links old) .ending ≡ lossEnding (f2 (C .num)) f2 (colourOf (erase f2 y)) old
-  ending = loss-ending (st .pool) (C .num) (child (st .pool) R (C .num)) (colourOf (erase f2 y)) old is-red sides sinks
+  ending : fixupAfterRemoval (st .pool) (C .num) (child (st .pool) R (C .num)) (links old) .ending ≡ removalEnding (f2 (C .num)) f2 (colourOf (erase f2 y)) old
+  ending = removal-ending (st .pool) (C .num) (child (st .pool) R (C .num)) (colourOf (erase f2 y)) old is-red sides deleteFixups
 
-  gone : missing (lossEnding (f2 (C .num)) f2 (colourOf (erase f2 y)) old) ≡ false
-  gone = rw ending at (loss-there (st .pool) (C .num) (child (st .pool) R (C .num)) (colourOf (erase f2 y)) old is-red sides sinks)
+  gone : missing (removalEnding (f2 (C .num)) f2 (colourOf (erase f2 y)) old) ≡ false
+  gone = rw ending at (removal-there (st .pool) (C .num) (child (st .pool) R (C .num)) (colourOf (erase f2 y)) old is-red sides deleteFixups)
 
   -- the plan, but for the form
   two-plan : deletePlan st (linkTo fs) (B .num)
       ≡ cond (eqb (child (st .pool) L (child (st .pool) R (B .num))) 0)
-      (plan (store (linkTo fs) Adopt ∷ store (linkTo fs) Replace ∷ []) (lossEnding (f2 (C .num)) f2 (colourOf (erase f2 y)) old))
-      (plan (store (linkTo fs) (Publish (C .num)) ∷ store (linkTo fs) (Detach (B .key)) ∷ []) (lossEnding (f2 (C .num)) f2 (colourOf (erase f2 y)) old))
+      (plan (store (linkTo fs) Adopt ∷ store (linkTo fs) Replace ∷ []) (removalEnding (f2 (C .num)) f2 (colourOf (erase f2 y)) old))
+      (plan (store (linkTo fs) (Publish (C .num)) ∷ store (linkTo fs) (Detach (B .key)) ∷ []) (removalEnding (f2 (C .num)) f2 (colourOf (erase f2 y)) old))
   unfolding deletePlan
   two-plan =
-      let two = two-yes (st .pool) (B .num) (there (st .pool) _ l left (top .near)) (there (st .pool) _ (plug gs (cell C nil y)) (plug-there gs (cell C nil y) tt) (top .far)) in
-      rw (top .words .key-is, path, two, successor, topC .is) (rw (links-stand gs B C l fs, ending, top .words .key-is))
+      let two = two-yes (st .pool) (B .num) (there (st .pool) _ l left (capacity .near)) (there (st .pool) _ (plug gs (cell C nil y)) (plug-there gs (cell C nil y) tt) (capacity .far)) in
+      rw (capacity .words .key-is, path, two, successor, topC .is) (rw (links-stand gs B C l fs, ending, capacity .words .key-is))
 
 -- the second form: C is B's right child
 pub delete-second : (st : State) (fs : List Frame) (B : Node) (l : Linked) (C : Node) (y : Linked) → NotNil l → Rest st (plug fs (cell B l (cell C nil y)))
     → Planned st (SeqDelete.delete (erase (colours (st .pool)) (plug fs (cell B l (cell C nil y)))) (B .key)) (plug fs (cell B l (cell C nil y))) (deletePlan st (linkTo fs) (B .num))
 delete-second st fs B l C y left h =
     let t = topC st fs B l [] C y tt left h in
-    let low : child (st .pool) L (child (st .pool) R (B .num)) ≡ 0 = rw (top st fs B l [] C y tt left h .far .0 .is) (t .near) in
+    let low : child (st .pool) L (child (st .pool) R (B .num)) ≡ 0 = rw (capacity st fs B l [] C y tt left h .far .0 .is) (t .near) in
     rw (two-plan st fs B l [] C y tt left h, eq-eqb (child (st .pool) L (child (st .pool) R (B .num))) 0 low) record {
       possible = rw (gone st fs B l [] C y tt left h);
       phase = adopt-0 fs B C l y (site st fs B l [] C y tt left h) (h .sound) (good st fs B l [] C y tt left h) refl (goal st fs B l [] C y tt left h);
@@ -207,7 +207,7 @@ delete-third st fs B l N u gs C y along left h =
     let hs = hole L N u ∷ gs in
     let p = st .pool in
     let o = outer gs N (cell C nil y) u (along .1) tt in
-    let rep : Rep p (child p R (B .num)) (cell (o .top) (o .left) (o .right)) = subst (λ t. Rep p (child p R (B .num)) t) (o .is) (top st fs B l hs C y along left h .far) in
+    let rep : Rep p (child p R (B .num)) (cell (o .capacity) (o .left) (o .right)) = subst (λ t. Rep p (child p R (B .num)) t) (o .is) (capacity st fs B l hs C y along left h .far) in
     let low : child p L (child p R (B .num)) ≢ 0 = rw (rep .0 .is) (there p _ (o .left) (o .left-there) (rep .1)) in
     rw (two-plan st fs B l hs C y along left h, ne-eqb (child p L (child p R (B .num))) 0 low) record {
       possible = rw (gone st fs B l hs C y along left h);

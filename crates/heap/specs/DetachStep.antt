@@ -5,13 +5,13 @@ use mathlib.Core.Bool.{true}
 use mathlib.Core.List.{List, [], _∷_, _++_}
 use lib.ListN.{length}
 use native.Mathlib.Omega.{arith}
-use Rattle.types.specs.declared.Side.the-variants.{L, R}
-use Rattle.types.specs.declared.Step.the-variants.{Detach}
+use Rattle.datatypes.specs.declared.Side.the-variants.{L, R}
+use Rattle.datatypes.specs.declared.Step.the-variants.{Detach}
 use Rattle.spec.specs.Pool.{child, isRed}
 use Rattle.spec.specs.Register.{State, setLink}
 use Rattle.spec.specs.Free.{retire}
 use Rattle.spec.specs.Search.{pathTo}
-use Rattle.spec.specs.Plan.{endingStores, lossClimb, paintLoss}
+use Rattle.spec.specs.Plan.{endingStores, fixupAfterRemoval, paintDeleteFixup}
 use Rattle.spec.specs.Turn.{made, detachPath, detachStore, stepFinds}
 use Rattle.sequential.specs.Tree.{Colour, black, Tree, colourOf}
 use Rattle.sequential.specs.Delete.{lose}
@@ -20,26 +20,26 @@ use Rattle.tree.specs.Linked.{Node, copy, Linked, nil, cell, at, nodes}
 use Rattle.tree.specs.LinkedOrder.{into-top, ordered-within}
 use Rattle.tree.specs.Zipper.{Frame, hole, plug, plug-append, Into, Along, same-lift}
 use Rattle.tree.specs.Erase.{erase, eraseWay, erase-plug}
-use Rattle.tree.specs.Ways.{other-sinks}
+use Rattle.tree.specs.Ways.{other-deleteFixup}
 use Rattle.tree.specs.Occurs.{one, one-case, occ, occ-at, occWay, occ-plug, turnover-plug, detach-turnover}
 use Rattle.tree.specs.Phases.{writes-whole, third-writes}
 use Rattle.tree.specs.Successor.{third₀, third₁, third₂, third-order, detach-find}
-use Rattle.tree.specs.Sink.{Sinks}
+use Rattle.tree.specs.DeleteFixup.{DeleteFixups}
 use Rattle.heap.specs.Rep.{Rep}
 use Rattle.heap.specs.Sites.{linkTo, links}
 use Rattle.heap.specs.Colours.{redly, colours, colours-link, red-tree}
 use Rattle.heap.specs.Fill.{retire-quiet}
 use Rattle.heap.specs.Paths.{path-to, successor-path, OnceWay}
-use Rattle.heap.specs.Climbs.{Sides, way-sides}
+use Rattle.heap.specs.Fixups.{Sides, way-sides}
 use Rattle.heap.specs.Moves.{At, Once, clear-of, link-size, link-held, fields-trans, fields-queued, same-fields}
 use Rattle.heap.specs.Lowers.{is-node, Top, top-of, far-down}
 use Rattle.heap.specs.Raises.{Raised, raised-link}
-use Rattle.heap.specs.Tints.{tint-loss}
+use Rattle.heap.specs.ColourWork.{colours-removal}
 use Rattle.heap.specs.Parts.{unchanged, same-queue, parts-of}
-use Rattle.heap.specs.Phase.{lossEnding, Ranked, Lined, Phase, phase-alike}
+use Rattle.heap.specs.Phase.{removalEnding, Ranked, Lined, Phase, phase-alike}
 use Rattle.heap.specs.Tolds.{Told}
 use Rattle.heap.specs.Shift.{by-detach, Next, once-less}
-use Rattle.heap.specs.LossClimb.{loss-phase, loss-there, loss-alike, loss-register, rep-num}
+use Rattle.heap.specs.RemovalFixup.{removal-phase, removal-there, removal-alike, removal-register, rep-num}
 use Rattle.heap.specs.Rename.{site-append, way-append, occ-append-way}
 
 pub third-count : (fs gs : List Frame) (N C : Node) (l y : Linked) (i : ℕ)
@@ -70,8 +70,8 @@ module _ (st : State) (G : Tree) (fs gs : List Frame) (B C : Node) (n : ℕ) (l 
   abbrev c : Colour
   c = colourOf (erase f y)
 
-  top : Top st fs L (copy C n) l (plug gs (at L C nil y))
-  top = top-of st fs L (copy C n) l (plug gs (at L C nil y)) h
+  capacity : Top st fs L (copy C n) l (plug gs (at L C nil y))
+  capacity = top-of st fs L (copy C n) l (plug gs (at L C nil y)) h
 
   siteW : At st W (cell C nil y)
   siteW = site-append p (st .register .root) gs (hole R (copy C n) l ∷ fs) (cell C nil y) (far-down st fs L (copy C n) l (plug gs (at L C nil y)) h)
@@ -101,13 +101,13 @@ module _ (st : State) (G : Tree) (fs gs : List Frame) (B C : Node) (n : ℕ) (l 
   path-is = path-to p (st .register .root) (B .key) fs into (λ i. let a = each i in omega arith) (omega arith) (h .way)
 
   way-is : detachPath st (linkTo fs) (B .key) ≡ links W
-  way-is = rw (top .is, path-is) (successor-path p (st .register .root) gs fs (copy C n) C l y along (omega arith) siteW)
+  way-is = rw (capacity .is, path-is) (successor-path p (st .register .root) gs fs (copy C n) C l y along (omega arith) siteW)
 
   abbrev linked : State
   linked = setLink st (linkTo W) x
 
   abbrev coloured : State
-  coloured = paintLoss linked (lossClimb p (C .num) x (links W)) x (links W)
+  coloured = paintDeleteFixup linked (fixupAfterRemoval p (C .num) x (links W)) x (links W)
 
   detach-is : detachStore st (linkTo fs) (B .key) ≡ made (retire coloured (C .num)) (linkTo W) x
   unfolding detachStore
@@ -131,10 +131,10 @@ module _ (st : State) (G : Tree) (fs gs : List Frame) (B C : Node) (n : ℕ) (l 
         (detach-find L B C n l y gs (third-order L B C n l y gs (ordered-within fs (third₀ L B C n l y gs) (before .ordered)) .right)) q ∙ told q;
   }
 
-  sinks : f (C .num) ≡ black → Sinks c (eraseWay f W)
-  sinks e =
+  deleteFixups : f (C .num) ≡ black → DeleteFixups c (eraseWay f W)
+  deleteFixups e =
       rw (way-append f gs (hole R (copy C n) l ∷ fs), copied)
-      (other-sinks (eraseWay f fs) (eraseWay f gs) (f (B .num)) (B .key) (B .val) (erase f l) (C .key) (C .val) (erase f y) c
+      (other-deleteFixup (eraseWay f fs) (eraseWay f gs) (f (B .num)) (B .key) (B .val) (erase f l) (C .key) (C .val) (erase f y) c
       (rw (erase-plug f fs (third₀ L B C 0 l y gs), erase-plug f gs (cell C nil y), e) at (good .redblack)))
 
   is-red : isRed p x ≡ redly c
@@ -146,28 +146,28 @@ module _ (st : State) (G : Tree) (fs gs : List Frame) (B C : Node) (n : ℕ) (l 
   rep-after : Rep (linked .pool) x y
   rep-after = let a = rep-num (linked .pool) _ y (raised .site .sub) in let b = rep-num p x y (topC .far) in subst (λ i. Rep (linked .pool) i y) (a ∙ sym b) (raised .site .sub)
 
-  phase : Phase (retire coloured (C .num) .pool) (retire coloured (C .num) .register .root) G (plug fs (third₂ L B C n l y gs)) (endingStores (lossEnding (f (C .num)) f c W))
+  phase : Phase (retire coloured (C .num) .pool) (retire coloured (C .num) .register .root) G (plug fs (third₂ L B C n l y gs)) (endingStores (removalEnding (f (C .num)) f c W))
   phase =
       let q = retire-quiet coloured (C .num) in
       rw (q .fields .root, sym whole) (phase-alike (q .words) (coloured .register .root) G
-      (loss-phase st linked G W y x (C .num) (fun-ext (colours-link st (linkTo W) x)) (raised .site) rep-after is-red sides lined proper (f (C .num)) refl sinks goal))
+      (removal-phase st linked G W y x (C .num) (fun-ext (colours-link st (linkTo W) x)) (raised .site) rep-after is-red sides lined proper (f (C .num)) refl deleteFixups goal))
 
-  pub detach-0-next : Next st G (plug fs (third₁ L B C n l y gs)) (detachStore st (linkTo fs) (B .key)) (Detach (B .key)) (endingStores (lossEnding (f (C .num)) f c W))
+  pub detach-0-next : Next st G (plug fs (third₁ L B C n l y gs)) (detachStore st (linkTo fs) (B .key)) (Detach (B .key)) (endingStores (removalEnding (f (C .num)) f c W))
   detach-0-next =
       let q = retire-quiet coloured (C .num) in
-      let w = lossClimb p (C .num) x (links W) in
-      let a = fields-trans (raised .fields) (fields-trans (same-fields (loss-register linked w x (links W))) (fields-queued (q .fields))) in
+      let w = fixupAfterRemoval p (C .num) x (links W) in
+      let a = fields-trans (raised .fields) (fields-trans (same-fields (removal-register linked w x (links W))) (fields-queued (q .fields))) in
       rw detach-is record {
         tree = plug fs (third₂ L B C n l y gs);
         gone = C .num ∷ [];
         shift = rw (rep-num p x y (topC .far)) (by-detach fs gs B C n l y along (before .ordered) (before .once) new);
         phase = phase;
-        parts = parts-of st st coloured _ (linkTo W) x [] (C .num ∷ []) unchanged (tint-loss linked w x (links W)) (same-queue (loss-register linked w x (links W))) refl;
-        size = q .words .size ∙ loss-alike linked w x (links W) .size ∙ link-size st (linkTo W) x;
-        held = q .fields .held ∙ ap (λ r. r .held) (loss-register linked w x (links W)) ∙ link-held st (linkTo W) x;
+        parts = parts-of st st coloured _ (linkTo W) x [] (C .num ∷ []) unchanged (colours-removal linked w x (links W)) (same-queue (removal-register linked w x (links W))) refl;
+        size = q .words .size ∙ removal-alike linked w x (links W) .size ∙ link-size st (linkTo W) x;
+        held = q .fields .held ∙ ap (λ r. r .held) (removal-register linked w x (links W)) ∙ link-held st (linkTo W) x;
         fields = record { readers = a .readers; awaited = a .awaited; write = a .write };
       }
 
   pub detach-0-finds : stepFinds st (linkTo fs) (Detach (B .key)) ≡ true
   unfolding stepFinds
-  detach-0-finds = rw (way-is, topC .is, is-node (C .num) (topC .words .within .low), loss-there p (C .num) x c W is-red sides sinks)
+  detach-0-finds = rw (way-is, topC .is, is-node (C .num) (topC .words .within .low), removal-there p (C .num) x c W is-red sides deleteFixups)

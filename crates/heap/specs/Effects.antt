@@ -6,9 +6,9 @@ use mathlib.Core.Logic.{inl, inr}
 use mathlib.Core.Bool.{Bool, true, false}
 use mathlib.Core.List.{List}
 use mathlib.Core.Option.{Option, none, some}
-use Rattle.types.specs.declared.Side.{Side}
-use Rattle.types.specs.declared.Side.the-variants.{L}
-use Rattle.types.specs.declared.Link.{Link}
+use Rattle.datatypes.specs.declared.Side.{Side}
+use Rattle.datatypes.specs.declared.Side.the-variants.{L}
+use Rattle.datatypes.specs.declared.Link.{Link}
 use Rattle.tree.specs.Order.{Ord}
 use Rattle.tree.specs.Sorted.{Ordered}
 use Rattle.tree.specs.Distinct.{_∈_}

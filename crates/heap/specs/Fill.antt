@@ -9,15 +9,15 @@ use lib.ListN.{length}
 use lib.Dec.{eqb, ltb}
 use borrow.Author.Tests.{le-leb, lt-ltb, ne-eqb, eq-eqb}
 use native.Mathlib.Omega.{arith}
-use Rattle.types.specs.declared.Side.{Side}
-use Rattle.types.specs.declared.Side.the-variants.{L, R}
-use Rattle.types.specs.declared.Register.{Register}
-use Rattle.types.specs.Side.{other}
+use Rattle.datatypes.specs.declared.Side.{Side}
+use Rattle.datatypes.specs.declared.Side.the-variants.{L, R}
+use Rattle.datatypes.specs.declared.Register.{Register}
+use Rattle.datatypes.specs.Side.{other}
 use Rattle.base.specs.Walk.{cond-both}
 use Rattle.spec.specs.Pool.{word, setWord, child, keyWord, recordWord, linkWord, colourWord, standingWord, holdersWord, nextWord, standingFree, standingRetired, nodeWords}
 use Rattle.spec.specs.Register.{State, withQueue, readingSlots}
 use Rattle.spec.specs.Free.{queueEmpty, takeFree, fillNode, takeNode, freeNode, retire, retireTwo}
-use Rattle.laws.specs.Words.{Node as Within, length-setWord, word-set}
+use Rattle.laws.specs.Words.{InPool, length-setWord, word-set}
 use Rattle.tree.specs.Linked.{Linked, at, nodes}
 use Rattle.tree.specs.Occurs.{occ}
 use Rattle.heap.specs.Rep.{Rep, rep-at, Agree, rep-agree, Alike, alike-trans, alike-set}
@@ -37,7 +37,7 @@ link-fits : (s : Side) → linkWord s < nodeWords
 link-fits L = omega arith
 link-fits R = omega arith
 
-pub fill-node : (p : List ℕ) (n k v : ℕ) (s : Side) (x y c : ℕ) → Within p n → Filled p (fillNode p n k v s x y c) n k v s x y c
+pub fill-node : (p : List ℕ) (n k v : ℕ) (s : Side) (x y c : ℕ) → InPool p n → Filled p (fillNode p n k v s x y c) n k v s x y c
 unfolding fillNode
 fill-node p n k v L x y c w =
     let a = le-leb 1 n (w .low) in
@@ -81,7 +81,7 @@ module _ {p q : List ℕ} {n k v : ℕ} {s : Side} {x y c : ℕ} (h : Filled p q
   filled-colours m d = colours-word p q m (h .others m colourWord d (omega arith))
 
   -- the new node unfolds to its tree
-  pub filled-rep : (X Y : Linked) → Within p n → occ n (nodes X) ≡ 0 → occ n (nodes Y) ≡ 0 → Rep p x X → Rep p y Y
+  pub filled-rep : (X Y : Linked) → InPool p n → occ n (nodes X) ≡ 0 → occ n (nodes Y) ≡ 0 → Rep p x X → Rep p y Y
       → Rep q n (at s (record { num = n; key = k; val = v }) X Y)
   filled-rep X Y w ox oy rx ry =
       rep-at q n s (record { num = n; key = k; val = v }) X Y .1 (

@@ -8,22 +8,22 @@ use mathlib.Core.List.{List, [], _∷_}
 use lib.Dec.{eqb}
 use borrow.Author.Tests.{eqb-true, eqb-false, ne-eqb}
 use native.Mathlib.Omega.{arith}
-use Rattle.types.specs.declared.Side.{Side}
-use Rattle.types.specs.declared.Side.the-variants.{L, R}
-use Rattle.types.specs.declared.Link.{Link}
-use Rattle.types.specs.declared.Link.the-variants.{Root, Left, Right}
-use Rattle.types.specs.Side.{sameSide}
+use Rattle.datatypes.specs.declared.Side.{Side}
+use Rattle.datatypes.specs.declared.Side.the-variants.{L, R}
+use Rattle.datatypes.specs.declared.Link.{Link}
+use Rattle.datatypes.specs.declared.Link.the-variants.{Root, Left, Right}
+use Rattle.datatypes.specs.Side.{sameSide}
 use Rattle.spec.specs.Pool.{word, setWord, child, keyWord, recordWord, linkWord, nodeWords}
 use Rattle.spec.specs.Register.{State, setLink}
 use Rattle.spec.specs.Turn.{Made}
-use Rattle.laws.specs.Words.{Node as Within, length-setWord, word-same, word-other}
+use Rattle.laws.specs.Words.{InPool, length-setWord, word-same, word-other}
 use Rattle.tree.specs.Linked.{Linked, nil, cell, nodes}
 use Rattle.tree.specs.Occurs.{one, one-same, occ, occ-append}
 use Rattle.heap.specs.Rep.{Rep, rep-agree, Alike, alike-refl, alike-trans, alike-less, rep-alike}
 use Rattle.heap.specs.Sites.{link-high}
 use Rattle.heap.specs.Fill.{filled-agree, retire-quiet, retireTwo-quiet}
 use Rattle.heap.specs.Moves.{taken-filled}
-use Rattle.heap.specs.Tints.{tint-alike}
+use Rattle.heap.specs.ColourWork.{colours-alike}
 use Rattle.heap.specs.Parts.{Based, unchanged, filled, retireAll, Parts}
 use Rattle.heap.specs.Shift.{Ready}
 
@@ -45,7 +45,7 @@ fits : (s : Side) → linkWord s < nodeWords
 fits L = omega arith
 fits R = omega arith
 
-put-link : (p : List ℕ) (d n : ℕ) (s z : Side) (b : ℕ) → Within p n → word (setWord p d (linkWord s) b) n (linkWord z) ≡ cond (hit d s n z) b (word p n (linkWord z))
+put-link : (p : List ℕ) (d n : ℕ) (s z : Side) (b : ℕ) → InPool p n → word (setWord p d (linkWord s) b) n (linkWord z) ≡ cond (hit d s n z) b (word p n (linkWord z))
 put-link p d n s z b w = go (eqb d n) refl s z
   where
     go : (x : Bool) → eqb d n ≡ x → (s z : Side) → word (setWord p d (linkWord s) b) n (linkWord z) ≡ cond (cond x (sameSide s z) false) b (word p n (linkWord z))
@@ -106,7 +106,7 @@ retire-root st (a ∷ c ∷ l) = retireTwo-quiet st a c .fields .root
 
 module _ {st : State} {m : Made} {new gone : List ℕ} (P : Parts st m new gone) where
   pub parts-links : Alike 4 (setLink (P .base) (m .link) (m .node) .pool) (m .after .pool)
-  parts-links = rw (P .retired) (alike-trans (tint-alike (P .tint)) (retire-links (P .mid) gone))
+  parts-links = rw (P .retired) (alike-trans (colours-alike (P .tint)) (retire-links (P .mid) gone))
 
   pub parts-root : m .after .register .root ≡ setLink (P .base) (m .link) (m .node) .register .root
   parts-root = ap (λ x. x .register .root) (P .retired) ∙ retire-root (P .mid) gone ∙ P .queue .root

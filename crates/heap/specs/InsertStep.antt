@@ -5,16 +5,16 @@ use mathlib.Core.Bool.{Bool, true}
 use mathlib.Core.List.{List, [], _∷_}
 use lib.ListN.{length}
 use native.Mathlib.Omega.{arith}
-use Rattle.types.specs.declared.Side.{Side}
-use Rattle.types.specs.declared.Side.the-variants.{L, R}
-use Rattle.types.specs.declared.Register.{Register}
-use Rattle.types.specs.declared.Ending.{Ending}
-use Rattle.types.specs.declared.Ending.the-variants.{Calm, Blacken, Rotate, RotateTwice, Missing}
-use Rattle.types.specs.declared.Step.the-variants.{Insert}
+use Rattle.datatypes.specs.declared.Side.{Side}
+use Rattle.datatypes.specs.declared.Side.the-variants.{L, R}
+use Rattle.datatypes.specs.declared.Register.{Register}
+use Rattle.datatypes.specs.declared.Ending.{Ending}
+use Rattle.datatypes.specs.declared.Ending.the-variants.{Balanced, Blacken, Rotate, RotateTwice, Missing}
+use Rattle.datatypes.specs.declared.Step.the-variants.{Insert}
 use Rattle.spec.specs.Pool.{redColour, blackColour}
 use Rattle.spec.specs.Register.{State, state, setLink, withHeld}
 use Rattle.spec.specs.Free.{takeNode}
-use Rattle.spec.specs.Plan.{endingStores, paintRise}
+use Rattle.spec.specs.Plan.{endingStores, paintInsertFixup}
 use Rattle.spec.specs.Turn.{made, oneMore, blackRoot, endInsert, insertStore, stepFinds}
 use Rattle.sequential.specs.Tree as Seq
 use Rattle.sequential.specs.Tree.{Colour, red, black, Tree, node, leaf}
@@ -28,24 +28,24 @@ use Rattle.tree.specs.Zipper.{Frame, hole, plug, Into, find-into, sameBut-lift}
 use Rattle.tree.specs.Stores.{insert-find}
 use Rattle.tree.specs.Erase.{erase, eraseWay, erase-plug, erase-find}
 use Rattle.tree.specs.Forms.{insert-linked}
-use Rattle.tree.specs.Ways.{insert-rises}
+use Rattle.tree.specs.Ways.{insert-insertFixup}
 use Rattle.tree.specs.Occurs.{occWay, occ-plug, turnover-plug, insert-turnover}
 use Rattle.tree.specs.Phases.{writes-whole, insert-writes}
-use Rattle.tree.specs.Rise as Rise
-use Rattle.tree.specs.Rise.{RiseEnd, calm, rotate, rootRed, climb-rise}
+use Rattle.tree.specs.InsertFixup as InsertFixup
+use Rattle.tree.specs.InsertFixup.{InsertFixupEnd, balanced, rotate, rootRed, fixup-insertFixup}
 use Rattle.heap.specs.Sites.{linkTo, links, site-of, of-site, site-alike}
 use Rattle.heap.specs.Colours.{colours, way-occ, erase-top, paint-alike}
 use Rattle.heap.specs.Paths.{path-to}
-use Rattle.heap.specs.Climbs.{way-sides, pairsUp, riseEnding, rise-room}
-use Rattle.heap.specs.Paints.{Risen, paint-rise, risenTree, risen-plug, over-pairs, risen-way, risen-tree}
+use Rattle.heap.specs.Fixups.{way-sides, pairsUp, insertFixupEnding, insertFixup-room}
+use Rattle.heap.specs.Paints.{Risen, paint-insertFixup, risenTree, risen-plug, over-pairs, risen-way, risen-tree}
 use Rattle.heap.specs.Moves.{At, Fresh, Once, new-apart, Linked-in, link-in, clear-of, Fields, fields-trans, held-fields, same-fields}
 use Rattle.heap.specs.Lowers.{not-empty}
-use Rattle.heap.specs.Tints.{tint-trans, tint-rise, tint-insert}
+use Rattle.heap.specs.ColourWork.{colours-trans, colours-insertFixup, colours-insert}
 use Rattle.heap.specs.Parts.{filled, same-queue, queue-trans, held-queue, parts-of}
 use Rattle.heap.specs.Tolds.{Told, told-insert}
-use Rattle.heap.specs.Phase.{growEnding, Sound, Lined, Phase, at-rest}
+use Rattle.heap.specs.Phase.{insertEnding, Sound, Lined, Phase, at-rest}
 use Rattle.heap.specs.Shift.{by-insert, Next, once-turnover}
-use Rattle.heap.specs.Inserts.{Small, way-short, once-way, insert-climb, Stops, stops-calm, stops-turn, rise-stops, stops-there, turn-phase}
+use Rattle.heap.specs.Inserts.{Small, way-short, once-way, insert-fixup, Stops, stops-balanced, stops-turn, insertFixup-stops, stops-there, turn-phase}
 
 pub held-root : (r : Register) (h : ℕ) → withHeld r h .root ≡ r .root
 unfolding withHeld
@@ -56,14 +56,14 @@ unfolding withHeld
 held-is r h = refl
 
 end-size : (e : Ending) (x : State) → length (endInsert e x .pool) ≡ length (x .pool)
-end-size Calm x = paint-alike (x .pool) (x .register .root) blackColour .size
+end-size Balanced x = paint-alike (x .pool) (x .register .root) blackColour .size
 end-size Blacken x = refl
 end-size (Rotate t) x = refl
 end-size (RotateTwice t u) x = refl
 end-size Missing x = refl
 
 end-register : (e : Ending) (x : State) → endInsert e x .register ≡ x .register
-end-register Calm x = refl
+end-register Balanced x = refl
 end-register Blacken x = refl
 end-register (Rotate t) x = refl
 end-register (RotateTwice t u) x = refl
@@ -79,16 +79,16 @@ risen-there g (suc m) [] t n = n
 risen-there g (suc m) (f ∷ []) t n = n
 risen-there g (suc m) (hole s N y ∷ hole z Q a ∷ fs) t n = risen-there g m fs (at z Q (at s N t y) a) (at-there g z Q (at s N t y) a)
 
-turns : (b : Bool) (z : Side) → ¬ (_≡_ {A = RiseEnd} (rotate b z) calm)
+turns : (b : Bool) (z : Side) → ¬ (_≡_ {A = InsertFixupEnd} (rotate b z) balanced)
 turns b z e = let x : _≡_ {A = ℕ} 0 1 = cc in omega arith
 
-abbrev NotRoot : RiseEnd → Type 0
-NotRoot calm = Unit {0}
+abbrev NotRoot : InsertFixupEnd → Type 0
+NotRoot balanced = Unit {0}
 NotRoot (rotate b z) = Unit {0}
 NotRoot rootRed = ⊥
 
-no-root : {U : List Frame} {e : RiseEnd} → Stops U e → NotRoot e
-no-root stops-calm = tt
+no-root : {U : List Frame} {e : InsertFixupEnd} → Stops U e → NotRoot e
+no-root stops-balanced = tt
 no-root stops-turn = tt
 
 -- what the colours leave: rest with a black root, or the rotation
@@ -96,18 +96,18 @@ module _ (after : State) (G : Tree) (T : Linked) (once : Once T) (good : Proper 
   abbrev g : ℕ → Colour
   g = colours (after .pool)
 
-  rise-phase : (U : List Frame) (e : RiseEnd) (u : Linked) → Stops U e → NotLeaf (erase g u) → plug U u ≡ T → At after U u → Lined G (plug U u)
-      → G ≡ Seq.paint black (Rise.risen e (eraseWay g U) (erase g u))
-      → Phase (endInsert (riseEnding e U) after .pool) (endInsert (riseEnding e U) after .register .root) G T (endingStores (riseEnding e U))
-  rise-phase U calm u s there same h lined goal =
+  insertFixup-phase : (U : List Frame) (e : InsertFixupEnd) (u : Linked) → Stops U e → NotLeaf (erase g u) → plug U u ≡ T → At after U u → Lined G (plug U u)
+      → G ≡ Seq.paint black (InsertFixup.risen e (eraseWay g U) (erase g u))
+      → Phase (endInsert (insertFixupEnding e U) after .pool) (endInsert (insertFixupEnding e U) after .register .root) G T (endingStores (insertFixupEnding e U))
+  insertFixup-phase U balanced u s there same h lined goal =
       let root = after .register .root in
       let rep = rw same at (of-site (after .pool) root U u h) in
       let is : erase (colours (blackRoot after .pool)) T ≡ G
       = erase-top (after .pool) root blackColour T rep ∙ ap (Seq.paint black) (ap (erase g) (sym same) ∙ erase-plug g U u) ∙ sym goal in
       at-rest T (site-alike (paint-alike (after .pool) root blackColour) root [] T (site-of (after .pool) root [] T rep)) (record { once = once; proper = rw is good }) is
-  rise-phase U (rotate b z) u s there same h lined goal =
+  insertFixup-phase U (rotate b z) u s there same h lined goal =
       rw (sym same) (turn-phase (after .pool) (after .register .root) G u s (turns b z) there h lined good goal)
-  rise-phase U rootRed u s there same h lined goal = absurd (no-root s)
+  insertFixup-phase U rootRed u s there same h lined goal = absurd (no-root s)
 
 module _ (st : State) (G : Tree) (k v : ℕ) (fs : List Frame) (h : At st fs nil) (good : Sound (st .pool) (plug fs nil)) (into : Into k fs)
     (goal : G ≡ SeqInsert.insert (erase (colours (st .pool)) (plug fs nil)) k v) (small : Small (st .pool)) (fresh : Fresh st (plug fs nil)) where
@@ -121,22 +121,22 @@ module _ (st : State) (G : Tree) (k v : ℕ) (fs : List Frame) (h : At st fs nil
   Z = record { num = n; key = k; val = v }
 
   abbrev levels : ℕ
-  levels = Rise.rise (eraseWay f fs) .levels
+  levels = InsertFixup.insertFixup (eraseWay f fs) .levels
 
   abbrev linked : State
   linked = setLink (takeNode st k v L 0 0 redColour) (linkTo fs) n
 
   abbrev coloured : State
-  coloured = state (paintRise levels (links fs) (linked .pool)) (oneMore linked .register)
+  coloured = state (paintInsertFixup levels (links fs) (linked .pool)) (oneMore linked .register)
 
   short : length fs ≤ 20
   short = let a = way-short (st .pool) (st .register .root) fs nil small h good in omega arith
 
-  insert-is : insertStore st (linkTo fs) k v ≡ made (endInsert (growEnding f fs) coloured) (linkTo fs) n
+  insert-is : insertStore st (linkTo fs) k v ≡ made (endInsert (insertEnding f fs) coloured) (linkTo fs) n
   unfolding insertStore
   insert-is =
       let l = short in
-      let c = insert-climb st k fs (h .way) into (once-way fs nil (good .once)) (omega arith) in
+      let c = insert-fixup st k fs (h .way) into (once-way fs nil (good .once)) (omega arith) in
       let p = path-to (st .pool) (st .register .root) k fs into (once-way fs nil (good .once)) (omega arith) (h .way) in
       rw (c, p)
 
@@ -145,16 +145,16 @@ module _ (st : State) (G : Tree) (k v : ℕ) (fs : List Frame) (h : At st fs nil
       link-in st fs nil k v L 0 0 redColour nil nil fresh h refl refl refl refl
       (clear-of fs nil (cell Z nil nil) (good .once) (λ i w. let a = occ-plug fs nil i in let b = new-apart i n (nodes (plug fs nil)) (fresh .new) (omega arith) in omega arith))
 
-  stops : Stops (pairsUp levels fs) (Rise.rise (eraseWay f fs) .end)
-  stops = rise-stops f fs (insert-rises (eraseWay f fs) (rw (erase-plug f fs nil) at (good .proper .redblack)))
+  stops : Stops (pairsUp levels fs) (InsertFixup.insertFixup (eraseWay f fs) .end)
+  stops = insertFixup-stops f fs (insert-insertFixup (eraseWay f fs) (rw (erase-plug f fs nil) at (good .proper .redblack)))
 
   way-kept : eraseWay (colours (linked .pool)) fs ≡ eraseWay f fs
   way-kept = way-occ f (colours (linked .pool)) fs (λ i w. in-tree .old-colours i (λ e. let a = occ-plug fs nil n in let z : occWay n fs ≡ occWay i fs = rw e in let b = fresh .new in omega arith))
 
   tint : Risen levels (linked .pool) (coloured .pool) fs
-  tint = paint-rise levels (linked .pool) fs (rise-room f fs) (way-sides (linked .pool) (linked .register .root) fs (in-tree .site .way)) (once-way fs nil (good .once))
+  tint = paint-insertFixup levels (linked .pool) fs (insertFixup-room f fs) (way-sides (linked .pool) (linked .register .root) fs (in-tree .site .way)) (once-way fs nil (good .once))
 
-  phase-after : Phase (endInsert (growEnding f fs) coloured .pool) (endInsert (growEnding f fs) coloured .register .root) G (plug fs (cell Z nil nil)) (endingStores (growEnding f fs))
+  phase-after : Phase (endInsert (insertEnding f fs) coloured .pool) (endInsert (insertEnding f fs) coloured .register .root) G (plug fs (cell Z nil nil)) (endingStores (insertEnding f fs))
   phase-after =
       let T = plug fs (cell Z nil nil) in
       let U = pairsUp levels fs in
@@ -165,29 +165,29 @@ module _ (st : State) (G : Tree) (k v : ℕ) (fs : List Frame) (h : At st fs nil
       let root : coloured .register .root ≡ linked .register .root = held-root (linked .register) _ in
       let site : At coloured fs (cell Z nil nil) = rw root (site-alike (tint .tinted .links-kept) (linked .register .root) fs (cell Z nil nil) (in-tree .site)) in
       let new-red : gg n ≡ red = tint .tinted .outside n (let a = occ-plug fs nil n in let b = fresh .new in omega arith) ∙ in-tree .new-colour in
-      let way : eraseWay gg U ≡ Rise.overPairs levels (eraseWay f fs) = risen-way levels f1 gg fs (tint .to) ∙ sym (over-pairs levels f1 fs) ∙ ap (Rise.overPairs levels) way-kept in
-      let sub : erase gg u ≡ Rise.recoloured levels (eraseWay f fs) (node red k v leaf leaf) = risen-tree levels f1 gg fs (cell Z nil nil) (tint .to) ∙ rw (way-kept, new-red) in
-      let is : G ≡ Seq.paint black (Rise.risen (Rise.rise (eraseWay f fs) .end) (eraseWay gg U) (erase gg u))
-      = goal ∙ insert-linked f fs k v into ∙ ap (Seq.paint black) (climb-rise (eraseWay f fs) (node red k v leaf leaf)) ∙ rw (way, sub) in
+      let way : eraseWay gg U ≡ InsertFixup.overPairs levels (eraseWay f fs) = risen-way levels f1 gg fs (tint .to) ∙ sym (over-pairs levels f1 fs) ∙ ap (InsertFixup.overPairs levels) way-kept in
+      let sub : erase gg u ≡ InsertFixup.recoloured levels (eraseWay f fs) (node red k v leaf leaf) = risen-tree levels f1 gg fs (cell Z nil nil) (tint .to) ∙ rw (way-kept, new-red) in
+      let is : G ≡ Seq.paint black (InsertFixup.risen (InsertFixup.insertFixup (eraseWay f fs) .end) (eraseWay gg U) (erase gg u))
+      = goal ∙ insert-linked f fs k v into ∙ ap (Seq.paint black) (fixup-insertFixup (eraseWay f fs) (node red k v leaf leaf)) ∙ rw (way, sub) in
       let once : Once T = once-turnover [] n (plug fs nil) T (turnover-plug fs [] (n ∷ []) nil (cell Z nil nil) (insert-turnover Z)) (good .once) (fresh .new) in
       let ordered = writes-whole fs nil (cell Z nil nil) into (insert-writes Z) .ordered (ordered-bare f _ (plug fs nil) (good .proper .ordered)) in
       let told : Told G T = told-insert G (erase f (plug fs nil)) k v (plug fs nil) T goal (good .proper .ordered) (erase-find f (plug fs nil)) (find-into fs nil k into) (sameBut-lift fs into (insert-find Z)) in
       let lined : Lined G (plug U u) = rw same (record { once = once; ordered = ordered; told = told }) in
       let proper : Proper G = rw goal (changed-proper (erase f (plug fs nil)) (insertion k v) (good .proper)) in
-      rise-phase coloured G T once proper U (Rise.rise (eraseWay f fs) .end) u stops (risen-there gg levels fs (cell Z nil nil) tt) same
+      insertFixup-phase coloured G T once proper U (InsertFixup.insertFixup (eraseWay f fs) .end) u stops (risen-there gg levels fs (cell Z nil nil) tt) same
       (site-of (coloured .pool) (coloured .register .root) U u (rw same (of-site (coloured .pool) (coloured .register .root) fs (cell Z nil nil) site))) lined is
 
-  pub insert-0-next : Next st G (plug fs nil) (insertStore st (linkTo fs) k v) (Insert k v) (endingStores (growEnding f fs))
-  insert-0-next = let a : Fields (st .register) (endInsert (growEnding f fs) coloured .register)
-      = fields-trans (in-tree .fields) (fields-trans (held-fields (linked .register) _) (same-fields (end-register (growEnding f fs) coloured))) in rw insert-is record {
+  pub insert-0-next : Next st G (plug fs nil) (insertStore st (linkTo fs) k v) (Insert k v) (endingStores (insertEnding f fs))
+  insert-0-next = let a : Fields (st .register) (endInsert (insertEnding f fs) coloured .register)
+      = fields-trans (in-tree .fields) (fields-trans (held-fields (linked .register) _) (same-fields (end-register (insertEnding f fs) coloured))) in rw insert-is record {
         tree = plug fs (cell Z nil nil);
         gone = [];
         shift = by-insert fs Z into (fresh .new);
         phase = phase-after;
-        parts = parts-of st (takeNode st k v L 0 0 redColour) (endInsert (growEnding f fs) coloured) _ (linkTo fs) n (n ∷ []) [] (filled k v L 0 0 redColour)
-            (tint-trans (tint-rise levels (links fs) (linked .pool)) (tint-insert (growEnding f fs) coloured)) (queue-trans (held-queue (linked .register) _) (same-queue (end-register (growEnding f fs) coloured))) refl;
-        size = end-size (growEnding f fs) coloured ∙ tint .tinted .links-kept .size ∙ in-tree .size;
-        held = ap (λ r. r .held) (end-register (growEnding f fs) coloured) ∙ held-is (linked .register) _ ∙ rw (in-tree .size, in-tree .held);
+        parts = parts-of st (takeNode st k v L 0 0 redColour) (endInsert (insertEnding f fs) coloured) _ (linkTo fs) n (n ∷ []) [] (filled k v L 0 0 redColour)
+            (colours-trans (colours-insertFixup levels (links fs) (linked .pool)) (colours-insert (insertEnding f fs) coloured)) (queue-trans (held-queue (linked .register) _) (same-queue (end-register (insertEnding f fs) coloured))) refl;
+        size = end-size (insertEnding f fs) coloured ∙ tint .tinted .links-kept .size ∙ in-tree .size;
+        held = ap (λ r. r .held) (end-register (insertEnding f fs) coloured) ∙ held-is (linked .register) _ ∙ rw (in-tree .size, in-tree .held);
         fields = record { readers = a .readers; awaited = a .awaited; write = a .write };
       }
 
@@ -195,4 +195,4 @@ module _ (st : State) (G : Tree) (k v : ℕ) (fs : List Frame) (h : At st fs nil
   unfolding stepFinds
   insert-0-finds =
       let l = short in
-      rw (insert-climb st k fs (h .way) into (once-way fs nil (good .once)) (omega arith), stops-there stops, not-empty st (plug fs nil) fresh)
+      rw (insert-fixup st k fs (h .way) into (once-way fs nil (good .once)) (omega arith), stops-there stops, not-empty st (plug fs nil) fresh)

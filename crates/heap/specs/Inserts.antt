@@ -8,12 +8,12 @@ use mathlib.Core.List.{List, [], _∷_}
 use lib.ListN.{length}
 use native.Mathlib.Omega.{arith}
 use native.Mathlib.Nat.{zero-add}
-use Rattle.types.specs.declared.Side.{Side}
-use Rattle.types.specs.Side.{other, sameSide, owner-at}
+use Rattle.datatypes.specs.declared.Side.{Side}
+use Rattle.datatypes.specs.Side.{other, sameSide, owner-at}
 use Rattle.spec.specs.Register.{State}
 use Rattle.spec.specs.Search.{pathBound}
-use Rattle.spec.specs.Plan.{climb, endingStores, missing, rise, insertClimb}
-use Rattle.laws.specs.Words.{Node as Within}
+use Rattle.spec.specs.Plan.{fixupResult, endingStores, missing, insertFixup, fixupAfterInsert}
+use Rattle.laws.specs.Words.{InPool}
 use Rattle.sequential.specs.Tree as Seq
 use Rattle.sequential.specs.Tree.{Colour, red, black, Tree, mk, colourOf}
 use Rattle.tree.specs.Sorted.{NotLeaf, colour-case, Seen, outer, inner, seen}
@@ -25,28 +25,28 @@ use Rattle.tree.specs.Linked.{Node, Linked, nil, cell, at, nodes, at-other}
 use Rattle.tree.specs.Zipper.{Frame, hole, plug, Into}
 use Rattle.tree.specs.Erase.{erase, eraseWay, erase-at}
 use Rattle.tree.specs.Occurs.{occ-distinct, occ-plug, size-bound}
-use Rattle.tree.specs.Rise as Rise
-use Rattle.tree.specs.Rise.{RiseEnd, calm, rotate, Rises, rises-calm, rises-level, rises-turn}
+use Rattle.tree.specs.InsertFixup as InsertFixup
+use Rattle.tree.specs.InsertFixup.{InsertFixupEnd, balanced, rotate, InsertFixups, insertFixup-balanced, insertFixup-level, insertFixup-turn}
 use Rattle.heap.specs.Rep.{Rep}
 use Rattle.heap.specs.Sites.{linkTo, Way, Site, site-of, of-site}
 use Rattle.heap.specs.Colours.{colours, colours-none, red-is}
 use Rattle.heap.specs.Paths.{OnceWay, path-to, depth}
-use Rattle.heap.specs.Climbs.{way-sides, pairsUp, riseEnding, rise-links}
+use Rattle.heap.specs.Fixups.{way-sides, pairsUp, insertFixupEnding, insertFixup-links}
 use Rattle.heap.specs.Moves.{Once}
-use Rattle.heap.specs.Phase.{byGrow, growEnding, Sound, Lined, Phase, diag-0, zig-0}
+use Rattle.heap.specs.Phase.{forInsert, insertEnding, Sound, Lined, Phase, diag-0, zig-0}
 use Rattle.heap.specs.RaiseSteps.{split}
 
 -- at most 1,023 nodes
 abbrev pub Small : List ℕ → Type 0
 Small p = length p ≤ 8184
 
-pub rep-range : (p : List ℕ) (a : ℕ) (t : Linked) (n : ℕ) → Rep p a t → n ∈ nodes t → Within p n
+pub rep-range : (p : List ℕ) (a : ℕ) (t : Linked) (n : ℕ) → Rep p a t → n ∈ nodes t → InPool p n
 rep-range p a nil n h i = absurd i
 rep-range p a (cell N l r) n h (inl e) = rw e (h .0 .within)
 rep-range p a (cell N l r) n h (inr i) = ⊎-elim (λ j. rep-range p _ l n (h .1) j) (λ j. rep-range p _ r n (h .2) j) (in-append n (nodes l) (nodes r) .0 i)
 
 -- so a way of a sound tree of the pool's nodes has at most 20 nodes
-pub way-bound : (p : List ℕ) (f : ℕ → Colour) (fs : List Frame) (t : Linked) → Small p → Once (plug fs t) → RedBlack (erase f (plug fs t)) → ((n : ℕ) → n ∈ nodes (plug fs t) → Within p n)
+pub way-bound : (p : List ℕ) (f : ℕ → Colour) (fs : List Frame) (t : Linked) → Small p → Once (plug fs t) → RedBlack (erase f (plug fs t)) → ((n : ℕ) → n ∈ nodes (plug fs t) → InPool p n)
     → length fs + height (erase f t) ≤ 20
 way-bound p f fs t small once good within =
     let T = plug fs t in
@@ -63,49 +63,49 @@ pub once-way : (fs : List Frame) (t : Linked) → Once (plug fs t) → OnceWay f
 once-way fs t h i = let a = h i in let b = occ-plug fs t i in omega arith
 
 -- The climb.
-pub insert-climb : (st : State) (k : ℕ) (fs : List Frame) → Way (st .pool) (st .register .root) fs → Into k fs → OnceWay fs → length fs ≤ pathBound
-    → insertClimb st k (linkTo fs) ≡ climb (Rise.rise (eraseWay (colours (st .pool)) fs) .levels) (growEnding (colours (st .pool)) fs)
-unfolding insertClimb
-insert-climb st k [] w i o l = rw (red-is (st .pool) 0, colours-none (st .pool))
-insert-climb st k (hole s N y ∷ fs) w i o l =
+pub insert-fixup : (st : State) (k : ℕ) (fs : List Frame) → Way (st .pool) (st .register .root) fs → Into k fs → OnceWay fs → length fs ≤ pathBound
+    → fixupAfterInsert st k (linkTo fs) ≡ fixupResult (InsertFixup.insertFixup (eraseWay (colours (st .pool)) fs) .levels) (insertEnding (colours (st .pool)) fs)
+unfolding fixupAfterInsert
+insert-fixup st k [] w i o l = rw (red-is (st .pool) 0, colours-none (st .pool))
+insert-fixup st k (hole s N y ∷ fs) w i o l =
     let p = st .pool in
     let path = path-to p (st .register .root) k (hole s N y ∷ fs) i o l w in
-    let r = rise-links p 0 (hole s N y ∷ fs) (way-sides p (st .register .root) (hole s N y ∷ fs) w) in
+    let r = insertFixup-links p 0 (hole s N y ∷ fs) (way-sides p (st .register .root) (hole s N y ∷ fs) w) in
     colour-case (colours p (N .num))
     (λ e. rw (owner-at s (N .num), red-is p (N .num), e, path) (rw e at r ∙ rw zero-add))
     (λ e. rw (owner-at s (N .num), red-is p (N .num), e))
 
 -- how the climb ends, in a red-black tree
-pub data Stops : List Frame → RiseEnd → Type 0 where
-  stops-calm : {fs : List Frame} → Stops fs calm
+pub data Stops : List Frame → InsertFixupEnd → Type 0 where
+  stops-balanced : {fs : List Frame} → Stops fs balanced
   stops-turn : {s z : Side} {P Q : Node} {y a : Linked} {fs : List Frame} → Stops (hole s P y ∷ hole z Q a ∷ fs) (rotate (sameSide s z) z)
 
 data Case (c : Colour) (d : Colour) (fs : List Seq.Frame) : Type 0 where
-  case-calm : c ≡ black → Case c d fs
-  case-level : c ≡ red → d ≡ red → Rises fs → Case c d fs
+  case-balanced : c ≡ black → Case c d fs
+  case-level : c ≡ red → d ≡ red → InsertFixups fs → Case c d fs
   case-turn : c ≡ red → d ≡ black → Case c d fs
 
-rises-one : {s : Side} {c : Colour} {k v : ℕ} {y : Tree} → Rises (Seq.frame s c k v y ∷ []) → c ≡ black
-rises-one rises-calm = refl
+insertFixup-one : {s : Side} {c : Colour} {k v : ℕ} {y : Tree} → InsertFixups (Seq.frame s c k v y ∷ []) → c ≡ black
+insertFixup-one insertFixup-balanced = refl
 
-rises-two : {s z : Side} {c d : Colour} {k v j w : ℕ} {y a : Tree} {fs : List Seq.Frame} → Rises (Seq.frame s c k v y ∷ Seq.frame z d j w a ∷ fs) → Case c (colourOf a) fs
-rises-two rises-calm = case-calm refl
-rises-two (rises-level e r) = case-level refl e r
-rises-two (rises-turn e) = case-turn refl e
+insertFixup-two : {s z : Side} {c d : Colour} {k v j w : ℕ} {y a : Tree} {fs : List Seq.Frame} → InsertFixups (Seq.frame s c k v y ∷ Seq.frame z d j w a ∷ fs) → Case c (colourOf a) fs
+insertFixup-two insertFixup-balanced = case-balanced refl
+insertFixup-two (insertFixup-level e r) = case-level refl e r
+insertFixup-two (insertFixup-turn e) = case-turn refl e
 
-pub rise-stops : (f : ℕ → Colour) (fs : List Frame) → Rises (eraseWay f fs) → Stops (pairsUp (Rise.rise (eraseWay f fs) .levels) fs) (Rise.rise (eraseWay f fs) .end)
-rise-stops f [] r = stops-calm
-rise-stops f (hole s N y ∷ []) r = let e = rises-one r in rw e stops-calm
-rise-stops f (hole s N y ∷ hole z Q a ∷ fs) r = go (rises-two r) (λ i. rise-stops f fs i)
+pub insertFixup-stops : (f : ℕ → Colour) (fs : List Frame) → InsertFixups (eraseWay f fs) → Stops (pairsUp (InsertFixup.insertFixup (eraseWay f fs) .levels) fs) (InsertFixup.insertFixup (eraseWay f fs) .end)
+insertFixup-stops f [] r = stops-balanced
+insertFixup-stops f (hole s N y ∷ []) r = let e = insertFixup-one r in rw e stops-balanced
+insertFixup-stops f (hole s N y ∷ hole z Q a ∷ fs) r = go (insertFixup-two r) (λ i. insertFixup-stops f fs i)
   where
-    go : Case (f (N .num)) (colourOf (erase f a)) (eraseWay f fs) → (Rises (eraseWay f fs) → Stops (pairsUp (Rise.rise (eraseWay f fs) .levels) fs) (Rise.rise (eraseWay f fs) .end))
-        → Stops (pairsUp (Rise.rise (eraseWay f (hole s N y ∷ hole z Q a ∷ fs)) .levels) (hole s N y ∷ hole z Q a ∷ fs)) (Rise.rise (eraseWay f (hole s N y ∷ hole z Q a ∷ fs)) .end)
-    go (case-calm e) again = rw e stops-calm
+    go : Case (f (N .num)) (colourOf (erase f a)) (eraseWay f fs) → (InsertFixups (eraseWay f fs) → Stops (pairsUp (InsertFixup.insertFixup (eraseWay f fs) .levels) fs) (InsertFixup.insertFixup (eraseWay f fs) .end))
+        → Stops (pairsUp (InsertFixup.insertFixup (eraseWay f (hole s N y ∷ hole z Q a ∷ fs)) .levels) (hole s N y ∷ hole z Q a ∷ fs)) (InsertFixup.insertFixup (eraseWay f (hole s N y ∷ hole z Q a ∷ fs)) .end)
+    go (case-balanced e) again = rw e stops-balanced
     go (case-level e d i) again = rw (e, d) (again i)
     go (case-turn e d) again = rw (e, d) stops-turn
 
-pub stops-there : {fs : List Frame} {e : RiseEnd} → Stops fs e → missing (riseEnding e fs) ≡ false
-stops-there stops-calm = refl
+pub stops-there : {fs : List Frame} {e : InsertFixupEnd} → Stops fs e → missing (insertFixupEnding e fs) ≡ false
+stops-there stops-balanced = refl
 stops-there stops-turn = refl
 
 -- the phase after the climb's colours: the tree u at the place where it ended is there
@@ -113,14 +113,14 @@ module _ (q : List ℕ) (root : ℕ) (G : Tree) where
   abbrev g : ℕ → Colour
   g = colours q
 
-  abbrev Turning : List Frame → RiseEnd → Linked → Type 0
-  Turning U e u = Site q root U u → Lined G (plug U u) → Proper G → G ≡ Seq.paint black (Rise.risen e (eraseWay g U) (erase g u))
-      → Phase q root G (plug U u) (endingStores (riseEnding e U))
+  abbrev Turning : List Frame → InsertFixupEnd → Linked → Type 0
+  Turning U e u = Site q root U u → Lined G (plug U u) → Proper G → G ≡ Seq.paint black (InsertFixup.risen e (eraseWay g U) (erase g u))
+      → Phase q root G (plug U u) (endingStores (insertFixupEnding e U))
 
   turn-outer : (z : Side) (P Q : Node) (y a : Linked) (fs : List Frame) (u : Linked) → Turning (hole z P y ∷ hole z Q a ∷ fs) (rotate true z) u
   turn-outer z P Q y a fs u h lined good goal =
       let i = site-of q root fs (at z Q (at z P u y) a) (of-site q root (hole z P y ∷ hole z Q a ∷ fs) u h) in
-      diag-0 byGrow fs z P Q u y a i lined good tt (goal ∙ rw (erase-at g z P u y))
+      diag-0 forInsert fs z P Q u y a i lined good tt (goal ∙ rw (erase-at g z P u y))
 
   turn-inner : (z : Side) (P Q : Node) (y a : Linked) (fs : List Frame) (u : Linked) → NotLeaf (erase g u) → Turning (hole (other z) P y ∷ hole z Q a ∷ fs) (rotate false z) u
   turn-inner z P Q y a fs u there = split (Turning (hole (other z) P y ∷ hole z Q a ∷ fs) (rotate false z)) z go g u there
@@ -134,8 +134,8 @@ module _ (q : List ℕ) (root : ℕ) (G : Tree) where
           = sym (erase-at g (other z) P (at z N l r) y) ∙ ap (erase g) e in
           rw same (zig-0 true fs z P N Q y l r a i (rw same at lined) good (goal ∙ rw c))
 
-  pub turn-phase : {U : List Frame} {e : RiseEnd} (u : Linked) → Stops U e → ¬ (e ≡ calm) → NotLeaf (erase g u) → Turning U e u
-  turn-phase u stops-calm n there = absurd (n refl)
+  pub turn-phase : {U : List Frame} {e : InsertFixupEnd} (u : Linked) → Stops U e → ¬ (e ≡ balanced) → NotLeaf (erase g u) → Turning U e u
+  turn-phase u stops-balanced n there = absurd (n refl)
   turn-phase u (stops-turn {s} {z} {P} {Q} {y} {a} {fs}) n there = go s (sameSide s z) (seen z s)
     where
       go : (s : Side) (b : Bool) → Seen z s b → Turning (hole s P y ∷ hole z Q a ∷ fs) (rotate b z) u

@@ -7,10 +7,10 @@ use mathlib.Core.List.{List, _∷_}
 use lib.Dec.{eqb}
 use borrow.Author.Tests.{ne-eqb}
 use native.Mathlib.Omega.{arith}
-use Rattle.types.specs.declared.Side.{Side}
-use Rattle.types.specs.declared.Rule.{Rule}
-use Rattle.types.specs.declared.Step.the-variants.{DiagLower, ZigLowerA, ZigLowerC}
-use Rattle.types.specs.Side.{other, linkAt}
+use Rattle.datatypes.specs.declared.Side.{Side}
+use Rattle.datatypes.specs.declared.Purpose.{Purpose}
+use Rattle.datatypes.specs.declared.Step.the-variants.{DiagLower, ZigLowerA, ZigLowerC}
+use Rattle.datatypes.specs.Side.{other, linkAt}
 use Rattle.spec.specs.Pool.{child}
 use Rattle.spec.specs.Register.{State, linkNode, setLink}
 use Rattle.spec.specs.Free.{takeNode}
@@ -76,20 +76,20 @@ pub zig-count : (fs : List Frame) (s : Side) (A B C : Node) (a x y r : Linked) (
 zig-count fs s A B C a x y r i = simp (occ-plug, occ-at) (omega arith)
 
 -- diag lower
-module _ (st : State) (fs : List Frame) (s : Side) (rule : Rule) (B C : Node) (o x r : Linked)
+module _ (st : State) (fs : List Frame) (s : Side) (purpose : Purpose) (B C : Node) (o x r : Linked)
     (h : At st fs (at s C (at s B o x) r)) (once : Once (plug fs (at s C (at s B o x) r))) (fresh : Fresh st (plug fs (at s C (at s B o x) r))) where
   abbrev n : ℕ
   n = st .register .first
 
-  pub diag-lower-is : diagLower st (linkTo fs) s rule
-      ≡ made (setLink (takeNode st (C .key) (C .val) s (child (st .pool) (other s) (B .num)) (child (st .pool) (other s) (C .num)) (copyColour rule)) (linkAt (other s) (B .num)) n) (linkAt (other s) (B .num)) n
+  pub diag-lower-is : diagLower st (linkTo fs) s purpose
+      ≡ made (setLink (takeNode st (C .key) (C .val) s (child (st .pool) (other s) (B .num)) (child (st .pool) (other s) (C .num)) (copyColour purpose)) (linkAt (other s) (B .num)) n) (linkAt (other s) (B .num)) n
   unfolding diagLower
   diag-lower-is =
       let t = top-of st fs s C (at s B o x) r h in
       let b = below-is st s s (C .num) B o x (t .near) in
       rw (t .is, b, t .words .key-is, t .words .val-is)
 
-  pub diag-lower : Linked-in st (diagLower st (linkTo fs) s rule .after) fs (diag₁ s B C n o x r) (copyColour rule)
+  pub diag-lower : Linked-in st (diagLower st (linkTo fs) s purpose .after) fs (diag₁ s B C n o x r) (copyColour purpose)
   diag-lower =
       let t = top-of st fs s C (at s B o x) r h in
       let hb = near-down st fs s C (at s B o x) r h in
@@ -108,10 +108,10 @@ module _ (st : State) (fs : List Frame) (s : Side) (rule : Rule) (B C : Node) (o
       rw diag-lower-is
       (near-up fs s C (at s B o (at s (copy C n) x r)) r
       (far-up (hole s C r ∷ fs) s B o (at s (copy C n) x r)
-      (link-in st gs x (C .key) (C .val) s (child (st .pool) (other s) (B .num)) (child (st .pool) (other s) (C .num)) (copyColour rule) x r (rw whole fresh) hx (tb .far) (t .far) (omega arith) (omega arith)
+      (link-in st gs x (C .key) (C .val) s (child (st .pool) (other s) (B .num)) (child (st .pool) (other s) (C .num)) (copyColour purpose) x r (rw whole fresh) hx (tb .far) (t .far) (omega arith) (omega arith)
       (omega arith, omega arith, omega arith))))
 
-  pub diag-lower-finds : stepFinds st (linkTo fs) (DiagLower s rule) ≡ true
+  pub diag-lower-finds : stepFinds st (linkTo fs) (DiagLower s purpose) ≡ true
   unfolding stepFinds
   diag-lower-finds =
       let t = top-of st fs s C (at s B o x) r h in
@@ -119,17 +119,17 @@ module _ (st : State) (fs : List Frame) (s : Side) (rule : Rule) (B C : Node) (o
       let tb = top-of st (hole s C r ∷ fs) s B o x (near-down st fs s C (at s B o x) r h) in
       rw (t .is, b, is-node (B .num) (tb .words .within .low), not-empty st _ fresh)
 
-  pub diag-lower-stores : (diagLower st (linkTo fs) s rule .link ≡ linkAt (other s) (B .num)) × (diagLower st (linkTo fs) s rule .node ≡ n)
+  pub diag-lower-stores : (diagLower st (linkTo fs) s purpose .link ≡ linkAt (other s) (B .num)) × (diagLower st (linkTo fs) s purpose .node ≡ n)
   diag-lower-stores = rw diag-lower-is (refl, refl)
 
 -- zig lower A
-module _ (st : State) (fs : List Frame) (s : Side) (rule : Rule) (A B C : Node) (a x y r : Linked)
+module _ (st : State) (fs : List Frame) (s : Side) (purpose : Purpose) (A B C : Node) (a x y r : Linked)
     (h : At st fs (at s C (at s A a (at s B x y)) r)) (once : Once (plug fs (at s C (at s A a (at s B x y)) r))) (fresh : Fresh st (plug fs (at s C (at s A a (at s B x y)) r))) where
   abbrev m : ℕ
   m = st .register .first
 
-  pub zig-lower-A-is : zigLowerA st (linkTo fs) s rule
-      ≡ made (setLink (takeNode st (A .key) (A .val) s (child (st .pool) s (A .num)) (child (st .pool) s (B .num)) (copyColour rule)) (linkAt s (B .num)) m) (linkAt s (B .num)) m
+  pub zig-lower-A-is : zigLowerA st (linkTo fs) s purpose
+      ≡ made (setLink (takeNode st (A .key) (A .val) s (child (st .pool) s (A .num)) (child (st .pool) s (B .num)) (copyColour purpose)) (linkAt s (B .num)) m) (linkAt s (B .num)) m
   unfolding zigLowerA
   zig-lower-A-is =
       let t = top-of st fs s C (at s A a (at s B x y)) r h in
@@ -138,7 +138,7 @@ module _ (st : State) (fs : List Frame) (s : Side) (rule : Rule) (A B C : Node) 
       let ib = below-is st (other s) s (A .num) B x y (ta .far) in
       rw (t .is, ia, ib, ta .words .key-is, ta .words .val-is)
 
-  pub zig-lower-A : Linked-in st (zigLowerA st (linkTo fs) s rule .after) fs (zig₁ s A B C m 0 a x y r) (copyColour rule)
+  pub zig-lower-A : Linked-in st (zigLowerA st (linkTo fs) s purpose .after) fs (zig₁ s A B C m 0 a x y r) (copyColour purpose)
   zig-lower-A =
       let ha = near-down st fs s C (at s A a (at s B x y)) r h in
       let ta = top-of st (hole s C r ∷ fs) s A a (at s B x y) ha in
@@ -159,10 +159,10 @@ module _ (st : State) (fs : List Frame) (s : Side) (rule : Rule) (A B C : Node) 
       (near-up fs s C (at s A a (at s B (at s (copy A m) a x) y)) r
       (far-up (hole s C r ∷ fs) s A a (at s B (at s (copy A m) a x) y)
       (near-up (hole (other s) A a ∷ hole s C r ∷ fs) s B (at s (copy A m) a x) y
-      (link-in st gs x (A .key) (A .val) s (child (st .pool) s (A .num)) (child (st .pool) s (B .num)) (copyColour rule) a x (rw whole fresh) hx (ta .near) (tb .near) (omega arith) (omega arith)
+      (link-in st gs x (A .key) (A .val) s (child (st .pool) s (A .num)) (child (st .pool) s (B .num)) (copyColour purpose) a x (rw whole fresh) hx (ta .near) (tb .near) (omega arith) (omega arith)
       (omega arith, omega arith, omega arith)))))
 
-  pub zig-lower-A-finds : stepFinds st (linkTo fs) (ZigLowerA s rule) ≡ true
+  pub zig-lower-A-finds : stepFinds st (linkTo fs) (ZigLowerA s purpose) ≡ true
   unfolding stepFinds
   zig-lower-A-finds =
       let t = top-of st fs s C (at s A a (at s B x y)) r h in
@@ -173,11 +173,11 @@ module _ (st : State) (fs : List Frame) (s : Side) (rule : Rule) (A B C : Node) 
       let tb = top-of st (hole (other s) A a ∷ hole s C r ∷ fs) s B x y (far-down st (hole s C r ∷ fs) s A a (at s B x y) ha) in
       rw (t .is, ia, ib, is-node (B .num) (tb .words .within .low), not-empty st _ fresh)
 
-  pub zig-lower-A-stores : (zigLowerA st (linkTo fs) s rule .link ≡ linkAt s (B .num)) × (zigLowerA st (linkTo fs) s rule .node ≡ m)
+  pub zig-lower-A-stores : (zigLowerA st (linkTo fs) s purpose .link ≡ linkAt s (B .num)) × (zigLowerA st (linkTo fs) s purpose .node ≡ m)
   zig-lower-A-stores = rw zig-lower-A-is (refl, refl)
 
 -- zig lower C: A's copy, m, is there already; the tree before had neither copy
-module _ (st : State) (fs : List Frame) (s : Side) (rule : Rule) (A B C : Node) (m : ℕ) (a x y r : Linked)
+module _ (st : State) (fs : List Frame) (s : Side) (purpose : Purpose) (A B C : Node) (m : ℕ) (a x y r : Linked)
     (h : At st fs (zig₁ s A B C m 0 a x y r)) (once : Once (plug fs (at s C (at s A a (at s B x y)) r)))
     (old : occ m (nodes (plug fs (at s C (at s A a (at s B x y)) r))) ≡ 0) (fresh : Fresh st (plug fs (zig₁ s A B C m 0 a x y r))) where
   abbrev k : ℕ
@@ -186,8 +186,8 @@ module _ (st : State) (fs : List Frame) (s : Side) (rule : Rule) (A B C : Node) 
   abbrev low : Linked
   low = at s (copy A m) a x
 
-  pub zig-lower-C-is : zigLowerC st (linkTo fs) s rule
-      ≡ made (setLink (takeNode st (C .key) (C .val) s (child (st .pool) (other s) (B .num)) (child (st .pool) (other s) (C .num)) (copyColour rule)) (linkAt (other s) (B .num)) k) (linkAt (other s) (B .num)) k
+  pub zig-lower-C-is : zigLowerC st (linkTo fs) s purpose
+      ≡ made (setLink (takeNode st (C .key) (C .val) s (child (st .pool) (other s) (B .num)) (child (st .pool) (other s) (C .num)) (copyColour purpose)) (linkAt (other s) (B .num)) k) (linkAt (other s) (B .num)) k
   unfolding zigLowerC
   zig-lower-C-is =
       let t = top-of st fs s C (at s A a (at s B low y)) r h in
@@ -196,7 +196,7 @@ module _ (st : State) (fs : List Frame) (s : Side) (rule : Rule) (A B C : Node) 
       let ib = below-is st (other s) s (A .num) B low y (ta .far) in
       rw (t .is, ia, ib, t .words .key-is, t .words .val-is)
 
-  pub zig-lower-C : Linked-in st (zigLowerC st (linkTo fs) s rule .after) fs (zig₂ s A B C m k a x y r) (copyColour rule)
+  pub zig-lower-C : Linked-in st (zigLowerC st (linkTo fs) s purpose .after) fs (zig₂ s A B C m k a x y r) (copyColour purpose)
   zig-lower-C =
       let t = top-of st fs s C (at s A a (at s B low y)) r h in
       let ha = near-down st fs s C (at s A a (at s B low y)) r h in
@@ -221,10 +221,10 @@ module _ (st : State) (fs : List Frame) (s : Side) (rule : Rule) (A B C : Node) 
       (near-up fs s C (at s A a (at s B low (at s (copy C k) y r))) r
       (far-up (hole s C r ∷ fs) s A a (at s B low (at s (copy C k) y r))
       (far-up (hole (other s) A a ∷ hole s C r ∷ fs) s B low (at s (copy C k) y r)
-      (link-in st gs y (C .key) (C .val) s (child (st .pool) (other s) (B .num)) (child (st .pool) (other s) (C .num)) (copyColour rule) y r (rw whole fresh) hy (tb .far) (t .far) (omega arith) (omega arith)
+      (link-in st gs y (C .key) (C .val) s (child (st .pool) (other s) (B .num)) (child (st .pool) (other s) (C .num)) (copyColour purpose) y r (rw whole fresh) hy (tb .far) (t .far) (omega arith) (omega arith)
       (omega arith, omega arith, omega arith)))))
 
-  pub zig-lower-C-finds : stepFinds st (linkTo fs) (ZigLowerC s rule) ≡ true
+  pub zig-lower-C-finds : stepFinds st (linkTo fs) (ZigLowerC s purpose) ≡ true
   unfolding stepFinds
   zig-lower-C-finds =
       let t = top-of st fs s C (at s A a (at s B low y)) r h in
@@ -235,5 +235,5 @@ module _ (st : State) (fs : List Frame) (s : Side) (rule : Rule) (A B C : Node) 
       let tb = top-of st (hole (other s) A a ∷ hole s C r ∷ fs) s B low y (far-down st (hole s C r ∷ fs) s A a (at s B low y) ha) in
       rw (t .is, ia, ib, is-node (B .num) (tb .words .within .low), not-empty st _ fresh)
 
-  pub zig-lower-C-stores : (zigLowerC st (linkTo fs) s rule .link ≡ linkAt (other s) (B .num)) × (zigLowerC st (linkTo fs) s rule .node ≡ k)
+  pub zig-lower-C-stores : (zigLowerC st (linkTo fs) s purpose .link ≡ linkAt (other s) (B .num)) × (zigLowerC st (linkTo fs) s purpose .node ≡ k)
   zig-lower-C-stores = rw zig-lower-C-is (refl, refl)

@@ -6,15 +6,15 @@ use mathlib.Core.Logic.{_≢_}
 use mathlib.Core.List.{List, [], _∷_}
 use lib.ListN.{length}
 use native.Mathlib.Omega.{arith}
-use Rattle.types.specs.declared.Side.{Side}
-use Rattle.types.specs.declared.Link.{Link}
-use Rattle.types.specs.declared.Link.the-variants.{Root, Left, Right}
-use Rattle.types.specs.declared.Register.{Register}
+use Rattle.datatypes.specs.declared.Side.{Side}
+use Rattle.datatypes.specs.declared.Link.{Link}
+use Rattle.datatypes.specs.declared.Link.the-variants.{Root, Left, Right}
+use Rattle.datatypes.specs.declared.Register.{Register}
 use Rattle.spec.specs.Pool.{paint, blackColour, leftWord, rightWord}
 use Rattle.spec.specs.Register.{State, setLink, withRoot, withHeld}
 use Rattle.spec.specs.Free.{takeNode}
 use Rattle.spec.specs.Turn.{painted, blackRoot}
-use Rattle.laws.specs.Words.{Node as Within, length-setWord}
+use Rattle.laws.specs.Words.{InPool, length-setWord}
 use Rattle.sequential.specs.Tree as Seq
 use Rattle.sequential.specs.Tree.{black}
 use Rattle.tree.specs.Linked.{Linked, at, nodes}
@@ -33,7 +33,7 @@ At st fs t = Site (st .pool) (st .register .root) fs t
 
 -- the node that a step takes: one of the pool's that does not stand in the tree
 pub record Fresh (st : State) (T : Linked) : Type 0 where
-  pub within : Within (st .pool) (st .register .first)
+  pub within : InPool (st .pool) (st .register .first)
   pub new : occ (st .register .first) (nodes T) ≡ 0
 
 -- each node stands at most once in the tree
@@ -87,7 +87,7 @@ link-size st Root v = refl
 link-size st (Left n) v = length-setWord (st .pool) n leftWord v
 link-size st (Right n) v = length-setWord (st .pool) n rightWord v
 
-pub taken-filled : (st : State) (k v : ℕ) (s : Side) (x y c : ℕ) → Within (st .pool) (st .register .first)
+pub taken-filled : (st : State) (k v : ℕ) (s : Side) (x y c : ℕ) → InPool (st .pool) (st .register .first)
     → Filled (st .pool) (takeNode st k v s x y c .pool) (st .register .first) k v s x y c
 taken-filled st k v s x y c w = rw (take-pool st k v s x y c) (fill-node (st .pool) (st .register .first) k v s x y c w)
 

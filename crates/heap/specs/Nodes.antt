@@ -5,11 +5,11 @@ use mathlib.Core.Logic.{_⊎_, inl, inr}
 use mathlib.Core.Bool.{Bool, false, false≢true}
 use mathlib.Core.List.{List, [], _∷_, _++_}
 use native.Mathlib.Omega.{arith}
-use Rattle.types.specs.declared.Side.the-variants.{L, R}
-use Rattle.types.specs.declared.Link.{Link}
-use Rattle.types.specs.declared.Link.the-variants.{Root}
-use Rattle.types.specs.declared.Store.{Store}
-use Rattle.types.specs.Side.{other, owner, owner-at}
+use Rattle.datatypes.specs.declared.Side.the-variants.{L, R}
+use Rattle.datatypes.specs.declared.Link.{Link}
+use Rattle.datatypes.specs.declared.Link.the-variants.{Root}
+use Rattle.datatypes.specs.declared.Store.{Store}
+use Rattle.datatypes.specs.Side.{other, owner, owner-at}
 use Rattle.sequential.specs.Tree as Seq
 use Rattle.sequential.specs.Tree.{Colour, Tree}
 use Rattle.tree.specs.Linked.{copy, Linked, nil, cell, at, nodes}
@@ -33,7 +33,7 @@ use Rattle.heap.specs.DetachStep.{third-count}
 pub record Passes (a b new gone : ℕ) : Type 0 where
   pub came : b ≤ 3 * (a + new)
   pub stayed : a ≤ 3 * (b + gone)
-  pub joined : new ≤ b
+  pub writerSide : new ≤ b
   pub was : gone ≤ a
 
 pub shift-nodes : {T U : Linked} {l : Link} {b : ℕ} {new gone : List ℕ} {v : Bool} → Shift T U l b new gone v → (i : ℕ) → Passes (occ i (nodes T)) (occ i (nodes U)) (occ i new) (occ i gone)

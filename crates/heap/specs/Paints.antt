@@ -4,24 +4,24 @@ use mathlib.Core.Path.{_≡_, refl, ap, _∙_}
 use mathlib.Core.List.{List, [], _∷_}
 use lib.ListN.{length}
 use native.Mathlib.Omega.{arith}
-use Rattle.types.specs.declared.Side.{Side}
-use Rattle.types.specs.Side.{other, owner-at}
+use Rattle.datatypes.specs.declared.Side.{Side}
+use Rattle.datatypes.specs.Side.{other, owner-at}
 use Rattle.spec.specs.Pool.{child, paint, blackColour, redColour}
-use Rattle.spec.specs.Plan.{paintRise, paintSink}
+use Rattle.spec.specs.Plan.{paintInsertFixup, paintDeleteLevels}
 use Rattle.sequential.specs.Tree as Seq
 use Rattle.sequential.specs.Tree.{Colour, red, black}
 use Rattle.tree.specs.Linked.{Node, Linked, nil, cell, at, nodes}
 use Rattle.tree.specs.Zipper.{Frame, hole, plug}
 use Rattle.tree.specs.Erase.{erase, eraseWay, erase-at}
 use Rattle.tree.specs.Occurs.{one, one-same, occ, occWay}
-use Rattle.tree.specs.Recolour.{RisesTo, SinksTo}
-use Rattle.tree.specs.Rise as Rise
-use Rattle.tree.specs.Sink as Sink
+use Rattle.tree.specs.Recolour.{InsertFixupTo, DeleteFixupTo}
+use Rattle.tree.specs.InsertFixup as InsertFixup
+use Rattle.tree.specs.DeleteFixup as DeleteFixup
 use Rattle.heap.specs.Rep.{Rep, Alike, alike-refl, alike-trans, rep-alike}
 use Rattle.heap.specs.Sites.{links}
 use Rattle.heap.specs.Colours.{colours, paint-alike, paint-none, paint-other, paint-same, erase-occ, way-occ, erase-paint, erase-top}
 use Rattle.heap.specs.Paths.{OnceWay}
-use Rattle.heap.specs.Climbs.{side-at, Sides, sides-alike, pairsUp, framesUp}
+use Rattle.heap.specs.Fixups.{side-at, Sides, sides-alike, pairsUp, framesUp}
 
 -- painting the top of a tree changes no colour outside it
 pub top-outside : (p : List ℕ) (w c : ℕ) (y : Linked) (n : ℕ) → Rep p w y → occ n (nodes y) ≡ 0 → colours (paint p w c) n ≡ colours p n
@@ -30,41 +30,41 @@ top-outside p w c (cell N l r) n h o =
     paint-other p w c n (λ e. let i = h .0 .is in let x = one-same n in let y : one n (N .num) ≡ one n n = rw (← i, e) in omega arith)
 
 -- q is p with other colours at nodes of the way
-pub record Tinted (p q : List ℕ) (fs : List Frame) : Type 0 where
+pub record ColoursChange (p q : List ℕ) (fs : List Frame) : Type 0 where
   pub links-kept : Alike 4 p q
   pub outside : (n : ℕ) → occWay n fs ≡ 0 → colours q n ≡ colours p n
 
 -- Delete.
-sinks-from : (m : ℕ) (f e g : ℕ → Colour) (fs : List Frame) → ((n : ℕ) → 0 < occWay n fs → e n ≡ f n) → SinksTo m e g fs → SinksTo m f g fs
-sinks-from zero f e g fs h s = s ∙ way-occ f e fs h
-sinks-from (suc m) f e g [] h s = tt
-sinks-from (suc m) f e g (hole z P w ∷ fs) h s = (
+deleteFixup-from : (m : ℕ) (f e g : ℕ → Colour) (fs : List Frame) → ((n : ℕ) → 0 < occWay n fs → e n ≡ f n) → DeleteFixupTo m e g fs → DeleteFixupTo m f g fs
+deleteFixup-from zero f e g fs h s = s ∙ way-occ f e fs h
+deleteFixup-from (suc m) f e g [] h s = tt
+deleteFixup-from (suc m) f e g (hole z P w ∷ fs) h s = (
   s .0 ∙ h (P .num) (let x = one-same (P .num) in omega arith),
   s .1 ∙ ap (Seq.paint red) (erase-occ f e w (λ n i. h n (omega arith))),
-  sinks-from m f e g fs (λ n i. h n (omega arith)) (s .2),
+  deleteFixup-from m f e g fs (λ n i. h n (omega arith)) (s .2),
 )
 
-sink-step : (m : ℕ) (p : List ℕ) (s : Side) (P : Node) (w : Linked) (fs : List Frame)
-    → paintSink (suc m) (links (hole s P w ∷ fs)) p ≡ paintSink m (links fs) (paint p (child p (other s) (P .num)) redColour)
-unfolding paintSink
-sink-step m p s P w fs = rw (owner-at s (P .num), side-at s (P .num))
+deleteFixup-step : (m : ℕ) (p : List ℕ) (s : Side) (P : Node) (w : Linked) (fs : List Frame)
+    → paintDeleteLevels (suc m) (links (hole s P w ∷ fs)) p ≡ paintDeleteLevels m (links fs) (paint p (child p (other s) (P .num)) redColour)
+unfolding paintDeleteLevels
+deleteFixup-step m p s P w fs = rw (owner-at s (P .num), side-at s (P .num))
 
 pub record Sunk (m : ℕ) (p q : List ℕ) (fs : List Frame) : Type 0 where
-  pub tinted : Tinted p q fs
-  pub to : SinksTo m (colours p) (colours q) fs
+  pub tinted : ColoursChange p q fs
+  pub to : DeleteFixupTo m (colours p) (colours q) fs
 
-pub paint-sink : (m : ℕ) (p : List ℕ) (fs : List Frame) → m ≤ length fs → Sides p fs → OnceWay fs → Sunk m p (paintSink m (links fs) p) fs
-unfolding paintSink
-paint-sink zero p fs l w o = record { tinted = record { links-kept = alike-refl 4 p; outside = λ n h. refl }; to = refl }
-paint-sink (suc m) p [] l w o = absurd (let z : ⊥ = omega arith in z)
-paint-sink (suc m) p (hole s P y ∷ fs) l w o =
+pub paint-deleteFixup : (m : ℕ) (p : List ℕ) (fs : List Frame) → m ≤ length fs → Sides p fs → OnceWay fs → Sunk m p (paintDeleteLevels m (links fs) p) fs
+unfolding paintDeleteLevels
+paint-deleteFixup zero p fs l w o = record { tinted = record { links-kept = alike-refl 4 p; outside = λ n h. refl }; to = refl }
+paint-deleteFixup (suc m) p [] l w o = absurd (let z : ⊥ = omega arith in z)
+paint-deleteFixup (suc m) p (hole s P y ∷ fs) l w o =
     let sib = child p (other s) (P .num) in
     let p1 = paint p sib redColour in
-    let q = paintSink m (links fs) p1 in
+    let q = paintDeleteLevels m (links fs) p1 in
     let kept = paint-alike p sib redColour in
-    let i : Sunk m p1 q fs = paint-sink m p1 fs (omega arith) (sides-alike kept fs (w .2)) (λ n. let a = o n in omega arith) in
+    let i : Sunk m p1 q fs = paint-deleteFixup m p1 fs (omega arith) (sides-alike kept fs (w .2)) (λ n. let a = o n in omega arith) in
     let beside : (n : ℕ) → occ n (nodes y) ≡ 0 → colours p1 n ≡ colours p n = λ n h. top-outside p sib redColour y n (w .1) h in
-    rw (sink-step m p s P y fs) (record {
+    rw (deleteFixup-step m p s P y fs) (record {
       tinted = record {
         links-kept = alike-trans kept (i .tinted .links-kept);
         outside = λ n h. i .tinted .outside n (omega arith) ∙ beside n (omega arith);
@@ -72,7 +72,7 @@ paint-sink (suc m) p (hole s P y ∷ fs) l w o =
       to = (
         (let a = o (P .num) in let b = one-same (P .num) in i .tinted .outside (P .num) (omega arith) ∙ beside (P .num) (omega arith)),
         erase-occ (colours p1) (colours q) y (λ n h. i .tinted .outside n (let a = o n in omega arith)) ∙ erase-top p sib redColour y (w .1),
-        sinks-from m (colours p) (colours p1) (colours q) fs (λ n h. beside n (let a = o n in omega arith)) (i .to),
+        deleteFixup-from m (colours p) (colours p1) (colours q) fs (λ n h. beside n (let a = o n in omega arith)) (i .to),
       );
     })
 
@@ -87,58 +87,58 @@ sunk-plug zero fs t = refl
 sunk-plug (suc m) [] t = refl
 sunk-plug (suc m) (hole s N y ∷ fs) t = sunk-plug m fs (at s N t y)
 
-pub over-frames : (m : ℕ) (f : ℕ → Colour) (fs : List Frame) → Sink.overFrames m (eraseWay f fs) ≡ eraseWay f (framesUp m fs)
+pub over-frames : (m : ℕ) (f : ℕ → Colour) (fs : List Frame) → DeleteFixup.overFrames m (eraseWay f fs) ≡ eraseWay f (framesUp m fs)
 over-frames zero f fs = refl
 over-frames (suc m) f [] = refl
 over-frames (suc m) f (hole s N y ∷ fs) = over-frames m f fs
 
-pub sunk-way : (m : ℕ) (f g : ℕ → Colour) (fs : List Frame) → SinksTo m f g fs → eraseWay g (framesUp m fs) ≡ eraseWay f (framesUp m fs)
+pub sunk-way : (m : ℕ) (f g : ℕ → Colour) (fs : List Frame) → DeleteFixupTo m f g fs → eraseWay g (framesUp m fs) ≡ eraseWay f (framesUp m fs)
 sunk-way zero f g fs h = h
 sunk-way (suc m) f g [] h = refl
 sunk-way (suc m) f g (hole s N y ∷ fs) h = sunk-way m f g fs (h .2)
 
-pub sunk-tree : (m : ℕ) (f g : ℕ → Colour) (fs : List Frame) (t : Linked) → SinksTo m f g fs → erase g (sunkTree m fs t) ≡ Sink.reddened m (eraseWay f fs) (erase g t)
+pub sunk-tree : (m : ℕ) (f g : ℕ → Colour) (fs : List Frame) (t : Linked) → DeleteFixupTo m f g fs → erase g (sunkTree m fs t) ≡ DeleteFixup.reddened m (eraseWay f fs) (erase g t)
 sunk-tree zero f g fs t h = refl
 sunk-tree (suc m) f g [] t h = refl
 sunk-tree (suc m) f g (hole s N y ∷ fs) t h = sunk-tree m f g fs (at s N t y) (h .2) ∙ rw (erase-at g s N t y, h .0, h .1)
 
 -- Insert.
-rises-from : (m : ℕ) (f e g : ℕ → Colour) (fs : List Frame) → ((n : ℕ) → 0 < occWay n fs → e n ≡ f n) → RisesTo m e g fs → RisesTo m f g fs
-rises-from zero f e g fs h s = s ∙ way-occ f e fs h
-rises-from (suc m) f e g [] h s = tt
-rises-from (suc m) f e g (hole z P y ∷ []) h s = s ∙ way-occ f e (hole z P y ∷ []) h
-rises-from (suc m) f e g (hole z P y ∷ hole x G a ∷ fs) h s = (
+insertFixup-from : (m : ℕ) (f e g : ℕ → Colour) (fs : List Frame) → ((n : ℕ) → 0 < occWay n fs → e n ≡ f n) → InsertFixupTo m e g fs → InsertFixupTo m f g fs
+insertFixup-from zero f e g fs h s = s ∙ way-occ f e fs h
+insertFixup-from (suc m) f e g [] h s = tt
+insertFixup-from (suc m) f e g (hole z P y ∷ []) h s = s ∙ way-occ f e (hole z P y ∷ []) h
+insertFixup-from (suc m) f e g (hole z P y ∷ hole x G a ∷ fs) h s = (
   s .0,
   s .1,
   s .2 ∙ erase-occ f e y (λ n i. h n (omega arith)),
   s .3 ∙ ap (Seq.paint black) (erase-occ f e a (λ n i. h n (omega arith))),
-  rises-from m f e g fs (λ n i. h n (omega arith)) (s .4),
+  insertFixup-from m f e g fs (λ n i. h n (omega arith)) (s .4),
 )
 
-rise-step : (m : ℕ) (p : List ℕ) (s z : Side) (P G : Node) (y a : Linked) (fs : List Frame)
-    → paintRise (suc m) (links (hole s P y ∷ hole z G a ∷ fs)) p
-    ≡ paintRise m (links fs) (paint (paint (paint p (P .num) blackColour) (child p (other z) (G .num)) blackColour) (G .num) redColour)
-unfolding paintRise
-rise-step m p s z P G y a fs = rw (owner-at s (P .num), owner-at z (G .num), side-at z (G .num))
+insertFixup-step : (m : ℕ) (p : List ℕ) (s z : Side) (P G : Node) (y a : Linked) (fs : List Frame)
+    → paintInsertFixup (suc m) (links (hole s P y ∷ hole z G a ∷ fs)) p
+    ≡ paintInsertFixup m (links fs) (paint (paint (paint p (P .num) blackColour) (child p (other z) (G .num)) blackColour) (G .num) redColour)
+unfolding paintInsertFixup
+insertFixup-step m p s z P G y a fs = rw (owner-at s (P .num), owner-at z (G .num), side-at z (G .num))
 
 pub record Risen (m : ℕ) (p q : List ℕ) (fs : List Frame) : Type 0 where
-  pub tinted : Tinted p q fs
-  pub to : RisesTo m (colours p) (colours q) fs
+  pub tinted : ColoursChange p q fs
+  pub to : InsertFixupTo m (colours p) (colours q) fs
 
-pub paint-rise : (m : ℕ) (p : List ℕ) (fs : List Frame) → m + m ≤ length fs → Sides p fs → OnceWay fs → Risen m p (paintRise m (links fs) p) fs
-unfolding paintRise
-paint-rise zero p fs l w o = record { tinted = record { links-kept = alike-refl 4 p; outside = λ n h. refl }; to = refl }
-paint-rise (suc m) p [] l w o = absurd (let z : ⊥ = omega arith in z)
-paint-rise (suc m) p (hole s P y ∷ []) l w o = absurd (let z : ⊥ = omega arith in z)
-paint-rise (suc m) p (hole s P y ∷ hole z G a ∷ fs) l w o =
+pub paint-insertFixup : (m : ℕ) (p : List ℕ) (fs : List Frame) → m + m ≤ length fs → Sides p fs → OnceWay fs → Risen m p (paintInsertFixup m (links fs) p) fs
+unfolding paintInsertFixup
+paint-insertFixup zero p fs l w o = record { tinted = record { links-kept = alike-refl 4 p; outside = λ n h. refl }; to = refl }
+paint-insertFixup (suc m) p [] l w o = absurd (let z : ⊥ = omega arith in z)
+paint-insertFixup (suc m) p (hole s P y ∷ []) l w o = absurd (let z : ⊥ = omega arith in z)
+paint-insertFixup (suc m) p (hole s P y ∷ hole z G a ∷ fs) l w o =
     let aunt = child p (other z) (G .num) in
     let p1 = paint p (P .num) blackColour in
     let p2 = paint p1 aunt blackColour in
     let p3 = paint p2 (G .num) redColour in
-    let q = paintRise m (links fs) p3 in
+    let q = paintInsertFixup m (links fs) p3 in
     let k1 = paint-alike p (P .num) blackColour in
     let k3 = alike-trans k1 (alike-trans (paint-alike p1 aunt blackColour) (paint-alike p2 (G .num) redColour)) in
-    let i : Risen m p3 q fs = paint-rise m p3 fs (omega arith) (sides-alike k3 fs (w .2 .2)) (λ n. let x = o n in omega arith) in
+    let i : Risen m p3 q fs = paint-insertFixup m p3 fs (omega arith) (sides-alike k3 fs (w .2 .2)) (λ n. let x = o n in omega arith) in
     let rep1 = rep-alike k1 a aunt (w .2 .1) in
     let past1 : (n : ℕ) → one n (P .num) ≡ 0 → colours p1 n ≡ colours p n = λ n h. paint-other p (P .num) blackColour n (λ e. let x = one-same n in let y : one n (P .num) ≡ one n n = rw e in omega arith) in
     let past2 : (n : ℕ) → occ n (nodes a) ≡ 0 → colours p2 n ≡ colours p1 n = λ n h. top-outside p1 aunt blackColour a n rep1 h in
@@ -148,7 +148,7 @@ paint-rise (suc m) p (hole s P y ∷ hole z G a ∷ fs) l w o =
     let og = o (G .num) in
     let sp = one-same (P .num) in
     let sg = one-same (G .num) in
-    rw (rise-step m p s z P G y a fs) (record {
+    rw (insertFixup-step m p s z P G y a fs) (record {
       tinted = record {
         links-kept = alike-trans k3 (i .tinted .links-kept);
         outside = λ n h. i .tinted .outside n (omega arith) ∙ past n (omega arith) (omega arith) (omega arith);
@@ -162,7 +162,7 @@ paint-rise (suc m) p (hole s P y ∷ hole z G a ∷ fs) l w o =
         erase-occ (colours p2) (colours q) a (λ n h. let x = o n in i .tinted .outside n (omega arith) ∙ past3 n (omega arith))
             ∙ erase-top p1 aunt blackColour a rep1
             ∙ ap (Seq.paint black) (erase-paint p (P .num) blackColour a (omega arith)),
-        rises-from m (colours p) (colours p3) (colours q) fs (λ n h. let x = o n in past n (omega arith) (omega arith) (omega arith)) (i .to),
+        insertFixup-from m (colours p) (colours p3) (colours q) fs (λ n h. let x = o n in past n (omega arith) (omega arith) (omega arith)) (i .to),
       );
     })
 
@@ -178,19 +178,19 @@ risen-plug (suc m) [] t = refl
 risen-plug (suc m) (f ∷ []) t = refl
 risen-plug (suc m) (hole s N y ∷ hole z G a ∷ fs) t = risen-plug m fs (at z G (at s N t y) a)
 
-pub over-pairs : (m : ℕ) (f : ℕ → Colour) (fs : List Frame) → Rise.overPairs m (eraseWay f fs) ≡ eraseWay f (pairsUp m fs)
+pub over-pairs : (m : ℕ) (f : ℕ → Colour) (fs : List Frame) → InsertFixup.overPairs m (eraseWay f fs) ≡ eraseWay f (pairsUp m fs)
 over-pairs zero f fs = refl
 over-pairs (suc m) f [] = refl
 over-pairs (suc m) f (hole s N y ∷ []) = refl
 over-pairs (suc m) f (hole s N y ∷ hole z G a ∷ fs) = over-pairs m f fs
 
-pub risen-way : (m : ℕ) (f g : ℕ → Colour) (fs : List Frame) → RisesTo m f g fs → eraseWay g (pairsUp m fs) ≡ eraseWay f (pairsUp m fs)
+pub risen-way : (m : ℕ) (f g : ℕ → Colour) (fs : List Frame) → InsertFixupTo m f g fs → eraseWay g (pairsUp m fs) ≡ eraseWay f (pairsUp m fs)
 risen-way zero f g fs h = h
 risen-way (suc m) f g [] h = refl
 risen-way (suc m) f g (hole s N y ∷ []) h = h
 risen-way (suc m) f g (hole s N y ∷ hole z G a ∷ fs) h = risen-way m f g fs (h .4)
 
-pub risen-tree : (m : ℕ) (f g : ℕ → Colour) (fs : List Frame) (t : Linked) → RisesTo m f g fs → erase g (risenTree m fs t) ≡ Rise.recoloured m (eraseWay f fs) (erase g t)
+pub risen-tree : (m : ℕ) (f g : ℕ → Colour) (fs : List Frame) (t : Linked) → InsertFixupTo m f g fs → erase g (risenTree m fs t) ≡ InsertFixup.recoloured m (eraseWay f fs) (erase g t)
 risen-tree zero f g fs t h = refl
 risen-tree (suc m) f g [] t h = refl
 risen-tree (suc m) f g (hole s N y ∷ []) t h = refl

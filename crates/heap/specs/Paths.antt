@@ -9,13 +9,13 @@ use lib.ListN.{length}
 use lib.Dec.{eqb, ltb}
 use borrow.Author.Tests.{lt-ltb, le-ltb, ne-eqb, eq-eqb}
 use native.Mathlib.Omega.{arith}
-use Rattle.types.specs.declared.Side.{Side}
-use Rattle.types.specs.declared.Side.the-variants.{L, R}
-use Rattle.types.specs.declared.Link.{Link}
-use Rattle.types.specs.declared.Link.the-variants.{Root, Left}
-use Rattle.types.specs.declared.Place.{Place}
-use Rattle.types.specs.declared.Place.the-variants.{Held, Empty}
-use Rattle.types.specs.Side.{linkAt}
+use Rattle.datatypes.specs.declared.Side.{Side}
+use Rattle.datatypes.specs.declared.Side.the-variants.{L, R}
+use Rattle.datatypes.specs.declared.Link.{Link}
+use Rattle.datatypes.specs.declared.Link.the-variants.{Root, Left}
+use Rattle.datatypes.specs.declared.Place.{Place}
+use Rattle.datatypes.specs.declared.Place.the-variants.{Held, Empty}
+use Rattle.datatypes.specs.Side.{linkAt}
 use Rattle.spec.specs.Pool.{child}
 use Rattle.spec.specs.Register.{nodeAt}
 use Rattle.spec.specs.Search.{pathBound, towards, seek, sameLink, trail, pathTo, leftmost}

@@ -5,12 +5,12 @@ use mathlib.Core.Bool.{true}
 use mathlib.Core.List.{List}
 use mathlib.Core.Option.{none, some}
 use native.Mathlib.Omega.{arith}
-use Rattle.types.specs.declared.Side.the-variants.{L}
-use Rattle.types.specs.declared.Place.{Place}
-use Rattle.types.specs.declared.Place.the-variants.{Held, Empty}
+use Rattle.datatypes.specs.declared.Side.the-variants.{L}
+use Rattle.datatypes.specs.declared.Place.{Place}
+use Rattle.datatypes.specs.declared.Place.the-variants.{Held, Empty}
 use Rattle.spec.specs.Pool.{isRed}
 use Rattle.spec.specs.Register.{State}
-use Rattle.spec.specs.Plan.{Plan, insertPlan, lossClimb}
+use Rattle.spec.specs.Plan.{Plan, insertPlan, fixupAfterRemoval}
 use Rattle.spec.specs.Calls.{placeOf}
 use Rattle.sequential.specs.Tree.{Colour, red, black, Tree}
 use Rattle.sequential.specs.Insert as SeqInsert
@@ -18,17 +18,17 @@ use Rattle.tree.specs.Order.{here-of}
 use Rattle.tree.specs.Linked.{Node, Linked, nil, cell, at, find}
 use Rattle.tree.specs.Zipper.{Frame, plug, Into, find-into}
 use Rattle.tree.specs.Erase.{erase, eraseWay, erase-plug}
-use Rattle.tree.specs.Ways.{insert-rises}
-use Rattle.tree.specs.Sink.{Sinks}
+use Rattle.tree.specs.Ways.{insert-insertFixup}
+use Rattle.tree.specs.DeleteFixup.{DeleteFixups}
 use Rattle.heap.specs.Rep.{Rep}
 use Rattle.heap.specs.Sites.{linkTo, links, site-of}
 use Rattle.heap.specs.Colours.{redly, colours}
 use Rattle.heap.specs.Paths.{HasKey, seek-place, Located, located}
-use Rattle.heap.specs.Climbs.{Sides}
+use Rattle.heap.specs.Fixups.{Sides}
 use Rattle.heap.specs.Moves.{At}
-use Rattle.heap.specs.Phase.{lossEnding, Sound, Phase, insert-0}
-use Rattle.heap.specs.Inserts.{Small, way-short, once-way, insert-climb, rise-stops, stops-there}
-use Rattle.heap.specs.LossClimb.{loss-red, loss-black}
+use Rattle.heap.specs.Phase.{removalEnding, Sound, Phase, insert-0}
+use Rattle.heap.specs.Inserts.{Small, way-short, once-way, insert-fixup, insertFixup-stops, stops-there}
+use Rattle.heap.specs.RemovalFixup.{removal-red, removal-black}
 
 -- a state at rest with the tree T: nodes distinct, the coloured tree in order and red-black, at most 1,023 nodes
 pub record Rest (st : State) (T : Linked) : Type 0 where
@@ -72,15 +72,15 @@ insert-planned st k v fs h i =
     let f = colours (st .pool) in
     let site = rest-at h fs nil refl in
     let l = way-short (st .pool) (st .register .root) fs nil (h .small) site (h .sound) in
-    let c = insert-climb st k fs (site .way) i (once-way fs nil (h .sound .once)) (omega arith) in
-    let s = rise-stops f fs (insert-rises (eraseWay f fs) (rw (erase-plug f fs nil) at (h .sound .proper .redblack))) in
+    let c = insert-fixup st k fs (site .way) i (once-way fs nil (h .sound .once)) (omega arith) in
+    let s = insertFixup-stops f fs (insert-insertFixup (eraseWay f fs) (rw (erase-plug f fs nil) at (h .sound .proper .redblack))) in
     rw c record { possible = rw (stops-there s); phase = insert-0 k v fs site (h .sound) i refl }
 
 -- the ending that a loss's climb plans
-pub loss-ending : (p : List ℕ) (n x : ℕ) (c : Colour) (fs : List Frame) → isRed p x ≡ redly c → Sides p fs → (colours p n ≡ black → Sinks c (eraseWay (colours p) fs))
-    → lossClimb p n x (links fs) .ending ≡ lossEnding (colours p n) (colours p) c fs
-loss-ending p n x c fs d w s = go (colours p n) refl
+pub removal-ending : (p : List ℕ) (n x : ℕ) (c : Colour) (fs : List Frame) → isRed p x ≡ redly c → Sides p fs → (colours p n ≡ black → DeleteFixups c (eraseWay (colours p) fs))
+    → fixupAfterRemoval p n x (links fs) .ending ≡ removalEnding (colours p n) (colours p) c fs
+removal-ending p n x c fs d w s = go (colours p n) refl
   where
-    go : (e : Colour) → colours p n ≡ e → lossClimb p n x (links fs) .ending ≡ lossEnding e (colours p) c fs
-    go red e = ap (λ z. z .ending) (loss-red p n x (links fs) e)
-    go black e = ap (λ z. z .ending) (loss-black p n x c fs e d w (s e))
+    go : (e : Colour) → colours p n ≡ e → fixupAfterRemoval p n x (links fs) .ending ≡ removalEnding e (colours p) c fs
+    go red e = ap (λ z. z .ending) (removal-red p n x (links fs) e)
+    go black e = ap (λ z. z .ending) (removal-black p n x c fs e d w (s e))

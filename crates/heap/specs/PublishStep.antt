@@ -5,10 +5,10 @@ use mathlib.Core.Bool.{true}
 use mathlib.Core.List.{List, [], _∷_, _++_, map}
 use lib.ListN.{length, length-append}
 use native.Mathlib.Omega.{arith}
-use Rattle.types.specs.declared.Side.the-variants.{L, R}
-use Rattle.types.specs.declared.Register.{Register}
-use Rattle.types.specs.declared.Write.{Write}
-use Rattle.types.specs.declared.Step.the-variants.{Publish, Detach}
+use Rattle.datatypes.specs.declared.Side.the-variants.{L, R}
+use Rattle.datatypes.specs.declared.Register.{Register}
+use Rattle.datatypes.specs.declared.Write.{Write}
+use Rattle.datatypes.specs.declared.Step.the-variants.{Publish, Detach}
 use Rattle.spec.specs.Pool.{child}
 use Rattle.spec.specs.Register.{State, state, setLink, linkNode, withAwaited, withWrite, readingSlots}
 use Rattle.spec.specs.Free.{takeNode, retire}
@@ -23,19 +23,19 @@ use Rattle.tree.specs.Zipper.{Frame, hole, plug, plug-append, Along, sameBut-li
 use Rattle.tree.specs.Erase.{erase, eraseWay, erase-find}
 use Rattle.tree.specs.Occurs.{one, one-same, occ, occ-at, occWay, occ-plug}
 use Rattle.tree.specs.Successor.{third₀, third₁, third-order, publish-find}
-use Rattle.tree.specs.Sink as Sink
-use Rattle.tree.specs.Sink.{Sink}
+use Rattle.tree.specs.DeleteFixup as DeleteFixup
+use Rattle.tree.specs.DeleteFixup.{DeleteFixup}
 use Rattle.heap.specs.Sites.{linkTo}
 use Rattle.heap.specs.Colours.{colours, colours-is, colours-alike, erase-occ, way-occ}
 use Rattle.heap.specs.Fill.{retire-quiet}
-use Rattle.heap.specs.Climbs.{framesUp, tip, sinkEnding}
-use Rattle.heap.specs.SinkRun.{sinkOf}
+use Rattle.heap.specs.Fixups.{framesUp, tip, deleteFixupEnding}
+use Rattle.heap.specs.DeleteFixupRun.{deleteFixupOf}
 use Rattle.heap.specs.Moves.{At, Fresh, new-apart, Linked-in, link-in, clear-of, at-quiet, fields-trans, held-fields}
 use Rattle.heap.specs.Lowers.{is-node, not-empty, Top, top-of, far-down}
-use Rattle.heap.specs.Tints.{tint-refl}
+use Rattle.heap.specs.ColourWork.{colours-refl}
 use Rattle.heap.specs.Parts.{filled, queue-trans, held-queue, await-queue, parts-of}
 use Rattle.heap.specs.Tolds.{Told, told-delete}
-use Rattle.heap.specs.Phase.{lossEnding, standIn, Sound, Phase, detach-0}
+use Rattle.heap.specs.Phase.{removalEnding, standIn, Sound, Phase, detach-0}
 use Rattle.heap.specs.Shift.{by-publish, Next}
 use Rattle.heap.specs.Inserts.{Small, way-short}
 use Rattle.heap.specs.InsertStep.{held-root, held-is}
@@ -110,8 +110,8 @@ module _ (st : State) (G : Tree) (fs gs : List Frame) (B C : Node) (l y : Linked
   abbrev W : List Frame
   W = gs ++ (hole R (copy C n) l ∷ fs)
 
-  top : Top st fs L B l (plug gs (at L C nil y))
-  top = top-of st fs L B l (plug gs (at L C nil y)) h
+  capacity : Top st fs L B l (plug gs (at L C nil y))
+  capacity = top-of st fs L B l (plug gs (at L C nil y)) h
 
   siteC : At st (gs ++ (hole R B l ∷ fs)) (cell C nil y)
   siteC = site-append p (st .register .root) gs (hole R B l ∷ fs) (cell C nil y) (far-down st fs L B l (plug gs (at L C nil y)) h)
@@ -141,7 +141,7 @@ module _ (st : State) (G : Tree) (fs gs : List Frame) (B C : Node) (l y : Linked
 
   publish-is : publishStore st (linkTo fs) (C .num) ≡ made (retire awaiting (B .num)) (linkTo fs) n
   unfolding publishStore
-  publish-is = let w = top-of st (gs ++ (hole R B l ∷ fs)) L C nil y siteC .words in rw (top .is, w .key-is, w .val-is)
+  publish-is = let w = top-of st (gs ++ (hole R B l ∷ fs)) L C nil y siteC .words in rw (capacity .is, w .key-is, w .val-is)
 
   in-tree : Linked-in st stored fs (third₁ L B C n l y gs) (colourWordOf st (B .num))
   in-tree =
@@ -150,7 +150,7 @@ module _ (st : State) (G : Tree) (fs gs : List Frame) (B C : Node) (l y : Linked
       let cn = count n in
       let d = occ-plug gs (cell C nil y) n in
       let e = occ-at L C nil y n in
-      link-in st fs (third₀ L B C 0 l y gs) (C .key) (C .val) L (child p L (B .num)) (child p R (B .num)) (colourWordOf st (B .num)) l (plug gs (at L C nil y)) fresh h (top .near) (top .far)
+      link-in st fs (third₀ L B C 0 l y gs) (C .key) (C .val) L (child p L (B .num)) (child p R (B .num)) (colourWordOf st (B .num)) l (plug gs (at L C nil y)) fresh h (capacity .near) (capacity .far)
       (omega arith) (omega arith)
       (clear-of fs (third₀ L B C 0 l y gs) (third₁ L B C n l y gs) (good .once)
       (λ i w. let a = each i in let b = count i in let k = new-apart i n (nodes T) (fresh .new) (omega arith) in
@@ -192,30 +192,30 @@ module _ (st : State) (G : Tree) (fs gs : List Frame) (B C : Node) (l y : Linked
   ways : eraseWay g W ≡ eraseWay f old
   ways = way-append g gs (hole R (copy C n) l ∷ fs) ∙ rw (way-occ f g gs in-gs, new-colour, gl, way-occ f g fs in-fs) (sym (way-append f gs (hole R (standIn B C) l ∷ fs)))
 
-  ren : Renamed (B .num) n (top .words .within .low) old W
-  ren = let a = each (B .num) in let b = one-same (B .num) in renamed (B .num) n (top .words .within .low) gs (standIn B C) (copy C n) l fs refl refl (omega arith) (omega arith) (omega arith)
+  ren : Renamed (B .num) n (capacity .words .within .low) old W
+  ren = let a = each (B .num) in let b = one-same (B .num) in renamed (B .num) n (capacity .words .within .low) gs (standIn B C) (copy C n) l fs refl refl (omega arith) (omega arith) (omega arith)
 
-  ren-fs : Renamed (B .num) n (top .words .within .low) fs fs
+  ren-fs : Renamed (B .num) n (capacity .words .within .low) fs fs
   ren-fs = let a = each (B .num) in let b = one-same (B .num) in same fs (omega arith)
 
   -- the stores to come, renamed
-  ending-of : (r1 r : Sink) (c1 d : Colour) → r1 ≡ r → c1 ≡ d
-      → map (movedStore (B .num) n) (endingStores (sinkEnding (r .end) (tip f d (r .levels) old) (framesUp (r .levels) old)))
-      ≡ endingStores (sinkEnding (r1 .end) (tip g c1 (r1 .levels) W) (framesUp (r1 .levels) W))
+  ending-of : (r1 r : DeleteFixup) (c1 d : Colour) → r1 ≡ r → c1 ≡ d
+      → map (movedStore (B .num) n) (endingStores (deleteFixupEnding (r .end) (tip f d (r .levels) old) (framesUp (r .levels) old)))
+      ≡ endingStores (deleteFixupEnding (r1 .end) (tip g c1 (r1 .levels) W) (framesUp (r1 .levels) W))
   ending-of r1 r c1 d er ec =
-      moved-stores (B .num) n (top .words .within .low) (r .end) (tip f d (r .levels) old) (moved-up (B .num) n (top .words .within .low) (r .levels) ren)
+      moved-stores (B .num) n (capacity .words .within .low) (r .end) (tip f d (r .levels) old) (moved-up (B .num) n (capacity .words .within .low) (r .levels) ren)
       ∙ sym (rw (er, ec, tip-append f g d (r .levels) gs (standIn B C) (copy C n) l fs new-colour in-gs in-fs))
 
   stores-of : (d e : Colour) → d ≡ e
-      → map (movedStore (B .num) n) (endingStores (lossEnding e f (colourOf (erase f y)) old)) ≡ endingStores (lossEnding d g (colourOf (erase g y)) W)
+      → map (movedStore (B .num) n) (endingStores (removalEnding e f (colourOf (erase f y)) old)) ≡ endingStores (removalEnding d g (colourOf (erase g y)) W)
   stores-of red red q = refl
-  stores-of black black q = ending-of (sinkOf g (colourOf (erase g y)) W) (sinkOf f (colourOf (erase f y)) old) (colourOf (erase g y)) (colourOf (erase f y)) (ap₂ Sink.sink (ap colourOf gy) ways) (ap colourOf gy)
+  stores-of black black q = ending-of (deleteFixupOf g (colourOf (erase g y)) W) (deleteFixupOf f (colourOf (erase f y)) old) (colourOf (erase g y)) (colourOf (erase f y)) (ap₂ DeleteFixup.deleteFixup (ap colourOf gy) ways) (ap colourOf gy)
   stores-of red black q = let z : _≡_ {A = ℕ} 0 1 = cc in absurd (omega arith)
   stores-of black red q = let z : _≡_ {A = ℕ} 0 1 = cc in absurd (omega arith)
 
-  stores : map (movedStore (linkNode st (linkTo fs)) n) (store (linkTo fs) (Detach (B .key)) ∷ endingStores (lossEnding (f (C .num)) f (colourOf (erase f y)) old))
-      ≡ store (linkTo fs) (Detach (B .key)) ∷ endingStores (lossEnding (g (C .num)) g (colourOf (erase g y)) W)
-  stores = rw (top .is, moved-link (B .num) n (top .words .within .low) ren-fs, stores-of (g (C .num)) (f (C .num)) gC)
+  stores : map (movedStore (linkNode st (linkTo fs)) n) (store (linkTo fs) (Detach (B .key)) ∷ endingStores (removalEnding (f (C .num)) f (colourOf (erase f y)) old))
+      ≡ store (linkTo fs) (Detach (B .key)) ∷ endingStores (removalEnding (g (C .num)) g (colourOf (erase g y)) W)
+  stores = rw (capacity .is, moved-link (B .num) n (capacity .words .within .low) ren-fs, stores-of (g (C .num)) (f (C .num)) gC)
 
   told : Told G (plug fs (third₁ L B C n l y gs))
   told =
@@ -224,7 +224,7 @@ module _ (st : State) (G : Tree) (fs gs : List Frame) (B C : Node) (l y : Linked
       told-delete G (erase f T) (B .key) T (plug fs (third₁ L B C n l y gs)) deletes (good .proper .ordered) (erase-find f T)
       (sameBut-lift fs (into-top fs L B l (plug gs (at L C nil y)) ordered) (publish-find L B C n l y gs order along))
 
-  phase : Phase (after .pool) (after .register .root) G (plug fs (third₁ L B C n l y gs)) (store (linkTo fs) (Detach (B .key)) ∷ endingStores (lossEnding (g (C .num)) g (colourOf (erase g y)) W))
+  phase : Phase (after .pool) (after .register .root) G (plug fs (third₁ L B C n l y gs)) (store (linkTo fs) (Detach (B .key)) ∷ endingStores (removalEnding (g (C .num)) g (colourOf (erase g y)) W))
   phase =
       let root : awaiting .register .root ≡ stored .register .root = write-root (linked .register) _ _ ∙ held-root (stored .register) _ in
       let site : At awaiting fs (third₁ L B C n l y gs) = rw root (in-tree .site) in
@@ -233,7 +233,7 @@ module _ (st : State) (G : Tree) (fs gs : List Frame) (B C : Node) (l y : Linked
       (goal ∙ sym (rw (gC, ways, gy)))
 
   pub publish-0-next : Next st G T (publishStore st (linkTo fs) (C .num)) (Publish (C .num))
-      (map (movedStore (linkNode st (linkTo fs)) n) (store (linkTo fs) (Detach (B .key)) ∷ endingStores (lossEnding (f (C .num)) f (colourOf (erase f y)) old)))
+      (map (movedStore (linkNode st (linkTo fs)) n) (store (linkTo fs) (Detach (B .key)) ∷ endingStores (removalEnding (f (C .num)) f (colourOf (erase f y)) old)))
   publish-0-next =
       let q = retire-quiet awaiting (B .num) in
       let a = fields-trans (in-tree .fields) (held-fields (stored .register) _) in
@@ -242,17 +242,17 @@ module _ (st : State) (G : Tree) (fs gs : List Frame) (B C : Node) (l y : Linked
         gone = B .num ∷ [];
         shift = by-publish fs gs B C n l y along (ordered-bare f _ T (good .proper .ordered)) (good .once) (fresh .new);
         phase = phase;
-        parts = parts-of st base awaiting _ (linkTo fs) n (n ∷ []) (B .num ∷ []) (filled (C .key) (C .val) L _ _ (colourWordOf st (B .num))) (tint-refl _)
+        parts = parts-of st base awaiting _ (linkTo fs) n (n ∷ []) (B .num ∷ []) (filled (C .key) (C .val) L _ _ (colourWordOf st (B .num))) (colours-refl _)
             (queue-trans (held-queue (stored .register) _) (await-queue (linked .register) _ _)) refl;
         size = q .words .size ∙ in-tree .size;
         held = q .fields .held ∙ write-held (linked .register) _ _ ∙ held-is (stored .register) _ ∙ rw (in-tree .held);
         fields = record {
           readers = q .fields .readers ∙ write-readers (linked .register) _ _ ∙ a .readers;
           awaited = q .fields .awaited ∙ write-awaited (linked .register) _ _ ∙ slots-same (st .register) (linked .register) (a .readers);
-          write = q .fields .write ∙ write-write (linked .register) _ _ ∙ rw (top .is, a .write);
+          write = q .fields .write ∙ write-write (linked .register) _ _ ∙ rw (capacity .is, a .write);
         };
       }
 
   pub publish-0-finds : stepFinds st (linkTo fs) (Publish (C .num)) ≡ true
   unfolding stepFinds
-  publish-0-finds = rw (top .is, is-node (B .num) (top .words .within .low), not-empty st T fresh)
+  publish-0-finds = rw (capacity .is, is-node (B .num) (capacity .words .within .low), not-empty st T fresh)

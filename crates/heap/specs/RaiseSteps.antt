@@ -5,13 +5,13 @@ use mathlib.Core.Logic.{_≢_}
 use mathlib.Core.Bool.{Bool, true, false}
 use mathlib.Core.List.{List, [], _∷_}
 use native.Mathlib.Omega.{arith}
-use Rattle.types.specs.declared.Side.{Side}
-use Rattle.types.specs.declared.Side.the-variants.{L, R}
-use Rattle.types.specs.declared.Rule.{Rule}
-use Rattle.types.specs.declared.Rule.the-variants.{Grow, Pass, Borrow}
-use Rattle.types.specs.declared.Step.the-variants.{DiagRaise, ZigRaise}
-use Rattle.types.specs.declared.Store.{Store}
-use Rattle.types.specs.Side.{other, other-other, linkAt}
+use Rattle.datatypes.specs.declared.Side.{Side}
+use Rattle.datatypes.specs.declared.Side.the-variants.{L, R}
+use Rattle.datatypes.specs.declared.Purpose.{Purpose}
+use Rattle.datatypes.specs.declared.Purpose.the-variants.{ForInsert, RedSibling, BlackSibling}
+use Rattle.datatypes.specs.declared.Step.the-variants.{DiagRaise, ZigRaise}
+use Rattle.datatypes.specs.declared.Store.{Store}
+use Rattle.datatypes.specs.Side.{other, other-other, linkAt}
 use Rattle.spec.specs.Register.{State, setLink}
 use Rattle.spec.specs.Plan.{turnStores}
 use Rattle.spec.specs.Turn.{painted, risenColour, endDiag, endZig, diagRaise, zigRaise}
@@ -27,17 +27,17 @@ use Rattle.tree.specs.Erase.{erase, eraseWay, erase-at}
 use Rattle.tree.specs.Occurs.{one, one-same, occ, turnover-plug, diag-turnover, zig-turnover}
 use Rattle.tree.specs.Phases.{keeps-whole, diag-keeps}
 use Rattle.tree.specs.Rotations.{diag₀, diag₁, diag₂, diag-order, diag-lower-find, diag-raise-find, zig₀, zig₂, zig₃}
-use Rattle.tree.specs.Sink.{noLoan, loan, loanOf, loan-outer, loan-inner}
+use Rattle.tree.specs.DeleteFixup.{noNephew, nephew, nephewOf, nephew-outer, nephew-inner}
 use Rattle.heap.specs.Sites.{linkTo, Site, of-site, node-root}
 use Rattle.heap.specs.Colours.{colours, erase-occ, way-occ}
-use Rattle.heap.specs.Climbs.{formOf}
+use Rattle.heap.specs.Fixups.{formOf}
 use Rattle.heap.specs.Moves.{At, Once, new-apart, one-swap}
 use Rattle.heap.specs.Lowers.{far-down, diag-count}
-use Rattle.heap.specs.Raises.{Ended, diag-raise-is, diag-grow, diag-borrow, diag-pass-none, diag-pass-some}
-use Rattle.heap.specs.ZigRaises.{zig-raise-is, zig-grow, zig-borrow}
-use Rattle.heap.specs.Tints.{tint-paint, tint-trans, end-diag, end-zig}
+use Rattle.heap.specs.Raises.{Ended, diag-raise-is, diag-forInsert, diag-blackSibling, diag-pass-none, diag-pass-some}
+use Rattle.heap.specs.ZigRaises.{zig-raise-is, zig-forInsert, zig-blackSibling}
+use Rattle.heap.specs.ColourWork.{colours-paint, colours-trans, end-diag, end-zig}
 use Rattle.heap.specs.Parts.{Parts, unchanged, same-queue, parts-of}
-use Rattle.heap.specs.Phase.{Follow, byGrow, byBorrow, byPass, ruleOf, lowOf, followStores, DiagNeeds, diagGoal, zigRule, zigLow, zigGoal, Lined, Phase, at-rest, diag-0, zig-0}
+use Rattle.heap.specs.Phase.{Follow, forInsert, onBlackSibling, onRedSibling, purposeOf, lowOf, followStores, DiagNeeds, diagGoal, zigPurpose, zigLow, zigGoal, Lined, Phase, at-rest, diag-0, zig-0}
 use Rattle.heap.specs.Shift.{by-diag-raise, by-zig-raise, Next, once-turnover, once-two}
 
 -- the whole tree at the root link
@@ -86,25 +86,25 @@ module _ (st : State) (G : Tree) (fs : List Frame) (s : Side) (B C : Node) (n : 
         ∙ h .1 .told q;
   }
 
-  raised-parts : (x r : Linked) (rule : Rule) → Before x r → Parts st (diagRaise st (linkTo fs) s rule) [] (C .num ∷ [])
-  raised-parts x r rule b =
-      let risen = painted (setLink st (linkTo fs) (B .num)) (B .num) (risenColour rule st (C .num)) in
-      let i = end-diag rule risen s (B .num) in
-      parts-of st st (endDiag rule risen s (B .num)) _ (linkTo fs) (B .num) [] (C .num ∷ []) unchanged
-      (tint-trans (tint-paint (setLink st (linkTo fs) (B .num) .pool) (B .num) (risenColour rule st (C .num))) (i .tint)) (same-queue (i .register))
-      (diag-raise-is st fs s B C n o x r (b .0) (b .1 .once) (b .2) rule)
+  raised-parts : (x r : Linked) (purpose : Purpose) → Before x r → Parts st (diagRaise st (linkTo fs) s purpose) [] (C .num ∷ [])
+  raised-parts x r purpose b =
+      let risen = painted (setLink st (linkTo fs) (B .num)) (B .num) (risenColour purpose st (C .num)) in
+      let i = end-diag purpose risen s (B .num) in
+      parts-of st st (endDiag purpose risen s (B .num)) _ (linkTo fs) (B .num) [] (C .num ∷ []) unchanged
+      (colours-trans (colours-paint (setLink st (linkTo fs) (B .num) .pool) (B .num) (risenColour purpose st (C .num))) (i .tint)) (same-queue (i .register))
+      (diag-raise-is st fs s B C n o x r (b .0) (b .1 .once) (b .2) purpose)
 
   -- to rest
-  rest-next : (x r : Linked) (rule : Rule) (H : Tree) → (b : Before x r) → Ended st (diagRaise st (linkTo fs) s rule .after) fs (diag₂ s B C n o x r) H → G ≡ H → Proper G
-      → Next st G (plug fs (diag₁ s B C n o x r)) (diagRaise st (linkTo fs) s rule) (DiagRaise s rule) []
-  rest-next x r rule H b e g good =
-      let is = diag-raise-is st fs s B C n o x r (b .0) (b .1 .once) (b .2) rule in
+  rest-next : (x r : Linked) (purpose : Purpose) (H : Tree) → (b : Before x r) → Ended st (diagRaise st (linkTo fs) s purpose .after) fs (diag₂ s B C n o x r) H → G ≡ H → Proper G
+      → Next st G (plug fs (diag₁ s B C n o x r)) (diagRaise st (linkTo fs) s purpose) (DiagRaise s purpose) []
+  rest-next x r purpose H b e g good =
+      let is = diag-raise-is st fs s B C n o x r (b .0) (b .1 .once) (b .2) purpose in
       record {
         tree = plug fs (diag₂ s B C n o x r);
         gone = C .num ∷ [];
         shift = rw is (by-diag-raise fs s B C n o x r (b .1 .ordered) (b .1 .once) (b .2));
         phase = to-rest G e g good (raised-once x r b);
-        parts = raised-parts x r rule b;
+        parts = raised-parts x r purpose b;
         size = e .raised .size;
         held = e .raised .held;
         fields = record { readers = e .raised .fields .readers; awaited = e .raised .fields .awaited; write = e .raised .fields .write };
@@ -112,8 +112,8 @@ module _ (st : State) (G : Tree) (fs : List Frame) (s : Side) (B C : Node) (n : 
 
   -- to the rotation under the copy
   abbrev PassNext : Bool → Linked → Linked → Type 0
-  PassNext b x r = Before x r → f n ≡ red → Proper G → loanOf (other s) (erase f x) ≡ loan b → G ≡ diagGoal (byPass (loan b)) f fs s B C o x r
-      → Next st G (plug fs (diag₁ s B C n o x r)) (diagRaise st (linkTo fs) s Pass) (DiagRaise s Pass) (turnStores (formOf b) (linkAt (other s) (B .num)) s Borrow)
+  PassNext b x r = Before x r → f n ≡ red → Proper G → nephewOf (other s) (erase f x) ≡ nephew b → G ≡ diagGoal (onRedSibling (nephew b)) f fs s B C o x r
+      → Next st G (plug fs (diag₁ s B C n o x r)) (diagRaise st (linkTo fs) s RedSibling) (DiagRaise s RedSibling) (turnStores (formOf b) (linkAt (other s) (B .num)) s BlackSibling)
 
   record Under (x r : Linked) (after : State) : Type 0 where
     site : At after (hole (other s) B o ∷ fs) (at s (copy C n) x r)
@@ -124,9 +124,9 @@ module _ (st : State) (G : Tree) (fs : List Frame) (s : Side) (B C : Node) (n : 
     lack : erase (colours (after .pool)) r ≡ erase f r
     way : eraseWay (colours (after .pool)) (hole (other s) B o ∷ fs) ≡ Seq.frame (other s) black (B .key) (B .val) (erase f o) ∷ eraseWay f fs
 
-  under : (b : Bool) (x r : Linked) → Before x r → f n ≡ red → loanOf (other s) (erase f x) ≡ loan b → Under x r (diagRaise st (linkTo fs) s Pass .after)
+  under : (b : Bool) (x r : Linked) → Before x r → f n ≡ red → nephewOf (other s) (erase f x) ≡ nephew b → Under x r (diagRaise st (linkTo fs) s RedSibling .after)
   under b x r h en l =
-      let after = diagRaise st (linkTo fs) s Pass .after in
+      let after = diagRaise st (linkTo fs) s RedSibling .after in
       let i = diag-pass-some st fs s B C n o x r (h .0) (h .1 .once) (h .2) b l in
       let e : plug (hole (other s) B o ∷ fs) (at s (copy C n) x r) ≡ plug fs (diag₂ s B C n o x r) = rw (at-other s B o (at s (copy C n) x r)) in
       let g = colours (after .pool) in
@@ -147,18 +147,18 @@ module _ (st : State) (G : Tree) (fs : List Frame) (s : Side) (B C : Node) (n : 
         way = rw (i .risen-black, eo, ew);
       }
 
-  made-next : (b : Bool) (x r : Linked) → Before x r → loanOf (other s) (erase f x) ≡ loan b → (l : List Store)
-      → Phase (diagRaise st (linkTo fs) s Pass .after .pool) (diagRaise st (linkTo fs) s Pass .after .register .root) G (plug fs (diag₂ s B C n o x r)) l
-      → Next st G (plug fs (diag₁ s B C n o x r)) (diagRaise st (linkTo fs) s Pass) (DiagRaise s Pass) l
+  made-next : (b : Bool) (x r : Linked) → Before x r → nephewOf (other s) (erase f x) ≡ nephew b → (l : List Store)
+      → Phase (diagRaise st (linkTo fs) s RedSibling .after .pool) (diagRaise st (linkTo fs) s RedSibling .after .register .root) G (plug fs (diag₂ s B C n o x r)) l
+      → Next st G (plug fs (diag₁ s B C n o x r)) (diagRaise st (linkTo fs) s RedSibling) (DiagRaise s RedSibling) l
   made-next b x r h e l phase =
       let i = diag-pass-some st fs s B C n o x r (h .0) (h .1 .once) (h .2) b e in
-      let is = diag-raise-is st fs s B C n o x r (h .0) (h .1 .once) (h .2) Pass in
+      let is = diag-raise-is st fs s B C n o x r (h .0) (h .1 .once) (h .2) RedSibling in
       record {
         tree = plug fs (diag₂ s B C n o x r);
         gone = C .num ∷ [];
         shift = rw is (by-diag-raise fs s B C n o x r (h .1 .ordered) (h .1 .once) (h .2));
         phase = phase;
-        parts = raised-parts x r Pass h;
+        parts = raised-parts x r RedSibling h;
         size = i .raised .size;
         held = i .raised .held;
         fields = record { readers = i .raised .fields .readers; awaited = i .raised .fields .awaited; write = i .raised .fields .write };
@@ -168,39 +168,39 @@ module _ (st : State) (G : Tree) (fs : List Frame) (s : Side) (B C : Node) (n : 
   pass-diag r D u v h en good l goal =
       let x = at s D u v in
       let i = under true x r h en l in
-      let after = diagRaise st (linkTo fs) s Pass .after in
+      let after = diagRaise st (linkTo fs) s RedSibling .after in
       let g = colours (after .pool) in
-      let t : colourOf (erase f u) ≡ red = simp (other-other, erase-at, parts) at (loan-outer (other s) (erase f (at s D u v)) l) in
+      let t : colourOf (erase f u) ≡ red = simp (other-other, erase-at, parts) at (nephew-outer (other s) (erase f (at s D u v)) l) in
       let sub-u : erase g u ≡ erase f u = sym (erase-near g s D u v) ∙ ap (Seq.child s) (i .sub) ∙ erase-near f s D u v in
       let needs : NotLeaf (erase g u) = rw sub-u (red-there (erase f u) t) in
-      let goal′ : G ≡ diagGoal byBorrow g (hole (other s) B o ∷ fs) s D (copy C n) u v r = goal ∙ sym (rw (i .way, i .copy-red, i .sub, i .lack) (plug-other s black (B .key) (B .val) (erase f o) (eraseWay f fs) _)) in
-      made-next true x r h l _ (subst (λ T. Phase (after .pool) (after .register .root) G T (turnStores (formOf true) (linkAt (other s) (B .num)) s Borrow)) (i .same)
-      (diag-0 byBorrow (hole (other s) B o ∷ fs) s D (copy C n) u v r (i .site) (i .lined) good needs goal′))
+      let goal′ : G ≡ diagGoal onBlackSibling g (hole (other s) B o ∷ fs) s D (copy C n) u v r = goal ∙ sym (rw (i .way, i .copy-red, i .sub, i .lack) (plug-other s black (B .key) (B .val) (erase f o) (eraseWay f fs) _)) in
+      made-next true x r h l _ (subst (λ T. Phase (after .pool) (after .register .root) G T (turnStores (formOf true) (linkAt (other s) (B .num)) s BlackSibling)) (i .same)
+      (diag-0 onBlackSibling (hole (other s) B o ∷ fs) s D (copy C n) u v r (i .site) (i .lined) good needs goal′))
 
   pass-zig : (r : Linked) (A D : Node) (a u v : Linked) → PassNext false (at s A a (at s D u v)) r
   pass-zig r A D a u v h en good l goal =
       let x = at s A a (at s D u v) in
       let i = under false x r h en l in
-      let after = diagRaise st (linkTo fs) s Pass .after in
+      let after = diagRaise st (linkTo fs) s RedSibling .after in
       let g = colours (after .pool) in
       let goal′ : G ≡ zigGoal false g (hole (other s) B o ∷ fs) s A D (copy C n) a u v r = goal ∙ sym (rw (i .way, i .copy-red, i .sub, i .lack) (plug-other s black (B .key) (B .val) (erase f o) (eraseWay f fs) _)) in
-      made-next false x r h l _ (subst (λ T. Phase (after .pool) (after .register .root) G T (turnStores (formOf false) (linkAt (other s) (B .num)) s Borrow)) (i .same)
+      made-next false x r h l _ (subst (λ T. Phase (after .pool) (after .register .root) G T (turnStores (formOf false) (linkAt (other s) (B .num)) s BlackSibling)) (i .same)
       (zig-0 false (hole (other s) B o ∷ fs) s A D (copy C n) a u v r (i .site) (i .lined) good goal′))
 
   pass-next : (b : Bool) (x r : Linked) → NotLeaf (erase f x) → PassNext b x r
   pass-next true x r there = split (λ x. PassNext true x r) s (λ D u v. pass-diag r D u v) f x there
   pass-next false x r there = split (λ x. PassNext false x r) s (λ A a y h en good l goal.
-      (let t : colourOf (erase f y) ≡ red = rw (erase-far f s A a y) at (loan-inner (other s) (erase f (at s A a y)) l .1) in
+      (let t : colourOf (erase f y) ≡ red = rw (erase-far f s A a y) at (nephew-inner (other s) (erase f (at s A a y)) l .1) in
       split (λ y. PassNext false (at s A a y) r) s (λ D u v. pass-zig r A D a u v) f y (red-there (erase f y) t) h en good l goal)) f x there
 
   pub diag-1-next : (w : Follow) (x r : Linked) → At st fs (diag₁ s B C n o x r) → Lined G (plug fs (at s C (at s B o x) r)) → occ n (nodes (plug fs (at s C (at s B o x) r))) ≡ 0
       → f n ≡ lowOf w → Proper G → DiagNeeds w f s o x → G ≡ diagGoal w f fs s B C o x r
-      → Next st G (plug fs (diag₁ s B C n o x r)) (diagRaise st (linkTo fs) s (ruleOf w)) (DiagRaise s (ruleOf w)) (followStores w s (B .num))
-  diag-1-next byGrow x r h lined old en good needs goal = rest-next x r Grow _ (h, lined, old) (diag-grow st fs s B C n o x r h (lined .once) old en) goal good
-  diag-1-next byBorrow x r h lined old en good needs goal = rest-next x r Borrow _ (h, lined, old) (diag-borrow st fs s B C n o x r h (lined .once) old en) goal good
-  diag-1-next (byPass noLoan) x r h lined old en good needs goal =
-      rest-next x r Pass _ (h, lined, old) (diag-pass-none st fs s B C n o x r h (lined .once) old en (needs .1)) goal good
-  diag-1-next (byPass (loan b)) x r h lined old en good needs goal = pass-next b x r (needs .0) (h, lined, old) en good (needs .1) goal
+      → Next st G (plug fs (diag₁ s B C n o x r)) (diagRaise st (linkTo fs) s (purposeOf w)) (DiagRaise s (purposeOf w)) (followStores w s (B .num))
+  diag-1-next forInsert x r h lined old en good needs goal = rest-next x r ForInsert _ (h, lined, old) (diag-forInsert st fs s B C n o x r h (lined .once) old en) goal good
+  diag-1-next onBlackSibling x r h lined old en good needs goal = rest-next x r BlackSibling _ (h, lined, old) (diag-blackSibling st fs s B C n o x r h (lined .once) old en) goal good
+  diag-1-next (onRedSibling noNephew) x r h lined old en good needs goal =
+      rest-next x r RedSibling _ (h, lined, old) (diag-pass-none st fs s B C n o x r h (lined .once) old en (needs .1)) goal good
+  diag-1-next (onRedSibling (nephew b)) x r h lined old en good needs goal = pass-next b x r (needs .0) (h, lined, old) en good (needs .1) goal
 
 -- the last store of a zig
 module _ (st : State) (G : Tree) (fs : List Frame) (s : Side) (A B C : Node) (m n : ℕ) (a x y r : Linked) where
@@ -208,19 +208,19 @@ module _ (st : State) (G : Tree) (fs : List Frame) (s : Side) (A B C : Node) (m 
   T₀ = plug fs (at s C (at s A a (at s B x y)) r)
 
   zig-rest : (w : Bool) (H : Tree) → At st fs (zig₂ s A B C m n a x y r) → Lined G T₀ → occ m (nodes T₀) ≡ 0 → occ n (nodes T₀) ≡ 0 → m ≢ n
-      → Ended st (zigRaise st (linkTo fs) s (zigRule w) .after) fs (zig₃ s A B C m n a x y r) H → G ≡ H → Proper G
-      → Next st G (plug fs (zig₂ s A B C m n a x y r)) (zigRaise st (linkTo fs) s (zigRule w)) (ZigRaise s (zigRule w)) []
+      → Ended st (zigRaise st (linkTo fs) s (zigPurpose w) .after) fs (zig₃ s A B C m n a x y r) H → G ≡ H → Proper G
+      → Next st G (plug fs (zig₂ s A B C m n a x y r)) (zigRaise st (linkTo fs) s (zigPurpose w)) (ZigRaise s (zigPurpose w)) []
   zig-rest w H h lined om on d e g good =
-      let is = zig-raise-is st fs s A B C m n a x y r h (lined .once) om on (zigRule w) in
+      let is = zig-raise-is st fs s A B C m n a x y r h (lined .once) om on (zigPurpose w) in
       record {
         tree = plug fs (zig₃ s A B C m n a x y r);
         gone = A .num ∷ C .num ∷ [];
         shift = rw is (by-zig-raise fs s A B C m n a x y r (lined .ordered) (lined .once) om on d);
         phase = to-rest G e g good (once-two (A .num ∷ C .num ∷ []) m n T₀ (plug fs (zig₃ s A B C m n a x y r))
             (turnover-plug fs (A .num ∷ C .num ∷ []) (m ∷ n ∷ []) (zig₀ s A B C m n a x y r) (zig₃ s A B C m n a x y r) (zig-turnover s A B C m n a x y r)) (lined .once) d om on);
-        parts = (let risen = painted (setLink st (linkTo fs) (B .num)) (B .num) (risenColour (zigRule w) st (C .num)) in
-            parts-of st st (endZig (zigRule w) risen) _ (linkTo fs) (B .num) [] (A .num ∷ C .num ∷ []) unchanged
-            (tint-trans (tint-paint (setLink st (linkTo fs) (B .num) .pool) (B .num) (risenColour (zigRule w) st (C .num))) (end-zig (zigRule w) risen .tint)) (same-queue (end-zig (zigRule w) risen .register)) is);
+        parts = (let risen = painted (setLink st (linkTo fs) (B .num)) (B .num) (risenColour (zigPurpose w) st (C .num)) in
+            parts-of st st (endZig (zigPurpose w) risen) _ (linkTo fs) (B .num) [] (A .num ∷ C .num ∷ []) unchanged
+            (colours-trans (colours-paint (setLink st (linkTo fs) (B .num) .pool) (B .num) (risenColour (zigPurpose w) st (C .num))) (end-zig (zigPurpose w) risen .tint)) (same-queue (end-zig (zigPurpose w) risen .register)) is);
         size = e .raised .size;
         held = e .raised .held;
         fields = record { readers = e .raised .fields .readers; awaited = e .raised .fields .awaited; write = e .raised .fields .write };
@@ -228,6 +228,6 @@ module _ (st : State) (G : Tree) (fs : List Frame) (s : Side) (A B C : Node) (m 
 
   pub zig-2-next : (w : Bool) → At st fs (zig₂ s A B C m n a x y r) → Lined G T₀ → occ m (nodes T₀) ≡ 0 → occ n (nodes T₀) ≡ 0 → m ≢ n
       → colours (st .pool) m ≡ zigLow w → colours (st .pool) n ≡ zigLow w → Proper G → G ≡ zigGoal w (colours (st .pool)) fs s A B C a x y r
-      → Next st G (plug fs (zig₂ s A B C m n a x y r)) (zigRaise st (linkTo fs) s (zigRule w)) (ZigRaise s (zigRule w)) []
-  zig-2-next true h lined om on d em en good goal = zig-rest true _ h lined om on d (zig-grow st fs s A B C m n a x y r h (lined .once) om on em en) goal good
-  zig-2-next false h lined om on d em en good goal = zig-rest false _ h lined om on d (zig-borrow st fs s A B C m n a x y r h (lined .once) om on em en) goal good
+      → Next st G (plug fs (zig₂ s A B C m n a x y r)) (zigRaise st (linkTo fs) s (zigPurpose w)) (ZigRaise s (zigPurpose w)) []
+  zig-2-next true h lined om on d em en good goal = zig-rest true _ h lined om on d (zig-forInsert st fs s A B C m n a x y r h (lined .once) om on em en) goal good
+  zig-2-next false h lined om on d em en good goal = zig-rest false _ h lined om on d (zig-blackSibling st fs s A B C m n a x y r h (lined .once) om on em en) goal good

@@ -5,21 +5,21 @@ use mathlib.Core.Bool.{Bool, true}
 use mathlib.Core.List.{List, _∷_}
 use lib.ListN.{length}
 use native.Mathlib.Omega.{arith}
-use Rattle.types.specs.declared.Side.{Side}
-use Rattle.types.specs.declared.Rule.{Rule}
-use Rattle.types.specs.declared.Rule.the-variants.{Grow, Pass, Borrow}
-use Rattle.types.specs.declared.Step.the-variants.{DiagRaise}
-use Rattle.types.specs.Side.{other}
+use Rattle.datatypes.specs.declared.Side.{Side}
+use Rattle.datatypes.specs.declared.Purpose.{Purpose}
+use Rattle.datatypes.specs.declared.Purpose.the-variants.{ForInsert, RedSibling, BlackSibling}
+use Rattle.datatypes.specs.declared.Step.the-variants.{DiagRaise}
+use Rattle.datatypes.specs.Side.{other}
 use Rattle.spec.specs.Pool.{child, paint, blackColour, redColour}
 use Rattle.spec.specs.Register.{State, setLink}
 use Rattle.spec.specs.Free.{retire}
 use Rattle.spec.specs.Turn.{made, painted, blackRoot, risenColour, colourOf, endDiag, diagRaise, endDiagFinds, stepFinds}
-use Rattle.laws.specs.Words.{Node as Within}
+use Rattle.laws.specs.Words.{InPool}
 use Rattle.sequential.specs.Tree as Seq
 use Rattle.sequential.specs.Tree.{Colour, red, black, Tree, mk}
 use Rattle.sequential.specs.Delete.{blackOuter}
 use Rattle.tree.specs.Sorted.{NotLeaf}
-use Rattle.tree.specs.Sink.{noLoan, loan, loanOf}
+use Rattle.tree.specs.DeleteFixup.{noNephew, nephew, nephewOf}
 use Rattle.tree.specs.Linked.{Node, copy, Linked, at, nodes}
 use Rattle.tree.specs.Zipper.{Frame, hole, plug}
 use Rattle.tree.specs.Erase.{erase, eraseWay, erase-at, erase-plug, erase-agree}
@@ -30,8 +30,8 @@ use Rattle.heap.specs.Rep.{Rep}
 use Rattle.heap.specs.Sites.{linkTo, Clear, site-store}
 use Rattle.heap.specs.Colours.{hue, colours, colours-is, colours-alike, colours-link, paint-alike, paint-other, paint-same, erase-occ, way-occ, erase-paint, erase-top}
 use Rattle.heap.specs.Fill.{Quiet, retire-quiet}
-use Rattle.heap.specs.Climbs.{there-tree}
-use Rattle.heap.specs.SinkRun.{loan-none, loan-some}
+use Rattle.heap.specs.Fixups.{there-tree}
+use Rattle.heap.specs.DeleteFixupRun.{nephew-none, nephew-some}
 use Rattle.heap.specs.Paints.{top-outside}
 use Rattle.heap.specs.Moves.{At, Once, new-apart, one-swap, apart-one, Fields, fields-queued, fields-trans, link-fields, link-held, link-size, at-quiet, quiet-erase, at-painted, black-root, clear-of}
 use Rattle.heap.specs.Lowers.{is-node, Top, top-of, far-down, near-down, below-is, diag-count}
@@ -86,9 +86,9 @@ module _ (st : State) (fs : List Frame) (s : Side) (B C : Node) (n : ℕ) (o x r
   abbrev risen : ℕ → State
   risen c = painted (setLink st (linkTo fs) (B .num)) (B .num) c
 
-  pub diag-raise-is : (rule : Rule) → diagRaise st (linkTo fs) s rule ≡ made (retire (endDiag rule (risen (risenColour rule st (C .num))) s (B .num)) (C .num)) (linkTo fs) (B .num)
+  pub diag-raise-is : (purpose : Purpose) → diagRaise st (linkTo fs) s purpose ≡ made (retire (endDiag purpose (risen (risenColour purpose st (C .num))) s (B .num)) (C .num)) (linkTo fs) (B .num)
   unfolding diagRaise
-  diag-raise-is rule =
+  diag-raise-is purpose =
       let t = top-of st fs s C (at s B o low) r h in
       let b = below-is st s s (C .num) B o low (t .near) in
       rw (t .is, b)
@@ -140,7 +140,7 @@ module _ (st : State) (fs : List Frame) (s : Side) (B C : Node) (n : ℕ) (o x r
   pub diag-risen : (c : ℕ) → Raised st (risen c) fs (diag₂ s B C n o x r)
   diag-risen c = raised-painted diag-linked (B .num) c
 
-  within-b : Within (setLink st (linkTo fs) (B .num) .pool) (B .num)
+  within-b : InPool (setLink st (linkTo fs) (B .num) .pool) (B .num)
   within-b = top-of (setLink st (linkTo fs) (B .num)) fs s B o low (diag-linked .site) .words .within
 
   -- only B's colour changes
@@ -160,25 +160,25 @@ module _ (st : State) (fs : List Frame) (s : Side) (B C : Node) (n : ℕ) (o x r
   way-risen c = way-occ f (colours (risen c .pool)) fs (λ i w. risen-else c i (one-other (B .num) i (λ e. let z : occWay (B .num) fs ≡ occWay i fs = rw e in let a = apart .bw in omega arith)))
 
   -- Insert: the root ends black.
-  pub diag-grow : f n ≡ red → Ended st (diagRaise st (linkTo fs) s Grow .after) fs (diag₂ s B C n o x r)
+  pub diag-forInsert : f n ≡ red → Ended st (diagRaise st (linkTo fs) s ForInsert .after) fs (diag₂ s B C n o x r)
       (Seq.paint black (Seq.plug (eraseWay f fs) (Seq.diag s black red (C .key) (C .val) (erase f (at s B o x)) (erase f r))))
-  diag-grow e =
+  diag-forInsert e =
       let g = colours (risen blackColour .pool) in
       let a = apart in
       let site = diag-risen blackColour .site in
       let rot = diag-end f g s B C n o x r black red (risen-b blackColour) (risen-else blackColour n (a .bn) ∙ e) (stays-risen _ x (a .bx)) (stays-risen _ r (a .br)) (stays-risen _ o (a .bo)) in
       let tree : erase g (plug fs (diag₂ s B C n o x r)) ≡ Seq.plug (eraseWay f fs) (Seq.diag s black red (C .key) (C .val) (erase f (at s B o x)) (erase f r))
       = erase-plug g fs (diag₂ s B C n o x r) ∙ rw (way-risen blackColour, rot) in
-      rw (diag-raise-is Grow)
+      rw (diag-raise-is ForInsert)
       (ended-quiet record {
         raised = raised-painted (diag-risen blackColour) (risen blackColour .register .root) blackColour;
         tree = black-root (risen blackColour) fs (diag₂ s B C n o x r) site ∙ ap (Seq.paint black) tree;
       } (retire-quiet (blackRoot (risen blackColour)) (C .num)))
 
   -- Delete's last rotation: B takes C's colour, the outer child turns black.
-  pub diag-borrow : f n ≡ black → Ended st (diagRaise st (linkTo fs) s Borrow .after) fs (diag₂ s B C n o x r)
+  pub diag-blackSibling : f n ≡ black → Ended st (diagRaise st (linkTo fs) s BlackSibling .after) fs (diag₂ s B C n o x r)
       (Seq.plug (eraseWay f fs) (Seq.diag s (f (C .num)) black (C .key) (C .val) (blackOuter s (erase f (at s B o x))) (erase f r)))
-  diag-borrow e =
+  diag-blackSibling e =
       let c = colourOf st (C .num) in
       let g1 = colours (risen c .pool) in
       let a = apart in
@@ -195,7 +195,7 @@ module _ (st : State) (fs : List Frame) (s : Side) (B C : Node) (n : ℕ) (o x r
       let rot = diag-end-outer f g s B C n o x r (f (C .num)) black eb en
       (stay x (a .bx) (λ i m. let b = a .each i in omega arith)) (stay r (a .br) (λ i m. let b = a .each i in omega arith)) eo in
       let way = way-occ g1 g fs (λ i m. out i (let b = a .each i in omega arith)) ∙ way-risen c in
-      rw (diag-raise-is Borrow)
+      rw (diag-raise-is BlackSibling)
       (ended-quiet record {
         raised = raised-painted (diag-risen c) w blackColour;
         tree = erase-plug g fs (diag₂ s B C n o x r) ∙ rw (way, rot);
@@ -209,7 +209,7 @@ module _ (st : State) (fs : List Frame) (s : Side) (B C : Node) (n : ℕ) (o x r
   copy-top c = top-of (risen c) (hole (other s) B o ∷ fs) s (copy C n) x r (far-down (risen c) fs s B o low (diag-risen c .site))
 
   -- the new sibling without a red child turns red, and the copy black
-  pub diag-pass-none : f n ≡ red → loanOf (other s) (erase f x) ≡ noLoan → Ended st (diagRaise st (linkTo fs) s Pass .after) fs (diag₂ s B C n o x r)
+  pub diag-pass-none : f n ≡ red → nephewOf (other s) (erase f x) ≡ noNephew → Ended st (diagRaise st (linkTo fs) s RedSibling .after) fs (diag₂ s B C n o x r)
       (Seq.plug (eraseWay f fs) (mk s black (B .key) (B .val) (erase f o) (mk s black (C .key) (C .val) (Seq.paint red (erase f x)) (erase f r))))
   diag-pass-none e none =
       let r0 = risen blackColour in
@@ -217,12 +217,12 @@ module _ (st : State) (fs : List Frame) (s : Side) (B C : Node) (n : ℕ) (o x r
       let a = apart in
       let t = copy-top blackColour in
       let w = child (r0 .pool) s n in
-      let no-red = loan-none (r0 .pool) (other s) w x (t .near) (rw (same-risen blackColour x (a .bx)) none) in
+      let no-red = nephew-none (r0 .pool) (other s) w x (t .near) (rw (same-risen blackColour x (a .bx)) none) in
       let one′ = painted r0 w redColour in
       let mid = painted one′ n blackColour in
       let g2 = colours (one′ .pool) in
       let g = colours (mid .pool) in
-      let win : Within (one′ .pool) n = record { low = t .words .within .low; high = rw (paint-alike (r0 .pool) w redColour .size) (t .words .within .high) } in
+      let win : InPool (one′ .pool) n = record { low = t .words .within .low; high = rw (paint-alike (r0 .pool) w redColour .size) (t .words .within .high) } in
       let out2 : (i : ℕ) → occ i (nodes x) ≡ 0 → g2 i ≡ g1 i = λ i z. top-outside (r0 .pool) w redColour x i (t .near) z in
       let out : (i : ℕ) → one n i ≡ 0 → occ i (nodes x) ≡ 0 → g i ≡ g1 i = λ i z y. paint-other (one′ .pool) n blackColour i (apart-one n i z) ∙ out2 i y in
       let apart-n : (u : Linked) (i : ℕ) → occ n (nodes u) ≡ 0 → 0 < occ i (nodes u) → one n i ≡ 0 = λ u i z m. one-swap n i ∙ new-apart i n (nodes u) z m in
@@ -235,7 +235,7 @@ module _ (st : State) (fs : List Frame) (s : Side) (B C : Node) (n : ℕ) (o x r
       let ex = erase-paint (one′ .pool) n blackColour x (a .nx) ∙ erase-top (r0 .pool) w redColour x (t .near) ∙ ap (Seq.paint red) (same-risen blackColour x (a .bx)) in
       let way = way-occ g1 g fs (λ i m. out i (one-other n i (λ q. let z : occWay n fs ≡ occWay i fs = rw q in let b = a .nw in omega arith)) (let b = a .each i in omega arith)) ∙ way-risen blackColour in
       let rot : erase g (diag₂ s B C n o x r) ≡ mk s black (B .key) (B .val) (erase f o) (mk s black (C .key) (C .val) (Seq.paint red (erase f x)) (erase f r)) = simp (erase-at, eb, en, eo, er, ex) in
-      rw (diag-raise-is Pass, copy-is blackColour, no-red)
+      rw (diag-raise-is RedSibling, copy-is blackColour, no-red)
       (ended-quiet record {
         raised = raised-painted (raised-painted (diag-risen blackColour) w redColour) n blackColour;
         tree = erase-plug g fs (diag₂ s B C n o x r) ∙ rw (way, rot);
@@ -247,29 +247,29 @@ module _ (st : State) (fs : List Frame) (s : Side) (B C : Node) (n : ℕ) (o x r
     pub risen-black : colours (after .pool) (B .num) ≡ black
     pub elsewhere : (i : ℕ) → one (B .num) i ≡ 0 → colours (after .pool) i ≡ f i
 
-  pub diag-pass-some : (b : Bool) → loanOf (other s) (erase f x) ≡ loan b → Passed (diagRaise st (linkTo fs) s Pass .after)
+  pub diag-pass-some : (b : Bool) → nephewOf (other s) (erase f x) ≡ nephew b → Passed (diagRaise st (linkTo fs) s RedSibling .after)
   diag-pass-some b some =
       let r0 = risen blackColour in
       let a = apart in
       let t = copy-top blackColour in
-      let is-red = loan-some (r0 .pool) (other s) (child (r0 .pool) s n) x b (t .near) (rw (same-risen blackColour x (a .bx)) some) in
+      let is-red = nephew-some (r0 .pool) (other s) (child (r0 .pool) s n) x b (t .near) (rw (same-risen blackColour x (a .bx)) some) in
       let q = retire-quiet r0 (C .num) in
-      rw (diag-raise-is Pass, copy-is blackColour, is-red) record {
+      rw (diag-raise-is RedSibling, copy-is blackColour, is-red) record {
         raised = raised-quiet (diag-risen blackColour) q;
         risen-black = colours-alike (q .words) (B .num) ∙ risen-b blackColour;
         elsewhere = λ i e. colours-alike (q .words) i ∙ risen-else blackColour i e;
       }
 
   -- it finds its nodes
-  pub diag-raise-finds : (rule : Rule) → endDiagFinds rule st s (B .num) ≡ true → stepFinds st (linkTo fs) (DiagRaise s rule) ≡ true
+  pub diag-raise-finds : (purpose : Purpose) → endDiagFinds purpose st s (B .num) ≡ true → stepFinds st (linkTo fs) (DiagRaise s purpose) ≡ true
   unfolding stepFinds
-  diag-raise-finds rule e =
+  diag-raise-finds purpose e =
       let t = top-of st fs s C (at s B o low) r h in
       let b = below-is st s s (C .num) B o low (t .near) in
       let tb = top-of st (hole s C r ∷ fs) s B o low (near-down st fs s C (at s B o low) r h) in
       rw (t .is, b, is-node (B .num) (tb .words .within .low), e)
 
-  pub pass-finds : NotLeaf (erase f x) → endDiagFinds Pass st s (B .num) ≡ true
+  pub pass-finds : NotLeaf (erase f x) → endDiagFinds RedSibling st s (B .num) ≡ true
   pass-finds there =
       let hb = near-down st fs s C (at s B o low) r h in
       let tb = top-of st (hole s C r ∷ fs) s B o low hb in
@@ -278,8 +278,8 @@ module _ (st : State) (fs : List Frame) (s : Side) (B C : Node) (n : ℕ) (o x r
       let d = there-tree f (st .pool) (child (st .pool) s n) x (tc .near) there in
       rw (c, is-node (child (st .pool) s n) (omega arith))
 
-  pub borrow-finds : NotLeaf (erase f o) → endDiagFinds Borrow st s (B .num) ≡ true
-  borrow-finds there =
+  pub blackSibling-finds : NotLeaf (erase f o) → endDiagFinds BlackSibling st s (B .num) ≡ true
+  blackSibling-finds there =
       let tb = top-of st (hole s C r ∷ fs) s B o low (near-down st fs s C (at s B o low) r h) in
       let d = there-tree f (st .pool) (child (st .pool) s (B .num)) o (tb .near) there in
       rw (is-node (child (st .pool) s (B .num)) (omega arith))

@@ -6,23 +6,23 @@ use mathlib.Core.Logic.{_≢_}
 use mathlib.Core.List.{List, [], _∷_, _++_, map}
 use borrow.Author.Tests.{ne-eqb, eq-eqb}
 use native.Mathlib.Omega.{arith}
-use Rattle.types.specs.declared.Side.{Side}
-use Rattle.types.specs.declared.Side.the-variants.{L, R}
-use Rattle.types.specs.declared.Link.{Link}
-use Rattle.types.specs.declared.Form.{Form}
-use Rattle.types.specs.declared.Form.the-variants.{Diag, Zig}
-use Rattle.types.specs.declared.Rule.{Rule}
-use Rattle.types.specs.Side.{linkAt}
+use Rattle.datatypes.specs.declared.Side.{Side}
+use Rattle.datatypes.specs.declared.Side.the-variants.{L, R}
+use Rattle.datatypes.specs.declared.Link.{Link}
+use Rattle.datatypes.specs.declared.Form.{Form}
+use Rattle.datatypes.specs.declared.Form.the-variants.{Diag, Zig}
+use Rattle.datatypes.specs.declared.Purpose.{Purpose}
+use Rattle.datatypes.specs.Side.{linkAt}
 use Rattle.spec.specs.Plan.{turnStores, endingStores}
 use Rattle.spec.specs.Turn.{movedLink, movedStore}
 use Rattle.sequential.specs.Tree.{Colour, red, black}
 use Rattle.tree.specs.Linked.{Node, Linked, nil, cell, nodes}
 use Rattle.tree.specs.Zipper.{Frame, hole, plug, plug-append}
 use Rattle.tree.specs.Erase.{eraseWay}
-use Rattle.tree.specs.Sink.{noLoan, loan, SinkEnd, darken, borrowed, passed}
+use Rattle.tree.specs.DeleteFixup.{noNephew, nephew, DeleteFixupEnd, darken, blackSiblingOf, passed}
 use Rattle.tree.specs.Occurs.{one, one-same, occ, occWay}
 use Rattle.heap.specs.Sites.{linkTo, Site, site-of, of-site}
-use Rattle.heap.specs.Climbs.{framesUp, numOf, sinkEnding, formOf}
+use Rattle.heap.specs.Fixups.{framesUp, numOf, deleteFixupEnding, formOf}
 
 -- Ways put together.
 pub site-append : (p : List ℕ) (root : ℕ) (gs fs : List Frame) (t : _) → Site p root fs (plug gs t) → Site p root (gs ++ fs) t
@@ -70,23 +70,23 @@ module _ (b n : ℕ) (low : 1 ≤ b) where
   moved-up (suc m) (swapped M N l fs e d o w) = same (framesUp m fs) (up-none m fs w)
   moved-up (suc m) (above s P y a o r) = moved-up m r
 
-  moved-turn : (form : Form) (l : Link) (s : Side) (c : Rule) → map (movedStore b n) (turnStores form l s c) ≡ turnStores form (movedLink b n l) s c
+  moved-turn : (form : Form) (l : Link) (s : Side) (c : Purpose) → map (movedStore b n) (turnStores form l s c) ≡ turnStores form (movedLink b n l) s c
   moved-turn Diag l s c = refl
   moved-turn Zig l s c = refl
 
-  head-stores : (e : SinkEnd) (c : Colour) (s : Side) (M N : Node) (y : Linked) {fs gs : List Frame} → occ b (nodes y) ≡ 0 → Renamed fs gs
-      → map (movedStore b n) (endingStores (sinkEnding e c (hole s M y ∷ fs))) ≡ endingStores (sinkEnding e c (hole s N y ∷ gs))
+  head-stores : (e : DeleteFixupEnd) (c : Colour) (s : Side) (M N : Node) (y : Linked) {fs gs : List Frame} → occ b (nodes y) ≡ 0 → Renamed fs gs
+      → map (movedStore b n) (endingStores (deleteFixupEnding e c (hole s M y ∷ fs))) ≡ endingStores (deleteFixupEnding e c (hole s N y ∷ gs))
   head-stores darken red s M N y o r = refl
   head-stores darken black s M N y o r = refl
-  head-stores (borrowed q) c s M N y {fs} o r = moved-turn (formOf q) (linkTo fs) _ _ ∙ rw (moved-link r)
-  head-stores (passed noLoan) c s M N y o r = rw (moved-link r)
-  head-stores (passed (loan q)) c s M N y o r = rw (moved-link r, moved-turn (formOf q) (linkAt s (numOf y)) _ _, moved-other s (numOf y) (num-apart y o))
+  head-stores (blackSiblingOf q) c s M N y {fs} o r = moved-turn (formOf q) (linkTo fs) _ _ ∙ rw (moved-link r)
+  head-stores (passed noNephew) c s M N y o r = rw (moved-link r)
+  head-stores (passed (nephew q)) c s M N y o r = rw (moved-link r, moved-turn (formOf q) (linkAt s (numOf y)) _ _, moved-other s (numOf y) (num-apart y o))
 
-  pub moved-stores : (e : SinkEnd) (c : Colour) {fs gs : List Frame} → Renamed fs gs
-      → map (movedStore b n) (endingStores (sinkEnding e c fs)) ≡ endingStores (sinkEnding e c gs)
+  pub moved-stores : (e : DeleteFixupEnd) (c : Colour) {fs gs : List Frame} → Renamed fs gs
+      → map (movedStore b n) (endingStores (deleteFixupEnding e c fs)) ≡ endingStores (deleteFixupEnding e c gs)
   moved-stores darken red (same [] o) = refl
   moved-stores darken black (same [] o) = refl
-  moved-stores (borrowed q) c (same [] o) = refl
+  moved-stores (blackSiblingOf q) c (same [] o) = refl
   moved-stores (passed q) c (same [] o) = refl
   moved-stores e c (same (hole s P y ∷ fs) o) = head-stores e c s P P y (omega arith) (same fs (omega arith))
   moved-stores e c (swapped M N l fs a d o w) = head-stores e c R M N l o (same fs w)

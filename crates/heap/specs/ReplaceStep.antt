@@ -9,14 +9,14 @@ use lib.Dec.{eqb}
 use borrow.Author.Tests.{ne-eqb, eq-eqb}
 use native.Mathlib.Omega.{arith}
 use native.Mathlib.Decide.{ℕ-discrete}
-use Rattle.types.specs.declared.Side.the-variants.{L, R}
-use Rattle.types.specs.declared.Link.the-variants.{Root}
-use Rattle.types.specs.declared.Step.the-variants.{Replace}
+use Rattle.datatypes.specs.declared.Side.the-variants.{L, R}
+use Rattle.datatypes.specs.declared.Link.the-variants.{Root}
+use Rattle.datatypes.specs.declared.Step.the-variants.{Replace}
 use Rattle.spec.specs.Pool.{child, isRed}
 use Rattle.spec.specs.Register.{State, setLink, linkNode}
 use Rattle.spec.specs.Free.{retire}
 use Rattle.spec.specs.Search.{pathTo}
-use Rattle.spec.specs.Plan.{climb, endingStores, lossClimb, paintLoss, paintSink}
+use Rattle.spec.specs.Plan.{fixupResult, endingStores, fixupAfterRemoval, paintDeleteFixup, paintDeleteLevels}
 use Rattle.spec.specs.Turn.{made, painted, colourOf as colourWordOf, oneLess, replaceStore, stepFinds}
 use Rattle.sequential.specs.Tree as Seq
 use Rattle.sequential.specs.Tree.{Colour, red, black, Tree, colourOf}
@@ -26,34 +26,34 @@ use Rattle.tree.specs.Linked.{Node, Linked, nil, at, nodes}
 use Rattle.tree.specs.LinkedOrder.{ordered-bare, ordered-within, into-top}
 use Rattle.tree.specs.Zipper.{Frame, hole, plug, Into, same-lift, sameBut-lift}
 use Rattle.tree.specs.Erase.{erase, eraseWay, erase-plug, erase-find}
-use Rattle.tree.specs.Ways.{other-sinks}
+use Rattle.tree.specs.Ways.{other-deleteFixup}
 use Rattle.tree.specs.Occurs.{one, one-same, one-other, occ, in-occ, occ-in, occ-at, occWay, turnover-plug, form-turnover}
 use Rattle.tree.specs.Phases.{writes-whole, form-writes}
 use Rattle.tree.specs.Stores.{form₀, form₁, form₂, form-order, adopt-find, replace-find}
-use Rattle.tree.specs.Sink as Sink
-use Rattle.tree.specs.Sink.{Sink, Sinks}
+use Rattle.tree.specs.DeleteFixup as DeleteFixup
+use Rattle.tree.specs.DeleteFixup.{DeleteFixup, DeleteFixups}
 use Rattle.heap.specs.Rep.{Rep}
 use Rattle.heap.specs.Sites.{linkTo, links, of-site}
 use Rattle.heap.specs.Colours.{redly, colours, colours-is, colours-link, paint-alike, paint-other, paint-same, red-tree, erase-occ, way-occ}
 use Rattle.heap.specs.Fill.{retire-quiet}
 use Rattle.heap.specs.Paths.{path-to, OnceWay}
-use Rattle.heap.specs.Climbs.{Sides, way-sides, framesUp, tip, sinkEnding, Stop}
-use Rattle.heap.specs.SinkRun.{sinkOf, sink-run, Run}
-use Rattle.heap.specs.Paints.{Sunk, paint-sink}
+use Rattle.heap.specs.Fixups.{Sides, way-sides, framesUp, tip, deleteFixupEnding, Stop}
+use Rattle.heap.specs.DeleteFixupRun.{deleteFixupOf, deleteFixup-run, Run}
+use Rattle.heap.specs.Paints.{Sunk, paint-deleteFixup}
 use Rattle.heap.specs.Moves.{At, apart-one, clear-of, link-size, link-held, fields-trans, fields-queued, held-fields, same-fields}
 use Rattle.heap.specs.Lowers.{is-node, Top, top-of, far-down, below-is}
 use Rattle.heap.specs.Raises.{Raised, raised-link, raised-painted}
-use Rattle.heap.specs.Tints.{tint-trans, tint-paint, tint-loss}
+use Rattle.heap.specs.ColourWork.{colours-trans, colours-paint, colours-removal}
 use Rattle.heap.specs.Parts.{unchanged, same-queue, queue-trans, held-queue, parts-of}
 use Rattle.heap.specs.Tolds.{told-delete}
-use Rattle.heap.specs.Phase.{lossEnding, standIn, Sound, Lined, Phase, phase-alike}
+use Rattle.heap.specs.Phase.{removalEnding, standIn, Sound, Lined, Phase, phase-alike}
 use Rattle.heap.specs.Shift.{by-replace, Next, once-less}
 use Rattle.heap.specs.Inserts.{Small, rep-range, way-bound}
 use Rattle.heap.specs.InsertStep.{held-root, held-is}
-use Rattle.heap.specs.LossCore.{links-get, stop-way, black-core, red-core}
-use Rattle.heap.specs.LossClimb.{loss-red, loss-black, loss-there, loss-alike, loss-register, sink-alike, rep-num}
+use Rattle.heap.specs.RemovalCore.{links-get, stop-way, black-core, red-core}
+use Rattle.heap.specs.RemovalFixup.{removal-red, removal-black, removal-there, removal-alike, removal-register, deleteFixup-alike, rep-num}
 use Rattle.heap.specs.AdoptStep.{form-count}
-use Rattle.heap.specs.Swap.{tipOf, tip-way, ending-swap, up-swap, up-way, sinks-swap, link-else}
+use Rattle.heap.specs.Swap.{tipOf, tip-way, ending-swap, up-swap, up-way, deleteFixup-swap, link-else}
 
 module _ (st : State) (G : Tree) (fs : List Frame) (B C : Node) (l y : Linked) (h : At st fs (form₁ L B C l y)) (good : Sound (st .pool) (plug fs (form₀ L B C l y))) (proper : Proper G)
     (deletes : G ≡ delete (erase (colours (st .pool)) (plug fs (form₀ L B C l y))) (B .key))
@@ -77,14 +77,14 @@ module _ (st : State) (G : Tree) (fs : List Frame) (B C : Node) (l y : Linked) (
   abbrev c : Colour
   c = colourOf (erase f y)
 
-  top : Top st fs L B l (at L C l y)
-  top = top-of st fs L B l (at L C l y) h
+  capacity : Top st fs L B l (at L C l y)
+  capacity = top-of st fs L B l (at L C l y) h
 
   low : Top st (hole R B l ∷ fs) L C l y
   low = top-of st (hole R B l ∷ fs) L C l y (far-down st fs L B l (at L C l y) h)
 
   c-is : child p R (B .num) ≡ C .num
-  c-is = below-is st R L (B .num) C l y (top .far)
+  c-is = below-is st R L (B .num) C l y (capacity .far)
 
   each : (i : ℕ) → one i (B .num) + occ i (nodes l) + (one i (C .num) + occ i (nodes y)) + occWay i fs ≤ 1
   each i = let a = good .once i in let b = form-count fs B C l nil y i in omega arith
@@ -108,16 +108,16 @@ module _ (st : State) (G : Tree) (fs : List Frame) (B C : Node) (l y : Linked) (
   linked = painted (oneLess (setLink st (linkTo fs) (C .num))) (C .num) (colourWordOf st (B .num))
 
   abbrev coloured : State
-  coloured = paintLoss linked (lossClimb p (C .num) n (links old)) n (links old)
+  coloured = paintDeleteFixup linked (fixupAfterRemoval p (C .num) n (links old)) n (links old)
 
   replace-is : replaceStore st (linkTo fs) ≡ made (retire coloured (B .num)) (linkTo fs) (C .num)
   unfolding replaceStore
-  replace-is = rw (top .is, c-is, top .words .key-is, path-is)
+  replace-is = rw (capacity .is, c-is, capacity .words .key-is, path-is)
 
   raised : Raised st (setLink st (linkTo fs) (C .num)) fs (form₂ L B C l y)
   raised =
       raised-link st fs (form₁ L B C l y) (form₂ L B C l y) (C .num)
-      (clear-of fs (form₀ L B C l y) (form₂ L B C l y) (good .once) (λ i w. let a = each i in let b = occ-at L C l y i in omega arith)) h (rw c-is at (top .far))
+      (clear-of fs (form₀ L B C l y) (form₂ L B C l y) (good .once) (λ i w. let a = each i in let b = occ-at L C l y i in omega arith)) h (rw c-is at (capacity .far))
 
   site2 : At linked fs (form₂ L B C l y)
   site2 = rw (held-root (setLink st (linkTo fs) (C .num) .register) _) (raised-painted raised (C .num) (colourWordOf st (B .num)) .site)
@@ -160,13 +160,13 @@ module _ (st : State) (G : Tree) (fs : List Frame) (B C : Node) (l y : Linked) (
   }
 
   sides : Sides p old
-  sides = (top .words .within, top .near, way-sides p (st .register .root) fs (h .way))
+  sides = (capacity .words .within, capacity .near, way-sides p (st .register .root) fs (h .way))
 
   is-red : isRed p n ≡ redly c
   is-red = red-tree p n y (low .far)
 
-  sinks : f (C .num) ≡ black → Sinks c (eraseWay f old)
-  sinks e = other-sinks (eraseWay f fs) [] (f (B .num)) (B .key) (B .val) (erase f l) (C .key) (C .val) (erase f y) c (rw (erase-plug f fs (form₀ L B C l y), e) at (good .proper .redblack))
+  deleteFixups : f (C .num) ≡ black → DeleteFixups c (eraseWay f old)
+  deleteFixups e = other-deleteFixup (eraseWay f fs) [] (f (B .num)) (B .key) (B .val) (erase f l) (C .key) (C .val) (erase f y) c (rw (erase-plug f fs (form₀ L B C l y), e) at (good .proper .redblack))
 
   once-old : OnceWay old
   once-old i = let a = each i in omega arith
@@ -180,48 +180,48 @@ module _ (st : State) (G : Tree) (fs : List Frame) (B C : Node) (l y : Linked) (
       let t2 = top-of linked fs L C l y site2 in
       let b : child (linked .pool) L (B .num) ≡ child p L (B .num)
       = alike .words (B .num) 2 (omega arith) ∙ link-else st fs (C .num) (B .num) L (let a = each (B .num) in let b = one-same (B .num) in omega arith) in
-      let num : child (linked .pool) L (C .num) ≡ child (linked .pool) L (B .num) = rep-num (linked .pool) _ l (t2 .near) ∙ sym (rep-num p _ l (top .near)) ∙ sym b in
-      (record { low = top .words .within .low; high = rw len (top .words .within .high) }, subst (λ i. Rep (linked .pool) i l) num (t2 .near), way-sides (linked .pool) (linked .register .root) fs (site2 .way))
+      let num : child (linked .pool) L (C .num) ≡ child (linked .pool) L (B .num) = rep-num (linked .pool) _ l (t2 .near) ∙ sym (rep-num p _ l (capacity .near)) ∙ sym b in
+      (record { low = capacity .words .within .low; high = rw len (capacity .words .within .high) }, subst (λ i. Rep (linked .pool) i l) num (t2 .near), way-sides (linked .pool) (linked .register .root) fs (site2 .way))
 
   abbrev f1 : ℕ → Colour
   f1 = colours (linked .pool)
 
   abbrev m1 : ℕ
-  m1 = sinkOf f1 (colourOf (erase f1 y)) gs .levels
+  m1 = deleteFixupOf f1 (colourOf (erase f1 y)) gs .levels
 
   tip-same : (d : Colour) (m : ℕ) → tip f1 d m gs ≡ tip f d m old
   tip-same d m = tip-way f1 d m gs ∙ ap (tipOf d m) ways ∙ sym (tip-way f d m old)
 
-  ending-of : (r1 r : Sink) (c1 d : Colour) → r1 ≡ r → c1 ≡ d
-      → sinkEnding (r1 .end) (tip f1 c1 (r1 .levels) gs) (framesUp (r1 .levels) gs) ≡ sinkEnding (r .end) (tip f d (r .levels) old) (framesUp (r .levels) old)
+  ending-of : (r1 r : DeleteFixup) (c1 d : Colour) → r1 ≡ r → c1 ≡ d
+      → deleteFixupEnding (r1 .end) (tip f1 c1 (r1 .levels) gs) (framesUp (r1 .levels) gs) ≡ deleteFixupEnding (r .end) (tip f d (r .levels) old) (framesUp (r .levels) old)
   ending-of r1 r c1 d er ec = rw (er, ec, tip-same d (r .levels)) (sym (ending-swap (standIn B C) C l fs (r .end) (tip f d (r .levels) old) (r .levels)))
 
-  stop-of : (r1 r : Sink) (c1 d : Colour) → r1 ≡ r → c1 ≡ d → Stop f (tip f d (r .levels) old) (framesUp (r .levels) old) (r .end)
+  stop-of : (r1 r : DeleteFixup) (c1 d : Colour) → r1 ≡ r → c1 ≡ d → Stop f (tip f d (r .levels) old) (framesUp (r .levels) old) (r .end)
       → Stop f1 (tip f1 c1 (r1 .levels) gs) (framesUp (r1 .levels) gs) (r1 .end)
   stop-of r1 r c1 d er ec s =
       rw (er, ec, tip-same d (r .levels)) (stop-way f f1 (framesUp (r .levels) old) (framesUp (r .levels) gs) (up-way (standIn B C) C l fs f f1 (r .levels) ways) s)
 
-  run-same : sinkOf f1 (colourOf (erase f1 y)) gs ≡ sinkOf f c old
-  run-same = ap₂ Sink.sink (ap colourOf f1y) ways
+  run-same : deleteFixupOf f1 (colourOf (erase f1 y)) gs ≡ deleteFixupOf f c old
+  run-same = ap₂ DeleteFixup.deleteFixup (ap colourOf f1y) ways
 
-  levels-same : m1 ≡ sinkOf f c old .levels
+  levels-same : m1 ≡ deleteFixupOf f c old .levels
   levels-same = ap (λ r. r .levels) run-same
 
-  ending-same : lossEnding black f1 (colourOf (erase f1 y)) gs ≡ lossEnding black f c old
-  ending-same = ending-of (sinkOf f1 (colourOf (erase f1 y)) gs) (sinkOf f c old) (colourOf (erase f1 y)) c run-same (ap colourOf f1y)
+  ending-same : removalEnding black f1 (colourOf (erase f1 y)) gs ≡ removalEnding black f c old
+  ending-same = ending-of (deleteFixupOf f1 (colourOf (erase f1 y)) gs) (deleteFixupOf f c old) (colourOf (erase f1 y)) c run-same (ap colourOf f1y)
 
   module _ (e : f (C .num) ≡ black) where
     run : Run p 0 n c old
-    run = sink-run p 0 n c old is-red sides (sinks e)
+    run = deleteFixup-run p 0 n c old is-red sides (deleteFixups e)
 
-    stop1 : Stop f1 (tip f1 (colourOf (erase f1 y)) m1 gs) (framesUp m1 gs) (sinkOf f1 (colourOf (erase f1 y)) gs .end)
-    stop1 = stop-of (sinkOf f1 (colourOf (erase f1 y)) gs) (sinkOf f c old) (colourOf (erase f1 y)) c run-same (ap colourOf f1y) (run .stop)
+    stop1 : Stop f1 (tip f1 (colourOf (erase f1 y)) m1 gs) (framesUp m1 gs) (deleteFixupOf f1 (colourOf (erase f1 y)) gs .end)
+    stop1 = stop-of (deleteFixupOf f1 (colourOf (erase f1 y)) gs) (deleteFixupOf f c old) (colourOf (erase f1 y)) c run-same (ap colourOf f1y) (run .stop)
 
     room1 : m1 ≤ length old
     room1 = subst (λ m. m ≤ length old) (sym levels-same) (run .room)
 
-    tint : Sunk m1 (linked .pool) (paintSink m1 (links old) (linked .pool)) old
-    tint = paint-sink m1 (linked .pool) old room1 sides1 once-old
+    tint : Sunk m1 (linked .pool) (paintDeleteLevels m1 (links old) (linked .pool)) old
+    tint = paint-deleteFixup m1 (linked .pool) old room1 sides1 once-old
 
     end1 : cond (eqb m1 0) n (linkNode linked (getD (links old) m1 Root)) ≡ linkNode linked (linkTo (framesUp m1 gs))
     end1 = go m1 room1
@@ -233,44 +233,44 @@ module _ (st : State) (G : Tree) (fs : List Frame) (B C : Node) (l y : Linked) (
               | no d ↦ rw (ne-eqb m 0 d, links-get m old r, up-swap (standIn B C) C l fs m d)
             ]
 
-    black-phase : G ≡ lose black (eraseWay f old) (erase f y) → Phase (coloured .pool) (coloured .register .root) G (plug gs y) (endingStores (lossEnding black f c old))
+    black-phase : G ≡ lose black (eraseWay f old) (erase f y) → Phase (coloured .pool) (coloured .register .root) G (plug gs y) (endingStores (removalEnding black f c old))
     black-phase g =
-        let q = paintSink m1 (links old) (linked .pool) in
+        let q = paintDeleteLevels m1 (links old) (linked .pool) in
         let kept = erase-occ f1 (colours q) y (λ i j. tint .tinted .outside i (let a = each i in omega arith)) in
         let keptC = tint .tinted .outside (C .num) (let a = each (C .num) in let b = one-same (C .num) in omega arith) in
-        let core = black-core linked G gs y n (links old) site lined proper stop1 (g ∙ sym (ap₂ fixup ways f1y)) (sink-alike m1 (links old) (linked .pool)) (sinks-swap (standIn B C) C l fs m1 f1 (colours q) keptC (tint .to)) kept end1 in
-        let cl : lossClimb p (C .num) n (links old) ≡ climb m1 (lossEnding black f1 (colourOf (erase f1 y)) gs) = loss-black p (C .num) n c old e is-red sides (sinks e) ∙ (λ i. climb (levels-same′ i) (ending-same′ i)) in
+        let core = black-core linked G gs y n (links old) site lined proper stop1 (g ∙ sym (ap₂ fixup ways f1y)) (deleteFixup-alike m1 (links old) (linked .pool)) (deleteFixup-swap (standIn B C) C l fs m1 f1 (colours q) keptC (tint .to)) kept end1 in
+        let cl : fixupAfterRemoval p (C .num) n (links old) ≡ fixupResult m1 (removalEnding black f1 (colourOf (erase f1 y)) gs) = removal-black p (C .num) n c old e is-red sides (deleteFixups e) ∙ (λ i. fixupResult (levels-same′ i) (ending-same′ i)) in
         rw (cl, sym ending-same) core
       where
-        levels-same′ : sinkOf f c old .levels ≡ m1
+        levels-same′ : deleteFixupOf f c old .levels ≡ m1
         levels-same′ = sym levels-same
 
-        ending-same′ : lossEnding black f c old ≡ lossEnding black f1 (colourOf (erase f1 y)) gs
+        ending-same′ : removalEnding black f c old ≡ removalEnding black f1 (colourOf (erase f1 y)) gs
         ending-same′ = sym ending-same
 
-  phase : (d : Colour) → f (C .num) ≡ d → G ≡ lose d (eraseWay f old) (erase f y) → Phase (coloured .pool) (coloured .register .root) G (plug gs y) (endingStores (lossEnding d f c old))
+  phase : (d : Colour) → f (C .num) ≡ d → G ≡ lose d (eraseWay f old) (erase f y) → Phase (coloured .pool) (coloured .register .root) G (plug gs y) (endingStores (removalEnding d f c old))
   phase black e g = black-phase e g
-  phase red e g = rw (loss-red p (C .num) n (links old) e) (red-core linked G gs y n (links old) site lined proper (g ∙ sym (ap₂ Seq.plug ways f1y)))
+  phase red e g = rw (removal-red p (C .num) n (links old) e) (red-core linked G gs y n (links old) site lined proper (g ∙ sym (ap₂ Seq.plug ways f1y)))
 
-  pub replace-0-next : Next st G (plug fs (form₁ L B C l y)) (replaceStore st (linkTo fs)) Replace (endingStores (lossEnding (f (C .num)) f c old))
+  pub replace-0-next : Next st G (plug fs (form₁ L B C l y)) (replaceStore st (linkTo fs)) Replace (endingStores (removalEnding (f (C .num)) f c old))
   replace-0-next =
       let q = retire-quiet coloured (B .num) in
-      let w = lossClimb p (C .num) n (links old) in
+      let w = fixupAfterRemoval p (C .num) n (links old) in
       let a = fields-trans (raised .fields)
-      (fields-trans (held-fields (setLink st (linkTo fs) (C .num) .register) _) (fields-trans (same-fields (loss-register linked w n (links old))) (fields-queued (q .fields)))) in
+      (fields-trans (held-fields (setLink st (linkTo fs) (C .num) .register) _) (fields-trans (same-fields (removal-register linked w n (links old))) (fields-queued (q .fields)))) in
       rw replace-is record {
         tree = plug gs y;
         gone = B .num ∷ [];
         shift = by-replace fs B C l y (ordered-bare f _ (plug fs (form₀ L B C l y)) (good .proper .ordered)) (good .once);
         phase = rw (q .fields .root) (phase-alike (q .words) (coloured .register .root) G (phase (f (C .num)) refl goal));
         parts = parts-of st st coloured _ (linkTo fs) (C .num) [] (B .num ∷ []) unchanged
-            (tint-trans (tint-paint (setLink st (linkTo fs) (C .num) .pool) (C .num) (colourWordOf st (B .num))) (tint-loss linked w n (links old)))
-            (queue-trans (held-queue (setLink st (linkTo fs) (C .num) .register) _) (same-queue (loss-register linked w n (links old)))) refl;
-        size = q .words .size ∙ loss-alike linked w n (links old) .size ∙ paint-alike (setLink st (linkTo fs) (C .num) .pool) (C .num) (colourWordOf st (B .num)) .size ∙ link-size st (linkTo fs) (C .num);
-        held = q .fields .held ∙ ap (λ r. r .held) (loss-register linked w n (links old)) ∙ held-is (setLink st (linkTo fs) (C .num) .register) _ ∙ rw (link-held st (linkTo fs) (C .num));
+            (colours-trans (colours-paint (setLink st (linkTo fs) (C .num) .pool) (C .num) (colourWordOf st (B .num))) (colours-removal linked w n (links old)))
+            (queue-trans (held-queue (setLink st (linkTo fs) (C .num) .register) _) (same-queue (removal-register linked w n (links old)))) refl;
+        size = q .words .size ∙ removal-alike linked w n (links old) .size ∙ paint-alike (setLink st (linkTo fs) (C .num) .pool) (C .num) (colourWordOf st (B .num)) .size ∙ link-size st (linkTo fs) (C .num);
+        held = q .fields .held ∙ ap (λ r. r .held) (removal-register linked w n (links old)) ∙ held-is (setLink st (linkTo fs) (C .num) .register) _ ∙ rw (link-held st (linkTo fs) (C .num));
         fields = record { readers = a .readers; awaited = a .awaited; write = a .write };
       }
 
   pub replace-0-finds : stepFinds st (linkTo fs) Replace ≡ true
   unfolding stepFinds
-  replace-0-finds = rw (top .is, c-is, top .words .key-is, path-is, is-node (C .num) (low .words .within .low), loss-there p (C .num) n c old is-red sides sinks)
+  replace-0-finds = rw (capacity .is, c-is, capacity .words .key-is, path-is, is-node (C .num) (low .words .within .low), removal-there p (C .num) n c old is-red sides deleteFixups)

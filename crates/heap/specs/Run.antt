@@ -6,13 +6,13 @@ use mathlib.Core.List.{List, [], _∷_, map}
 use mathlib.Core.Option.{none, some}
 use lib.ListN.{length}
 use native.Mathlib.Omega.{arith}
-use Rattle.types.specs.declared.Link.{Link}
-use Rattle.types.specs.declared.Step.{Step}
-use Rattle.types.specs.declared.Step.the-variants.{Vacant, Insert, DiagLower, DiagRaise, ZigLowerA, ZigLowerC, ZigRaise, Unlink, Adopt, Replace, Publish, Detach}
-use Rattle.types.specs.declared.Store.{Store}
+use Rattle.datatypes.specs.declared.Link.{Link}
+use Rattle.datatypes.specs.declared.Step.{Step}
+use Rattle.datatypes.specs.declared.Step.the-variants.{Vacant, Insert, DiagLower, DiagRaise, ZigLowerA, ZigLowerC, ZigRaise, Unlink, Adopt, Replace, Publish, Detach}
+use Rattle.datatypes.specs.declared.Store.{Store}
 use Rattle.spec.specs.Register.{State, storeOf}
 use Rattle.spec.specs.Turn.{stepMade}
-use Rattle.spec.specs.Calls.{stored, accepted, placeOf, insertAt, deleteAt}
+use Rattle.spec.specs.Calls.{stored, acceptedPlan, placeOf, insertAt, deleteAt}
 use Rattle.sequential.specs.Tree.{Colour, Tree}
 use Rattle.sequential.specs.Insert as SeqInsert
 use Rattle.sequential.specs.Delete as SeqDelete
@@ -95,13 +95,13 @@ run (suc n) st G T (x ∷ l) e h s =
 
 -- So an accepted insert ends in the sequential insert, and an accepted delete in the sequential delete.
 pub insert-ends : (st : State) (T : Linked) (k v : ℕ) → Rest st T → find T k ≡ none
-    → (let w = insertAt st k v (placeOf st k) in Supplied (length (w .stores)) (accepted st w .after) → Ends (carried (length (w .stores)) (accepted st w .after)) (SeqInsert.insert (erase (colours (st .pool)) T) k v))
+    → (let w = insertAt st k v (placeOf st k) in Supplied (length (w .stores)) (acceptedPlan st w .after) → Ends (carried (length (w .stores)) (acceptedPlan st w .after)) (SeqInsert.insert (erase (colours (st .pool)) T) k v))
 insert-ends st T k v h n s =
     let w = insertAt st k v (placeOf st k) in
-    run (length (w .stores)) (accepted st w .after) (SeqInsert.insert (erase (colours (st .pool)) T) k v) T (w .stores) refl (accepted-in-hand st _ T w h (insert-possible st T k v h n)) s
+    run (length (w .stores)) (acceptedPlan st w .after) (SeqInsert.insert (erase (colours (st .pool)) T) k v) T (w .stores) refl (accepted-in-hand st _ T w h (insert-possible st T k v h n)) s
 
 pub delete-ends : (st : State) (T : Linked) (k v : ℕ) → Rest st T → find T k ≡ some v
-    → (let w = deleteAt st (placeOf st k) in Supplied (length (w .stores)) (accepted st w .after) → Ends (carried (length (w .stores)) (accepted st w .after)) (SeqDelete.delete (erase (colours (st .pool)) T) k))
+    → (let w = deleteAt st (placeOf st k) in Supplied (length (w .stores)) (acceptedPlan st w .after) → Ends (carried (length (w .stores)) (acceptedPlan st w .after)) (SeqDelete.delete (erase (colours (st .pool)) T) k))
 delete-ends st T k v h n s =
     let w = deleteAt st (placeOf st k) in
-    run (length (w .stores)) (accepted st w .after) (SeqDelete.delete (erase (colours (st .pool)) T) k) T (w .stores) refl (accepted-in-hand st _ T w h (delete-possible st T k v h n)) s
+    run (length (w .stores)) (acceptedPlan st w .after) (SeqDelete.delete (erase (colours (st .pool)) T) k) T (w .stores) refl (accepted-in-hand st _ T w h (delete-possible st T k v h n)) s

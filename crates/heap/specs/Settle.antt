@@ -3,17 +3,17 @@ use Prim.Native.Nat.{ℕ}
 use mathlib.Core.Path.{_≡_, refl}
 use mathlib.Core.Bool.{true, false, false≢true}
 use mathlib.Core.List.{List, [], _∷_, _++_, map}
-use Rattle.types.specs.declared.Link.{Link}
-use Rattle.types.specs.declared.Side.{Side}
-use Rattle.types.specs.declared.Side.the-variants.{R}
-use Rattle.types.specs.declared.Form.{Form}
-use Rattle.types.specs.declared.Form.the-variants.{Diag, Zig}
-use Rattle.types.specs.declared.Rule.{Rule}
-use Rattle.types.specs.declared.Ending.{Ending}
-use Rattle.types.specs.declared.Ending.the-variants.{Calm, Blacken, Rotate, RotateTwice, Missing}
-use Rattle.types.specs.declared.Step.{Step}
-use Rattle.types.specs.declared.Step.the-variants.{Vacant, Insert, DiagLower, DiagRaise, ZigLowerA, ZigLowerC, ZigRaise, Unlink, Adopt, Replace, Publish, Detach}
-use Rattle.types.specs.declared.Store.{Store}
+use Rattle.datatypes.specs.declared.Link.{Link}
+use Rattle.datatypes.specs.declared.Side.{Side}
+use Rattle.datatypes.specs.declared.Side.the-variants.{R}
+use Rattle.datatypes.specs.declared.Form.{Form}
+use Rattle.datatypes.specs.declared.Form.the-variants.{Diag, Zig}
+use Rattle.datatypes.specs.declared.Purpose.{Purpose}
+use Rattle.datatypes.specs.declared.Ending.{Ending}
+use Rattle.datatypes.specs.declared.Ending.the-variants.{Balanced, Blacken, Rotate, RotateTwice, Missing}
+use Rattle.datatypes.specs.declared.Step.{Step}
+use Rattle.datatypes.specs.declared.Step.the-variants.{Vacant, Insert, DiagLower, DiagRaise, ZigLowerA, ZigLowerC, ZigRaise, Unlink, Adopt, Replace, Publish, Detach}
+use Rattle.datatypes.specs.declared.Store.{Store}
 use Rattle.spec.specs.Register.{State}
 use Rattle.spec.specs.Plan.{turnStores, rotationStores, endingStores}
 use Rattle.spec.specs.Turn.{movedStore}
@@ -22,27 +22,27 @@ use Rattle.tree.specs.Linked.{Linked}
 use Rattle.tree.specs.Zipper.{hole, Same}
 use Rattle.tree.specs.Erase.{erase}
 use Rattle.heap.specs.Tolds.{Told}
-use Rattle.heap.specs.Phase.{growEnding, lossEnding, standIn, Phases, diag-0, diag-1, zig-0, zig-1, zig-2, insert-0, unlink-0, adopt-0, replace-0, publish-0, detach-0}
+use Rattle.heap.specs.Phase.{insertEnding, removalEnding, standIn, Phases, diag-0, diag-1, zig-0, zig-1, zig-2, insert-0, unlink-0, adopt-0, replace-0, publish-0, detach-0}
 use Rattle.heap.specs.Shift.{listStore, later}
 use Rattle.heap.specs.Effects.{shift-same}
 use Rattle.heap.specs.Nodes.{Settled, phase-told}
 use Rattle.heap.specs.Writes.{Turn}
 
-turn-settled : (f : Form) (l : Link) (s : Side) (c : Rule) (w : List Store) → Settled w → Settled (turnStores f l s c ++ w)
+turn-settled : (f : Form) (l : Link) (s : Side) (c : Purpose) (w : List Store) → Settled w → Settled (turnStores f l s c ++ w)
 turn-settled Diag l s c w h = (refl, (refl, h))
 turn-settled Zig l s c w h = (refl, (refl, (refl, h)))
 
 ending-settled : (e : Ending) → Settled (endingStores e)
-ending-settled Calm = tt
+ending-settled Balanced = tt
 ending-settled Blacken = tt
 ending-settled (Rotate t) = plain (t .form)
   where
-    plain : (f : Form) → Settled (turnStores f (t .link) (t .side) (t .rule))
+    plain : (f : Form) → Settled (turnStores f (t .link) (t .side) (t .purpose))
     plain Diag = (refl, (refl, tt))
     plain Zig = (refl, (refl, (refl, tt)))
-ending-settled (RotateTwice t u) = turn-settled (t .form) (t .link) (t .side) (t .rule) (rotationStores u) (plain (u .form))
+ending-settled (RotateTwice t u) = turn-settled (t .form) (t .link) (t .side) (t .purpose) (rotationStores u) (plain (u .form))
   where
-    plain : (f : Form) → Settled (turnStores f (u .link) (u .side) (u .rule))
+    plain : (f : Form) → Settled (turnStores f (u .link) (u .side) (u .purpose))
     plain Diag = (refl, (refl, tt))
     plain Zig = (refl, (refl, (refl, tt)))
 ending-settled Missing = tt
@@ -57,11 +57,11 @@ phase-settles (diag-1 w fs s B C n o x r h i z c g d e) q = no q
 phase-settles (zig-0 w fs s A B C b x y r h i g e) q = no q
 phase-settles (zig-1 w fs s A B C m b x y r h i z c g e) q = no q
 phase-settles (zig-2 w fs s A B C m n b x y r h i z u d c k g e) q = no q
-phase-settles {f = f} (insert-0 k v fs h s i e) q = ending-settled (growEnding f fs)
-phase-settles {f = f} (unlink-0 fs s B x h i g e) q = ending-settled (lossEnding (f (B .num)) f (colourOf (erase f x)) fs)
+phase-settles {f = f} (insert-0 k v fs h s i e) q = ending-settled (insertEnding f fs)
+phase-settles {f = f} (unlink-0 fs s B x h i g e) q = ending-settled (removalEnding (f (B .num)) f (colourOf (erase f x)) fs)
 phase-settles (adopt-0 fs B C l y h i g d e) q = no q
-phase-settles {f = f} (replace-0 fs B C l y h i g d e) q = ending-settled (lossEnding (f (C .num)) f (colourOf (erase f y)) (hole R (standIn B C) l ∷ fs))
-phase-settles {f = f} (publish-0 fs gs B C l y al h i g d e) q = (refl, ending-settled (lossEnding (f (C .num)) f (colourOf (erase f y)) (gs ++ (hole R (standIn B C) l ∷ fs))))
+phase-settles {f = f} (replace-0 fs B C l y h i g d e) q = ending-settled (removalEnding (f (C .num)) f (colourOf (erase f y)) (hole R (standIn B C) l ∷ fs))
+phase-settles {f = f} (publish-0 fs gs B C l y al h i g d e) q = (refl, ending-settled (removalEnding (f (C .num)) f (colourOf (erase f y)) (gs ++ (hole R (standIn B C) l ∷ fs))))
 phase-settles (detach-0 fs gs B C n l y al sh h t i k z c g e) q = no q
 
 map-settled : (b n : ℕ) (l : List Store) → Settled l → Settled (map (movedStore b n) l)

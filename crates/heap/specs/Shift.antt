@@ -8,16 +8,16 @@ use mathlib.Core.Bool.{Bool, true, false}
 use mathlib.Core.List.{List, [], _∷_, _++_, map}
 use lib.ListN.{length}
 use native.Mathlib.Omega.{arith}
-use Rattle.types.specs.declared.Side.{Side}
-use Rattle.types.specs.declared.Side.the-variants.{L, R}
-use Rattle.types.specs.declared.Link.{Link}
-use Rattle.types.specs.declared.Link.the-variants.{Left}
-use Rattle.types.specs.declared.Step.{Step}
-use Rattle.types.specs.declared.Step.the-variants.{Vacant, Insert, DiagLower, DiagRaise, ZigLowerA, ZigLowerC, ZigRaise, Unlink, Adopt, Replace, Publish, Detach}
-use Rattle.types.specs.declared.Store.{Store}
-use Rattle.types.specs.declared.Write.{Write}
-use Rattle.types.specs.declared.Register.{Register}
-use Rattle.types.specs.Side.{other, linkAt}
+use Rattle.datatypes.specs.declared.Side.{Side}
+use Rattle.datatypes.specs.declared.Side.the-variants.{L, R}
+use Rattle.datatypes.specs.declared.Link.{Link}
+use Rattle.datatypes.specs.declared.Link.the-variants.{Left}
+use Rattle.datatypes.specs.declared.Step.{Step}
+use Rattle.datatypes.specs.declared.Step.the-variants.{Vacant, Insert, DiagLower, DiagRaise, ZigLowerA, ZigLowerC, ZigRaise, Unlink, Adopt, Replace, Publish, Detach}
+use Rattle.datatypes.specs.declared.Store.{Store}
+use Rattle.datatypes.specs.declared.Write.{Write}
+use Rattle.datatypes.specs.declared.Register.{Register}
+use Rattle.datatypes.specs.Side.{other, linkAt}
 use Rattle.spec.specs.Pool as Pool
 use Rattle.spec.specs.Register.{State, linkNode, countUp, countDown, readingSlots}
 use Rattle.spec.specs.Turn.{Made, movedStore, movedWrite}
@@ -31,7 +31,7 @@ use Rattle.tree.specs.Rotations.{diag₀, diag₁, diag₂, zig₀, zig₁, zig
 use Rattle.tree.specs.Stores.{form₀, form₁, form₂}
 use Rattle.tree.specs.Successor.{third₀, third₁, third₂}
 use Rattle.heap.specs.Sites.{linkTo}
-use Rattle.heap.specs.Climbs.{numOf}
+use Rattle.heap.specs.Fixups.{numOf}
 use Rattle.heap.specs.Moves.{Fresh, Once}
 use Rattle.heap.specs.Parts.{Parts}
 use Rattle.heap.specs.Phase.{Phase}
@@ -96,18 +96,18 @@ Ready st T (n ∷ l) = Fresh st T
 
 -- keys held after a step: the list stores count
 abbrev pub heldAfter : Step → ℕ → ℕ → ℕ
-heldAfter Vacant top h = h
-heldAfter (Insert k v) top h = countUp top h
-heldAfter (DiagLower s c) top h = h
-heldAfter (DiagRaise s c) top h = h
-heldAfter (ZigLowerA s c) top h = h
-heldAfter (ZigLowerC s c) top h = h
-heldAfter (ZigRaise s c) top h = h
-heldAfter Unlink top h = countDown h
-heldAfter Adopt top h = h
-heldAfter Replace top h = countDown h
-heldAfter (Publish c) top h = countDown h
-heldAfter (Detach k) top h = h
+heldAfter Vacant capacity h = h
+heldAfter (Insert k v) capacity h = countUp capacity h
+heldAfter (DiagLower s c) capacity h = h
+heldAfter (DiagRaise s c) capacity h = h
+heldAfter (ZigLowerA s c) capacity h = h
+heldAfter (ZigLowerC s c) capacity h = h
+heldAfter (ZigRaise s c) capacity h = h
+heldAfter Unlink capacity h = countDown h
+heldAfter Adopt capacity h = h
+heldAfter Replace capacity h = countDown h
+heldAfter (Publish c) capacity h = countDown h
+heldAfter (Detach k) capacity h = h
 
 -- the stores after the first; a publish renames those that hang on B's right
 abbrev pub later : State → Link → Step → List Store → List Store

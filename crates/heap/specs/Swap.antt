@@ -5,8 +5,8 @@ use mathlib.Core.Path.{_≡_, refl, ap}
 use mathlib.Core.Logic.{_≢_, inl}
 use mathlib.Core.List.{List, [], _∷_}
 use native.Mathlib.Omega.{arith}
-use Rattle.types.specs.declared.Side.{Side}
-use Rattle.types.specs.declared.Side.the-variants.{L, R}
+use Rattle.datatypes.specs.declared.Side.{Side}
+use Rattle.datatypes.specs.declared.Side.the-variants.{L, R}
 use Rattle.spec.specs.Pool.{child, linkWord, nodeWords}
 use Rattle.spec.specs.Register.{State, setLink}
 use Rattle.laws.specs.Words.{word-other}
@@ -16,10 +16,10 @@ use Rattle.tree.specs.Linked.{Node, Linked}
 use Rattle.tree.specs.Zipper.{Frame, hole}
 use Rattle.tree.specs.Erase.{erase, eraseWay}
 use Rattle.tree.specs.Occurs.{one, one-same, occWay}
-use Rattle.tree.specs.Recolour.{SinksTo}
-use Rattle.tree.specs.Sink.{SinkEnd, darken, borrowed, passed}
+use Rattle.tree.specs.Recolour.{DeleteFixupTo}
+use Rattle.tree.specs.DeleteFixup.{DeleteFixupEnd, darken, blackSiblingOf, passed}
 use Rattle.heap.specs.Sites.{linkTo, set-link, set-root}
-use Rattle.heap.specs.Climbs.{framesUp, tip, sinkEnding}
+use Rattle.heap.specs.Fixups.{framesUp, tip, deleteFixupEnding}
 
 -- the tip's colour is seen in the erased way
 pub tipOf : Colour → ℕ → List Seq.Frame → Colour
@@ -35,9 +35,9 @@ tip-way f c (suc m) (hole s N y ∷ fs) = tip-way f (f (N .num)) m fs
 
 -- a frame's node matters neither to the ending nor, but for its colour, to the levels
 module _ (M N : Node) (l : Linked) (fs : List Frame) where
-  pub ending-swap : (e : SinkEnd) (c : Colour) (m : ℕ) → sinkEnding e c (framesUp m (hole R M l ∷ fs)) ≡ sinkEnding e c (framesUp m (hole R N l ∷ fs))
+  pub ending-swap : (e : DeleteFixupEnd) (c : Colour) (m : ℕ) → deleteFixupEnding e c (framesUp m (hole R M l ∷ fs)) ≡ deleteFixupEnding e c (framesUp m (hole R N l ∷ fs))
   ending-swap darken c zero = refl
-  ending-swap (borrowed b) c zero = refl
+  ending-swap (blackSiblingOf b) c zero = refl
   ending-swap (passed o) c zero = refl
   ending-swap e c (suc m) = refl
 
@@ -58,8 +58,8 @@ module _ (M N : Node) (l : Linked) (fs : List Frame) where
       over (suc m) [] h = refl
       over (suc m) (hole s P y ∷ fs) h = over m fs (ap tailOf h)
 
-  pub sinks-swap : (m : ℕ) (f g : ℕ → Colour) → g (N .num) ≡ f (N .num) → SinksTo m f g (hole R M l ∷ fs) → SinksTo m f g (hole R N l ∷ fs)
-  sinks-swap zero f g e h =
+  pub deleteFixup-swap : (m : ℕ) (f g : ℕ → Colour) → g (N .num) ≡ f (N .num) → DeleteFixupTo m f g (hole R M l ∷ fs) → DeleteFixupTo m f g (hole R N l ∷ fs)
+  deleteFixup-swap zero f g e h =
       let a : erase g l ≡ erase f l = ap treeOf h in
       let b : eraseWay g fs ≡ eraseWay f fs = ap tailOf h in
       rw (e, a, b)
@@ -71,7 +71,7 @@ module _ (M N : Node) (l : Linked) (fs : List Frame) where
       treeOf : List Seq.Frame → Tree
       treeOf [] = Seq.leaf
       treeOf (Seq.frame s c k v y ∷ xs) = y
-  sinks-swap (suc m) f g e h = (e, h .1, h .2)
+  deleteFixup-swap (suc m) f g e h = (e, h .1, h .2)
 
 -- a link of another node, and a colour, leave a node's links
 pub link-else : (st : State) (fs : List Frame) (v b : ℕ) (s : Side) → occWay b fs ≡ 0 → child (setLink st (linkTo fs) v .pool) s b ≡ child (st .pool) s b

@@ -6,15 +6,15 @@ use mathlib.Core.List.{List, [], _∷_}
 use borrow.Author.Tests.{ne-eqb, eq-eqb}
 use native.Mathlib.Omega.{arith}
 use native.Mathlib.Decide.{ℕ-discrete}
-use Rattle.types.specs.declared.Side.{Side}
-use Rattle.types.specs.declared.Side.the-variants.{L, R}
-use Rattle.types.specs.declared.Step.the-variants.{Unlink}
-use Rattle.types.specs.Side.{other}
+use Rattle.datatypes.specs.declared.Side.{Side}
+use Rattle.datatypes.specs.declared.Side.the-variants.{L, R}
+use Rattle.datatypes.specs.declared.Step.the-variants.{Unlink}
+use Rattle.datatypes.specs.Side.{other}
 use Rattle.spec.specs.Pool.{child, isRed}
 use Rattle.spec.specs.Register.{State, setLink}
 use Rattle.spec.specs.Free.{retire}
 use Rattle.spec.specs.Search.{pathTo}
-use Rattle.spec.specs.Plan.{endingStores, onlyChild, lossClimb, paintLoss}
+use Rattle.spec.specs.Plan.{endingStores, onlyChild, fixupAfterRemoval, paintDeleteFixup}
 use Rattle.spec.specs.Turn.{made, oneLess, unlinkStore, stepFinds}
 use Rattle.sequential.specs.Tree.{Colour, black, Tree, colourOf}
 use Rattle.sequential.specs.Delete.{lose}
@@ -25,27 +25,27 @@ use Rattle.tree.specs.Zipper.{Frame, plug, Into, sameBut-lift}
 use Rattle.tree.specs.Stores.{unlink-order, unlink-find}
 use Rattle.tree.specs.Forms.{delete-first}
 use Rattle.tree.specs.Erase.{erase, eraseWay, erase-at, erase-plug, erase-find}
-use Rattle.tree.specs.Ways.{first-sinks}
+use Rattle.tree.specs.Ways.{first-deleteFixup}
 use Rattle.tree.specs.Occurs.{occ-at, occ-plug, turnover-plug, unlink-turnover}
 use Rattle.tree.specs.Phases.{writes-whole, unlink-writes}
-use Rattle.tree.specs.Sink.{Sinks}
+use Rattle.tree.specs.DeleteFixup.{DeleteFixups}
 use Rattle.heap.specs.Rep.{Rep}
 use Rattle.heap.specs.Sites.{linkTo, links}
 use Rattle.heap.specs.Colours.{redly, colours, colours-link, red-tree}
 use Rattle.heap.specs.Fill.{retire-quiet}
 use Rattle.heap.specs.Paths.{path-to}
-use Rattle.heap.specs.Climbs.{Sides, way-sides}
+use Rattle.heap.specs.Fixups.{Sides, way-sides}
 use Rattle.heap.specs.Moves.{At, clear-of, link-size, link-held, fields-trans, fields-queued, held-fields, same-fields}
 use Rattle.heap.specs.Lowers.{is-node, Top, top-of}
 use Rattle.heap.specs.Raises.{Raised, raised-link}
-use Rattle.heap.specs.Tints.{tint-loss}
+use Rattle.heap.specs.ColourWork.{colours-removal}
 use Rattle.heap.specs.Parts.{unchanged, same-queue, queue-trans, held-queue, parts-of}
 use Rattle.heap.specs.Tolds.{told-delete}
-use Rattle.heap.specs.Phase.{lossEnding, Sound, Lined, Phase, phase-alike}
+use Rattle.heap.specs.Phase.{removalEnding, Sound, Lined, Phase, phase-alike}
 use Rattle.heap.specs.Shift.{by-unlink, Next, once-less}
 use Rattle.heap.specs.Inserts.{Small, way-short, once-way}
 use Rattle.heap.specs.InsertStep.{held-root, held-is}
-use Rattle.heap.specs.LossClimb.{loss-phase, loss-there, loss-alike, loss-register, rep-num}
+use Rattle.heap.specs.RemovalFixup.{removal-phase, removal-there, removal-alike, removal-register, rep-num}
 
 -- the child that there is, or 0
 pub only-is : (p : List ℕ) (s : Side) (b : ℕ) → child p (other s) b ≡ 0 → onlyChild p b ≡ child p s b
@@ -66,8 +66,8 @@ module _ (st : State) (G : Tree) (fs : List Frame) (s : Side) (B : Node) (x : Li
   abbrev n : ℕ
   n = child (st .pool) s (B .num)
 
-  top : Top st fs s B x nil
-  top = top-of st fs s B x nil h
+  capacity : Top st fs s B x nil
+  capacity = top-of st fs s B x nil h
 
   into : Into (B .key) fs
   into = into-top fs s B x nil (ordered-bare f _ T (good .proper .ordered))
@@ -81,16 +81,16 @@ module _ (st : State) (G : Tree) (fs : List Frame) (s : Side) (B : Node) (x : Li
   linked = oneLess (setLink st (linkTo fs) n)
 
   abbrev coloured : State
-  coloured = paintLoss linked (lossClimb p (B .num) n (links fs)) n (links fs)
+  coloured = paintDeleteFixup linked (fixupAfterRemoval p (B .num) n (links fs)) n (links fs)
 
   unlink-is : unlinkStore st (linkTo fs) ≡ made (retire coloured (B .num)) (linkTo fs) n
   unfolding unlinkStore
-  unlink-is = rw (top .is, top .words .key-is, only-is p s (B .num) (top .far), path-is)
+  unlink-is = rw (capacity .is, capacity .words .key-is, only-is p s (B .num) (capacity .far), path-is)
 
   raised : Raised st (setLink st (linkTo fs) n) fs x
   raised =
       raised-link st fs (at s B x nil) x n
-      (clear-of fs (at s B x nil) x (good .once) (λ i w. let a = good .once i in let b = occ-plug fs (at s B x nil) i in let c = occ-at s B x nil i in omega arith)) h (top .near)
+      (clear-of fs (at s B x nil) x (good .once) (λ i w. let a = good .once i in let b = occ-plug fs (at s B x nil) i in let c = occ-at s B x nil i in omega arith)) h (capacity .near)
 
   site : At linked fs x
   site = rw (held-root (setLink st (linkTo fs) n .register) _) (raised .site)
@@ -103,42 +103,42 @@ module _ (st : State) (G : Tree) (fs : List Frame) (s : Side) (B : Node) (x : Li
         (sameBut-lift fs into (unlink-find s B x (unlink-order s B x (ordered-within fs (at s B x nil) (ordered-bare f _ T (good .proper .ordered))))));
   }
 
-  sinks : f (B .num) ≡ black → Sinks (colourOf (erase f x)) (eraseWay f fs)
-  sinks e = first-sinks s (eraseWay f fs) (B .key) (B .val) (erase f x) (colourOf (erase f x)) (rw (erase-plug f fs (at s B x nil), erase-at f s B x nil, e) at (good .proper .redblack))
+  deleteFixups : f (B .num) ≡ black → DeleteFixups (colourOf (erase f x)) (eraseWay f fs)
+  deleteFixups e = first-deleteFixup s (eraseWay f fs) (B .key) (B .val) (erase f x) (colourOf (erase f x)) (rw (erase-plug f fs (at s B x nil), erase-at f s B x nil, e) at (good .proper .redblack))
 
   is-red : isRed p n ≡ redly (colourOf (erase f x))
-  is-red = red-tree p n x (top .near)
+  is-red = red-tree p n x (capacity .near)
 
   sides : Sides p fs
   sides = way-sides p (st .register .root) fs (h .way)
 
   rep-after : Rep (linked .pool) n x
-  rep-after = let a = rep-num (linked .pool) _ x (site .sub) in let b = rep-num p n x (top .near) in subst (λ i. Rep (linked .pool) i x) (a ∙ sym b) (site .sub)
+  rep-after = let a = rep-num (linked .pool) _ x (site .sub) in let b = rep-num p n x (capacity .near) in subst (λ i. Rep (linked .pool) i x) (a ∙ sym b) (site .sub)
 
-  phase : Phase (retire coloured (B .num) .pool) (retire coloured (B .num) .register .root) G (plug fs x) (endingStores (lossEnding (f (B .num)) f (colourOf (erase f x)) fs))
+  phase : Phase (retire coloured (B .num) .pool) (retire coloured (B .num) .register .root) G (plug fs x) (endingStores (removalEnding (f (B .num)) f (colourOf (erase f x)) fs))
   phase =
       let q = retire-quiet coloured (B .num) in
       rw (q .fields .root) (phase-alike (q .words) (coloured .register .root) G
-      (loss-phase st linked G fs x n (B .num) (fun-ext (colours-link st (linkTo fs) n)) site rep-after is-red sides lined proper (f (B .num)) refl sinks goal))
+      (removal-phase st linked G fs x n (B .num) (fun-ext (colours-link st (linkTo fs) n)) site rep-after is-red sides lined proper (f (B .num)) refl deleteFixups goal))
 
-  pub unlink-0-next : Next st G T (unlinkStore st (linkTo fs)) Unlink (endingStores (lossEnding (f (B .num)) f (colourOf (erase f x)) fs))
+  pub unlink-0-next : Next st G T (unlinkStore st (linkTo fs)) Unlink (endingStores (removalEnding (f (B .num)) f (colourOf (erase f x)) fs))
   unlink-0-next =
       let q = retire-quiet coloured (B .num) in
-      let c = lossClimb p (B .num) n (links fs) in
-      let a = fields-trans (raised .fields) (fields-trans (held-fields (setLink st (linkTo fs) n .register) _) (fields-trans (same-fields (loss-register linked c n (links fs))) (fields-queued (q .fields)))) in
+      let c = fixupAfterRemoval p (B .num) n (links fs) in
+      let a = fields-trans (raised .fields) (fields-trans (held-fields (setLink st (linkTo fs) n .register) _) (fields-trans (same-fields (removal-register linked c n (links fs))) (fields-queued (q .fields)))) in
       rw unlink-is record {
         tree = plug fs x;
         gone = B .num ∷ [];
-        shift = rw (rep-num p n x (top .near)) (by-unlink fs s B x (ordered-bare f _ T (good .proper .ordered)) (good .once));
+        shift = rw (rep-num p n x (capacity .near)) (by-unlink fs s B x (ordered-bare f _ T (good .proper .ordered)) (good .once));
         phase = phase;
-        parts = parts-of st st coloured _ (linkTo fs) n [] (B .num ∷ []) unchanged (tint-loss linked c n (links fs))
-            (queue-trans (held-queue (setLink st (linkTo fs) n .register) _) (same-queue (loss-register linked c n (links fs)))) refl;
-        size = q .words .size ∙ loss-alike linked c n (links fs) .size ∙ link-size st (linkTo fs) n;
-        held = q .fields .held ∙ ap (λ r. r .held) (loss-register linked c n (links fs)) ∙ held-is (setLink st (linkTo fs) n .register) _ ∙ rw (link-held st (linkTo fs) n);
+        parts = parts-of st st coloured _ (linkTo fs) n [] (B .num ∷ []) unchanged (colours-removal linked c n (links fs))
+            (queue-trans (held-queue (setLink st (linkTo fs) n .register) _) (same-queue (removal-register linked c n (links fs)))) refl;
+        size = q .words .size ∙ removal-alike linked c n (links fs) .size ∙ link-size st (linkTo fs) n;
+        held = q .fields .held ∙ ap (λ r. r .held) (removal-register linked c n (links fs)) ∙ held-is (setLink st (linkTo fs) n .register) _ ∙ rw (link-held st (linkTo fs) n);
         fields = record { readers = a .readers; awaited = a .awaited; write = a .write };
       }
 
   pub unlink-0-finds : stepFinds st (linkTo fs) Unlink ≡ true
   unfolding stepFinds
   unlink-0-finds =
-      rw (top .is, top .words .key-is, only-is p s (B .num) (top .far), path-is, is-node (B .num) (top .words .within .low), loss-there p (B .num) n (colourOf (erase f x)) fs is-red sides sinks)
+      rw (capacity .is, capacity .words .key-is, only-is p s (B .num) (capacity .far), path-is, is-node (B .num) (capacity .words .within .low), removal-there p (B .num) n (colourOf (erase f x)) fs is-red sides deleteFixups)

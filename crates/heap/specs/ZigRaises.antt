@@ -4,11 +4,11 @@ use mathlib.Core.Path.{_≡_, refl, ap, _∙_}
 use mathlib.Core.Bool.{true}
 use mathlib.Core.List.{List, _∷_}
 use native.Mathlib.Omega.{arith}
-use Rattle.types.specs.declared.Side.{Side}
-use Rattle.types.specs.declared.Rule.{Rule}
-use Rattle.types.specs.declared.Rule.the-variants.{Grow, Borrow}
-use Rattle.types.specs.declared.Step.the-variants.{ZigRaise}
-use Rattle.types.specs.Side.{other}
+use Rattle.datatypes.specs.declared.Side.{Side}
+use Rattle.datatypes.specs.declared.Purpose.{Purpose}
+use Rattle.datatypes.specs.declared.Purpose.the-variants.{ForInsert, BlackSibling}
+use Rattle.datatypes.specs.declared.Step.the-variants.{ZigRaise}
+use Rattle.datatypes.specs.Side.{other}
 use Rattle.spec.specs.Pool.{child, paint, blackColour}
 use Rattle.spec.specs.Register.{State, setLink}
 use Rattle.spec.specs.Free.{retireTwo}
@@ -52,9 +52,9 @@ module _ (st : State) (fs : List Frame) (s : Side) (A B C : Node) (m n : ℕ) (a
   ib : child (st .pool) (other s) (A .num) ≡ B .num
   ib = below-is st (other s) s (A .num) B lowA lowC (ta .far)
 
-  pub zig-raise-is : (rule : Rule) → zigRaise st (linkTo fs) s rule ≡ made (retireTwo (endZig rule (risen (risenColour rule st (C .num)))) (A .num) (C .num)) (linkTo fs) (B .num)
+  pub zig-raise-is : (purpose : Purpose) → zigRaise st (linkTo fs) s purpose ≡ made (retireTwo (endZig purpose (risen (risenColour purpose st (C .num)))) (A .num) (C .num)) (linkTo fs) (B .num)
   unfolding zigRaise
-  zig-raise-is rule =
+  zig-raise-is purpose =
       let t = top-of st fs s C (at s A a (at s B lowA lowC)) r h in
       rw (t .is, ia, ib)
 
@@ -96,29 +96,29 @@ module _ (st : State) (fs : List Frame) (s : Side) (A B C : Node) (m n : ℕ) (a
       let way = way-occ f g fs (λ i w. risen-else c i (one-other (B .num) i (λ e. let z : occWay (B .num) fs ≡ occWay i fs = rw e in omega arith))) in
       erase-plug g fs (zig₃ s A B C m n a x y r) ∙ rw (way, rot)
 
-  pub zig-grow : f m ≡ red → f n ≡ red → Ended st (zigRaise st (linkTo fs) s Grow .after) fs (zig₃ s A B C m n a x y r)
+  pub zig-forInsert : f m ≡ red → f n ≡ red → Ended st (zigRaise st (linkTo fs) s ForInsert .after) fs (zig₃ s A B C m n a x y r)
       (Seq.paint black (Seq.plug (eraseWay f fs) (Seq.zig s black red (C .key) (C .val) (erase f (at s A a (at s B x y))) (erase f r))))
-  zig-grow em en =
-      rw (zig-raise-is Grow)
+  zig-forInsert em en =
+      rw (zig-raise-is ForInsert)
       (ended-quiet record {
         raised = raised-painted (zig-risen blackColour) (risen blackColour .register .root) blackColour;
         tree = black-root (risen blackColour) fs (zig₃ s A B C m n a x y r) (zig-risen blackColour .site) ∙ ap (Seq.paint black) (zig-tree blackColour red em en);
       } (retireTwo-quiet (blackRoot (risen blackColour)) (A .num) (C .num)))
 
-  pub zig-borrow : f m ≡ black → f n ≡ black → Ended st (zigRaise st (linkTo fs) s Borrow .after) fs (zig₃ s A B C m n a x y r)
+  pub zig-blackSibling : f m ≡ black → f n ≡ black → Ended st (zigRaise st (linkTo fs) s BlackSibling .after) fs (zig₃ s A B C m n a x y r)
       (Seq.plug (eraseWay f fs) (Seq.zig s (f (C .num)) black (C .key) (C .val) (erase f (at s A a (at s B x y))) (erase f r)))
-  zig-borrow em en =
+  zig-blackSibling em en =
       let c = colourOf st (C .num) in
       let is = colours-is (st .pool) (C .num) c refl in
-      rw (zig-raise-is Borrow)
+      rw (zig-raise-is BlackSibling)
       (ended-quiet record {
         raised = zig-risen c;
         tree = rw is (zig-tree c black em en);
       } (retireTwo-quiet (risen c) (A .num) (C .num)))
 
-  pub zig-raise-finds : (rule : Rule) → stepFinds st (linkTo fs) (ZigRaise s rule) ≡ true
+  pub zig-raise-finds : (purpose : Purpose) → stepFinds st (linkTo fs) (ZigRaise s purpose) ≡ true
   unfolding stepFinds
-  zig-raise-finds rule =
+  zig-raise-finds purpose =
       let t = top-of st fs s C (at s A a (at s B lowA lowC)) r h in
       let tb = top-of st (hole (other s) A a ∷ hole s C r ∷ fs) s B lowA lowC
       (far-down st (hole s C r ∷ fs) s A a (at s B lowA lowC) (near-down st fs s C (at s A a (at s B lowA lowC)) r h)) in

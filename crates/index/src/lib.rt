@@ -1,16 +1,16 @@
 // The calls of the ticket index. Each one's promise: answer, register and every pool word are what the definition of document 01's call
 // (crate spec, Calls) makes of what was lent; a refused call leaves both as they were.
-use types::Acceptance;
-use types::Head;
-use types::Link;
-use types::Place;
-use types::Reader;
-use types::ReaderAnswer;
-use types::ReaderReply;
-use types::Register;
-use types::Reply;
-use types::WriterAnswer;
-use types::WriterReply;
+use datatypes::Acceptance;
+use datatypes::Head;
+use datatypes::Link;
+use datatypes::Place;
+use datatypes::Reader;
+use datatypes::ReaderAnswer;
+use datatypes::ReaderReply;
+use datatypes::Register;
+use datatypes::Reply;
+use datatypes::WriterAnswer;
+use datatypes::WriterReply;
 ghost use mathlib.Core.Path.{_≡_};
 ghost use Rattle.spec.specs.Register.{state};
 ghost use Rattle.spec.specs.Calls.{accepts, writerSays, readerSays, setUp, insert, delete, writerTurn, begin, readerTurn, giveUp};

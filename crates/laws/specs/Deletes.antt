@@ -4,12 +4,12 @@ use mathlib.Core.List.{List, [], _∷_}
 use mathlib.Core.Bool.{true, false, not}
 use native.Mathlib.Omega.{arith}
 use Prim.Native.Nat.{ℕ}
-use Rattle.types.specs.declared.Link.{Link}
-use Rattle.types.specs.declared.Place.{Place}
-use Rattle.types.specs.declared.Place.the-variants.{Held, Empty, TooDeep}
+use Rattle.datatypes.specs.declared.Link.{Link}
+use Rattle.datatypes.specs.declared.Place.{Place}
+use Rattle.datatypes.specs.declared.Place.the-variants.{Held, Empty, TooDeep}
 use Rattle.spec.specs.Register.{State, state, withWrite, writeOf}
 use Rattle.spec.specs.Plan.{deletePlan}
-use Rattle.spec.specs.Calls.{Test, _gives_, outcome, refused, ok, firstOf, wrongLength, outOfRange, writeInHand, placeOf, tooDeep, isHeld, fewerFree, deleteAt, accepted, delete}
+use Rattle.spec.specs.Calls.{Test, _gives_, outcome, refused, ok, firstOf, wrongLength, outOfRange, writeInHand, placeOf, tooDeep, isHeld, fewerFree, deleteAt, acceptedPlan, delete}
 use Rattle.laws.specs.Tests.{lentNumber, lent-refused, lent-passes, unless-refused, unless-done}
 
 module _ (st : State) (k : ℕ) where
@@ -28,12 +28,12 @@ module _ (st : State) (k : ℕ) where
 
   pub delete-lent : (lentNumber st ≡ 0 → ⊥) → delete st k ≡ outcome (refused (lentNumber st)) st
   unfolding delete
-  delete-lent d = unless-refused tests st (accepted st (deleteAt st (placeOf st k))) (lentNumber st) (lent-refused st (later (placeOf st k)) d) d
+  delete-lent d = unless-refused tests st (acceptedPlan st (deleteAt st (placeOf st k))) (lentNumber st) (lent-refused st (later (placeOf st k)) d) d
 
   module _ (lent : lentNumber st ≡ 0) where
     stops : (n : ℕ) → firstOf (later (placeOf st k)) ≡ n → (n ≡ 0 → ⊥) → delete st k ≡ outcome (refused n) st
     unfolding delete
-    stops n e d = unless-refused tests st (accepted st (deleteAt st (placeOf st k))) n (lent-passes st (later (placeOf st k)) lent ∙ e) d
+    stops n e d = unless-refused tests st (acceptedPlan st (deleteAt st (placeOf st k))) n (lent-passes st (later (placeOf st k)) lent ∙ e) d
 
     pub delete-writing : writeInHand st ≡ true → delete st k ≡ outcome (refused 6) st
     delete-writing w = stops 6 (rw w) (omega arith)
@@ -57,5 +57,5 @@ module _ (st : State) (k : ℕ) where
               → delete st k ≡ outcome ok (state (st .pool) (withWrite (st .register) (writeOf (deletePlan st l n .stores))))
           unfolding delete
           delete-goes p =
-              unless-done tests st (accepted st (deleteAt st (placeOf st k))) (lent-passes st (later (placeOf st k)) lent ∙ rw (idle, x, enough, p))
+              unless-done tests st (acceptedPlan st (deleteAt st (placeOf st k))) (lent-passes st (later (placeOf st k)) lent ∙ rw (idle, x, enough, p))
               ∙ rw x

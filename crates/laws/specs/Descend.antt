@@ -6,9 +6,9 @@ use lib.Dec.{eqb}
 use borrow.Author.Tests.{eq-eqb, ne-eqb}
 use native.Mathlib.Omega.{arith}
 use Prim.Native.Nat.{ℕ, zero, suc, _-_}
-use Rattle.types.specs.declared.Link.{Link}
-use Rattle.types.specs.declared.Place.the-variants.{Held, Empty, TooDeep}
-use Rattle.types.specs.Side.{linkAt}
+use Rattle.datatypes.specs.declared.Link.{Link}
+use Rattle.datatypes.specs.declared.Place.the-variants.{Held, Empty, TooDeep}
+use Rattle.datatypes.specs.Side.{linkAt}
 use Rattle.spec.specs.Pool.{word, child, keyWord}
 use Rattle.spec.specs.Search.{towards, seek}
 

@@ -91,7 +91,7 @@ fill-next p f j v h e old i l =
       | no d ↦ getD-set-other p j i v 0 d ∙ old i (omega arith)
     ]
 
-pub filled : (p : List ℕ) (top : ℕ) → length p ≡ top * 8 → ((i : ℕ) → i < length p → getD p i 0 ≡ freshWord top 1 i) → p ≡ freshPool top
+pub filled : (p : List ℕ) (capacity : ℕ) → length p ≡ capacity * 8 → ((i : ℕ) → i < length p → getD p i 0 ≡ freshWord capacity 1 i) → p ≡ freshPool capacity
 unfolding freshPool
-filled p top e h =
-    ext-getD 0 p (freshNodes top 1) (e ∙ sym (fresh-length top 1)) (λ i l. h i l ∙ sym (fresh-at top 1 i (rw e at l)))
+filled p capacity e h =
+    ext-getD 0 p (freshNodes capacity 1) (e ∙ sym (fresh-length capacity 1)) (λ i l. h i l ∙ sym (fresh-at capacity 1 i (rw e at l)))

@@ -6,20 +6,20 @@ use native.Mathlib.Omega.{arith}
 use lib.Dec.{leb}
 use borrow.Author.Tests.{le-leb, lt-leb}
 use Prim.Native.Nat.{ℕ, _+_, _-_, _<_, _≤_}
-use Rattle.types.specs.declared.Link.{Link}
-use Rattle.types.specs.declared.Place.{Place}
-use Rattle.types.specs.declared.Place.the-variants.{Held, Empty, TooDeep}
+use Rattle.datatypes.specs.declared.Link.{Link}
+use Rattle.datatypes.specs.declared.Place.{Place}
+use Rattle.datatypes.specs.declared.Place.the-variants.{Held, Empty, TooDeep}
 use Rattle.spec.specs.Register.{State, state, withWrite, writeOf}
 use Rattle.spec.specs.Plan.{insertPlan}
-use Rattle.spec.specs.Calls.{Test, _gives_, outcome, refused, ok, firstOf, wrongLength, outOfRange, writeInHand, placeOf, tooDeep, isHeld, full, fewerFree, insertAt, accepted, insert}
+use Rattle.spec.specs.Calls.{Test, _gives_, outcome, refused, ok, firstOf, wrongLength, outOfRange, writeInHand, placeOf, tooDeep, isHeld, full, fewerFree, insertAt, acceptedPlan, insert}
 use Rattle.laws.specs.Tests.{lentNumber, lent-refused, lent-passes, unless-refused, unless-done}
 
 -- the test for a full index, as a sum
-pub reserve-true : (top n : ℕ) → top ≤ n + 4 → leb (top - 4) n ≡ true
-reserve-true top n h = le-leb (top - 4) n (omega arith)
+pub reserve-true : (capacity n : ℕ) → capacity ≤ n + 4 → leb (capacity - 4) n ≡ true
+reserve-true capacity n h = le-leb (capacity - 4) n (omega arith)
 
-pub reserve-false : (top n : ℕ) → n + 4 < top → leb (top - 4) n ≡ false
-reserve-false top n h = lt-leb (top - 4) n (omega arith)
+pub reserve-false : (capacity n : ℕ) → n + 4 < capacity → leb (capacity - 4) n ≡ false
+reserve-false capacity n h = lt-leb (capacity - 4) n (omega arith)
 
 module _ (st : State) (k v : ℕ) where
   -- the tests after 1 and 2
@@ -38,13 +38,13 @@ module _ (st : State) (k v : ℕ) where
 
   pub insert-lent : (lentNumber st ≡ 0 → ⊥) → insert st k v ≡ outcome (refused (lentNumber st)) st
   unfolding insert
-  insert-lent d = unless-refused tests st (accepted st (insertAt st k v (placeOf st k))) (lentNumber st) (lent-refused st (later (placeOf st k)) d) d
+  insert-lent d = unless-refused tests st (acceptedPlan st (insertAt st k v (placeOf st k))) (lentNumber st) (lent-refused st (later (placeOf st k)) d) d
 
   module _ (lent : lentNumber st ≡ 0) where
     stops : (n : ℕ) → firstOf (later (placeOf st k)) ≡ n → (n ≡ 0 → ⊥) → insert st k v ≡ outcome (refused n) st
     unfolding insert
     stops n e d =
-        unless-refused tests st (accepted st (insertAt st k v (placeOf st k))) n (lent-passes st (later (placeOf st k)) lent ∙ e) d
+        unless-refused tests st (acceptedPlan st (insertAt st k v (placeOf st k))) n (lent-passes st (later (placeOf st k)) lent ∙ e) d
 
     pub insert-writing : writeInHand st ≡ true → insert st k v ≡ outcome (refused 6) st
     insert-writing w = stops 6 (rw w) (omega arith)
@@ -72,5 +72,5 @@ module _ (st : State) (k v : ℕ) where
                 → insert st k v ≡ outcome ok (state (st .pool) (withWrite (st .register) (writeOf (insertPlan st k v l .stores))))
             unfolding insert
             insert-goes p =
-                unless-done tests st (accepted st (insertAt st k v (placeOf st k))) (lent-passes st (later (placeOf st k)) lent ∙ rw (idle, x, room, enough, p))
+                unless-done tests st (acceptedPlan st (insertAt st k v (placeOf st k))) (lent-passes st (later (placeOf st k)) lent ∙ rw (idle, x, room, enough, p))
                 ∙ rw x

@@ -7,13 +7,13 @@ use lib.Dec.{eqb}
 use borrow.Author.Tests.{eq-eqb, ne-eqb}
 use native.Mathlib.Omega.{arith}
 use Prim.Native.Nat.{ℕ, _<_}
-use Rattle.types.specs.declared.Side.{Side}
-use Rattle.types.specs.declared.Side.the-variants.{L, R}
-use Rattle.types.specs.Side.{other}
+use Rattle.datatypes.specs.declared.Side.{Side}
+use Rattle.datatypes.specs.declared.Side.the-variants.{L, R}
+use Rattle.datatypes.specs.Side.{other}
 use Rattle.spec.specs.Pool.{nodeWords, word, setWord, keyWord, recordWord, linkWord, colourWord, standingWord, holdersWord, nextWord}
 use Rattle.spec.specs.Register.{State, withQueue}
 use Rattle.spec.specs.Free.{takeFree, fillNode, takeNode, freeNode}
-use Rattle.laws.specs.Words.{Node, length-setWord, word-same, word-other}
+use Rattle.laws.specs.Words.{InPool, length-setWord, word-same, word-other}
 
 -- n is not in a list; a list without repetition
 abbrev pub NotIn : ℕ → List ℕ → Type 0
@@ -27,7 +27,7 @@ Distinct (m ∷ l) = NotIn m l × Distinct l
 -- from node n the next free words lead through the list and end with 0
 abbrev pub Chain : List ℕ → ℕ → List ℕ → Type 0
 Chain p n [] = n ≡ 0
-Chain p n (m ∷ l) = (n ≡ m) × Node p m × Chain p (word p m nextWord) l
+Chain p n (m ∷ l) = (n ≡ m) × InPool p m × Chain p (word p m nextWord) l
 
 -- the last of a list, 0 if it is empty
 abbrev pub lastOf : List ℕ → ℕ
@@ -40,7 +40,7 @@ pub record Queue (st : State) (l : List ℕ) : Type 0 where
   pub chain : Chain (st .pool) (st .register .first) l
   pub last : st .register .last ≡ lastOf l
 
-node-kept : (p : List ℕ) (m n f v : ℕ) → Node p m → Node (setWord p n f v) m
+node-kept : (p : List ℕ) (m n f v : ℕ) → InPool p m → InPool (setWord p n f v) m
 node-kept p m n f v h = record { low = h .low; high = rw length-setWord (h .high) }
 
 -- a word of a node that is not in the list
@@ -95,7 +95,7 @@ not-last : (m k : ℕ) (l : List ℕ) → NotIn m (k ∷ l) → lastOf (k ∷ l)
 not-last m k [] o = let d = o .0 in omega arith
 not-last m k (j ∷ l) o = not-last m j l (o .1)
 
-chain-end : (p : List ℕ) (a n m : ℕ) (l : List ℕ) → Distinct (m ∷ l) → NotIn n (m ∷ l) → Node p n → Chain p a (m ∷ l)
+chain-end : (p : List ℕ) (a n m : ℕ) (l : List ℕ) → Distinct (m ∷ l) → NotIn n (m ∷ l) → InPool p n → Chain p a (m ∷ l)
     → Chain (setWord (setWord p (lastOf (m ∷ l)) nextWord n) n nextWord 0) a ((m ∷ l) ++ n ∷ [])
 chain-end p a n m [] d out hn h =
     let q = setWord p m nextWord n in
@@ -122,7 +122,7 @@ last-append n [] = refl
 last-append n (m ∷ []) = refl
 last-append n (m ∷ k ∷ l) = last-append n (k ∷ l)
 
-pub free-queue : (st : State) (n : ℕ) (l : List ℕ) → Queue st l → Distinct l → NotIn n l → Node (st .pool) n → Queue (freeNode st n) (l ++ n ∷ [])
+pub free-queue : (st : State) (n : ℕ) (l : List ℕ) → Queue st l → Distinct l → NotIn n l → InPool (st .pool) n → Queue (freeNode st n) (l ++ n ∷ [])
 unfolding freeNode withQueue
 free-queue st n [] q d out hn =
     let e = q .chain in

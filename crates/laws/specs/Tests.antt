@@ -24,7 +24,7 @@ pub right-length : (p : List ℕ) → lengthRight p ≡ true → length p < 8192
 unfolding lengthRight
 right-length p h =
     let a = eqb (length p % 8) 0 && leb 8 (nodes p) in
-    let top = leb-true (nodes p) 1023 (and-right a (leb (nodes p) 1023) h) in
+    let capacity = leb-true (nodes p) 1023 (and-right a (leb (nodes p) 1023) h) in
     let whole = eqb-true (length p % 8) 0 (and-left (eqb (length p % 8) 0) (leb 8 (nodes p)) (and-left a (leb (nodes p) 1023) h)) in
     omega arith
 

@@ -13,7 +13,7 @@ use Prim.Native.Nat.{ℕ, _-_, _*_, _<_, _≤_}
 use Rattle.spec.specs.Pool.{nodeWords, place, word, setWord}
 
 -- n is a node of the pool
-pub record Node (p : List ℕ) (n : ℕ) : Type 0 where
+pub record InPool (p : List ℕ) (n : ℕ) : Type 0 where
   pub low : 1 ≤ n
   pub high : n * nodeWords ≤ length p
 
@@ -43,7 +43,7 @@ unfolding setWord
 set-at p n f v h = rw (ne-eqb n 0 (omega arith))
 
 -- the same word of a node
-pub word-same : (p : List ℕ) (n f v : ℕ) → Node p n → f < nodeWords → word (setWord p n f v) n f ≡ v
+pub word-same : (p : List ℕ) (n f v : ℕ) → InPool p n → f < nodeWords → word (setWord p n f v) n f ≡ v
 word-same p n f v h l =
     rw (word-at (setWord p n f v) n f (h .low), set-at p n f v (h .low)) (getD-set-same p (place n f) v 0 (omega arith))
 

@@ -6,8 +6,8 @@ use lib.Dec.{eqb}
 use borrow.Author.Tests.{eq-eqb, ne-eqb}
 use native.Mathlib.Omega.{arith}
 use Prim.Native.Nat.{ℕ}
-use Rattle.types.specs.declared.Link.{Link}
-use Rattle.types.specs.declared.Step.{Step}
+use Rattle.datatypes.specs.declared.Link.{Link}
+use Rattle.datatypes.specs.declared.Step.{Step}
 use Rattle.spec.specs.Register.{State, storeOf}
 use Rattle.spec.specs.Turn.{stepFinds, stepMade}
 use Rattle.spec.specs.Calls.{Test, _gives_, Outcome, outcome, refused, wait, firstOf, wrongLength, outOfRange, writeInHand, stored, writerTurn}

@@ -4,8 +4,8 @@ use Prim.Native.Char.{code}
 use mathlib.Core.Bool.{cond}
 use mathlib.Core.List.{List, [], _∷_, _++_, map}
 use lib.Dec.{eqb}
-use Rattle.types.specs.declared.Link.{Link}
-use Rattle.types.specs.declared.Link.the-variants.{Root, Left, Right}
+use Rattle.datatypes.specs.declared.Link.{Link}
+use Rattle.datatypes.specs.declared.Link.the-variants.{Root, Left, Right}
 use Rattle.spec.specs.Pool.{word, keyWord, recordWord, colourWord, leftWord, rightWord, standingWord, standingLinked}
 use Rattle.spec.specs.Calls.{Answer, ok, go, absent, wait, found, more, done, refused}
 use Rattle.lines.specs.declared.Command.{Command}

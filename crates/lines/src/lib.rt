@@ -1,8 +1,8 @@
 // The lines of the program trace: a command read field by field, and the text of an answer.
-use types::Acceptance;
-use types::Link;
-use types::ReaderAnswer;
-use types::WriterAnswer;
+use datatypes::Acceptance;
+use datatypes::Link;
+use datatypes::ReaderAnswer;
+use datatypes::WriterAnswer;
 ghost use mathlib.Core.Path.{_≡_};
 ghost use mathlib.Core.List.{[], _∷_, _++_};
 ghost use Prim.Native.Nat.{_≤_, _<_, _+_};

@@ -4,9 +4,9 @@ use mathlib.Core.List.{List}
 use mathlib.Core.Bool.{Bool, true, false, cond}
 use lib.Dec.{eqb}
 use Prim.Native.Nat.{ℕ}
-use Rattle.types.specs.declared.Head.{Head}
-use Rattle.types.specs.declared.Reader.{Reader}
-use Rattle.types.specs.declared.Register.{Register}
+use Rattle.datatypes.specs.declared.Head.{Head}
+use Rattle.datatypes.specs.declared.Reader.{Reader}
+use Rattle.datatypes.specs.declared.Register.{Register}
 use Rattle.spec.specs.Pool.{word, child, keyWord, recordWord}
 use Rattle.spec.specs.Register.{State, state, noReader, readerOf, withReader}
 use Rattle.spec.specs.Free.{endReading}

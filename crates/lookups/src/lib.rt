@@ -1,7 +1,7 @@
 // What a reader's turn does after its tests, without the register: where it looks, and the head that the end of a reading leaves.
-use types::Head;
-use types::Reader;
-use types::ReaderAnswer;
+use datatypes::Head;
+use datatypes::Reader;
+use datatypes::ReaderAnswer;
 ghost use mathlib.Core.Path.{_≡_};
 ghost use Prim.Native.Nat.{ℕ, _<_};
 ghost use lib.ListN.{length};

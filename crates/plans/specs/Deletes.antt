@@ -4,21 +4,21 @@ use mathlib.Core.List.{List, [], _∷_}
 use mathlib.Core.Bool.{true, false}
 use borrow.Author.Tests.{eq-eqb, ne-eqb}
 use Prim.Native.Nat.{ℕ}
-use Rattle.types.specs.declared.Link.{Link}
-use Rattle.types.specs.declared.Side.the-variants.{L, R}
-use Rattle.types.specs.declared.Step.the-variants.{Adopt, Replace, Publish, Detach}
-use Rattle.types.specs.declared.Ending.{Ending}
+use Rattle.datatypes.specs.declared.Link.{Link}
+use Rattle.datatypes.specs.declared.Side.the-variants.{L, R}
+use Rattle.datatypes.specs.declared.Step.the-variants.{Adopt, Replace, Publish, Detach}
+use Rattle.datatypes.specs.declared.Ending.{Ending}
 use Rattle.spec.specs.Pool.{word, child, keyWord}
 use Rattle.spec.specs.Register.{State, linkNode}
 use Rattle.spec.specs.Search.{pathTo}
-use Rattle.spec.specs.Plan.{plan, store, lossClimb, nearest, twoChildren, successorPath, successorPlan, unlinkPlan, deletePlan}
+use Rattle.spec.specs.Plan.{plan, store, fixupAfterRemoval, nearest, twoChildren, successorPath, successorPlan, unlinkPlan, deletePlan}
 
 -- C, and how the climb after its loss ends
 abbrev pub nextNode : State → List Link → ℕ
 nextNode st path = linkNode st (nearest path)
 
-abbrev pub nextLoss : State → List Link → Ending
-nextLoss st path = lossClimb (st .pool) (nextNode st path) (child (st .pool) R (nextNode st path)) path .ending
+abbrev pub nextRemoval : State → List Link → Ending
+nextRemoval st path = fixupAfterRemoval (st .pool) (nextNode st path) (child (st .pool) R (nextNode st path)) path .ending
 
 module _ (st : State) (l : Link) (b : ℕ) where
   abbrev pub pathOf : List Link
@@ -33,11 +33,11 @@ module _ (st : State) (l : Link) (b : ℕ) where
   delete-one e = rw e
 
   pub successor-near : (path : List Link) → (path ≡ [] → ⊥) → child (st .pool) L (child (st .pool) R b) ≡ 0
-      → successorPlan st l b path ≡ plan (store l Adopt ∷ store l Replace ∷ []) (nextLoss st path)
+      → successorPlan st l b path ≡ plan (store l Adopt ∷ store l Replace ∷ []) (nextRemoval st path)
   successor-near [] d e = absurd (d refl)
   successor-near (above ∷ up) d e = rw (eq-eqb (child (st .pool) L (child (st .pool) R b)) 0 e)
 
   pub successor-far : (path : List Link) → (path ≡ [] → ⊥) → (child (st .pool) L (child (st .pool) R b) ≡ 0 → ⊥)
-      → successorPlan st l b path ≡ plan (store l (Publish (nextNode st path)) ∷ store l (Detach (word (st .pool) b keyWord)) ∷ []) (nextLoss st path)
+      → successorPlan st l b path ≡ plan (store l (Publish (nextNode st path)) ∷ store l (Detach (word (st .pool) b keyWord)) ∷ []) (nextRemoval st path)
   successor-far [] d e = absurd (d refl)
   successor-far (above ∷ up) d e = rw (ne-eqb (child (st .pool) L (child (st .pool) R b)) 0 e)

@@ -7,22 +7,22 @@ use lib.Seq.{take-set-lt, set-append-seam, take-append-le}
 use lib.Dec.{eqb}
 use native.Mathlib.Omega.{arith}
 use Prim.Native.Nat.{ℕ, _+_, _<_, _≤_}
-use Rattle.types.specs.declared.Link.{Link}
-use Rattle.types.specs.declared.Side.{Side}
-use Rattle.types.specs.declared.Form.{Form}
-use Rattle.types.specs.declared.Form.the-variants.{Diag, Zig}
-use Rattle.types.specs.declared.Store.{Store}
-use Rattle.types.specs.declared.Write.{Write}
-use Rattle.types.specs.declared.Climb.{Climb}
-use Rattle.types.specs.declared.Rule.the-variants.{Grow, Pass}
-use Rattle.types.specs.declared.Ending.{Ending}
-use Rattle.types.specs.declared.Rotation.{Rotation}
-use Rattle.types.specs.Side.{other, sameSide, linkAt, owner, sideOf}
+use Rattle.datatypes.specs.declared.Link.{Link}
+use Rattle.datatypes.specs.declared.Side.{Side}
+use Rattle.datatypes.specs.declared.Form.{Form}
+use Rattle.datatypes.specs.declared.Form.the-variants.{Diag, Zig}
+use Rattle.datatypes.specs.declared.Store.{Store}
+use Rattle.datatypes.specs.declared.Write.{Write}
+use Rattle.datatypes.specs.declared.Fixup.{Fixup}
+use Rattle.datatypes.specs.declared.Purpose.the-variants.{ForInsert, RedSibling}
+use Rattle.datatypes.specs.declared.Ending.{Ending}
+use Rattle.datatypes.specs.declared.Rotation.{Rotation}
+use Rattle.datatypes.specs.Side.{other, sameSide, linkAt, owner, sideOf}
 use Rattle.base.specs.Walk.{cond-both}
 use Rattle.spec.specs.Pool.{child, isRed}
 use Rattle.spec.specs.Register.{State, vacant, mostStores, writeOf}
 use Rattle.spec.specs.Search.{pathTo}
-use Rattle.spec.specs.Plan.{rotationStores, turnStores, endingStores, rotation, rise, insertClimb, redChild, borrow as borrowed, redSibling, sink, lossClimb}
+use Rattle.spec.specs.Plan.{rotationStores, turnStores, endingStores, rotation, insertFixup, fixupAfterInsert, redChild, blackSibling as blackSiblingOf, redSibling, deleteFixup, fixupAfterRemoval}
 
 abbrev pub pushed : Write → Store → Write
 pushed w x = record { stores = set (w .stores) (w .count) x; count = w .count + 1 }
@@ -63,32 +63,32 @@ push-write a (x ∷ b) h =
 pub rotation-short : (t : Rotation) → length (rotationStores t) ≤ 3
 rotation-short t = by (t .form)
   where
-    by : (f : Form) → length (turnStores f (t .link) (t .side) (t .rule)) ≤ 3
+    by : (f : Form) → length (turnStores f (t .link) (t .side) (t .purpose)) ≤ 3
     by Diag = omega arith
     by Zig = omega arith
 
 abbrev pub Few : ℕ → Ending → Type 0
 Few n e = length (endingStores e) ≤ n
 
-abbrev pub Short : ℕ → Climb → Type 0
+abbrev pub Short : ℕ → Fixup → Type 0
 Short n c = Few n (c .ending)
 
-pub rise-short : (p : List ℕ) (m : ℕ) (path : List Link) → Short 3 (rise p m path)
-unfolding rise
-rise-short p m [] = omega arith
-rise-short p m (x ∷ []) = omega arith
-rise-short p m (x ∷ y ∷ []) = cond-both (Few 3) (isRed p (owner x)) (omega arith) (omega arith)
-rise-short p m (x ∷ y ∷ z ∷ up) =
+pub insertFixup-short : (p : List ℕ) (m : ℕ) (path : List Link) → Short 3 (insertFixup p m path)
+unfolding insertFixup
+insertFixup-short p m [] = omega arith
+insertFixup-short p m (x ∷ []) = omega arith
+insertFixup-short p m (x ∷ y ∷ []) = cond-both (Few 3) (isRed p (owner x)) (omega arith) (omega arith)
+insertFixup-short p m (x ∷ y ∷ z ∷ up) =
     let s = sideOf y in
     let form = cond (sameSide (sideOf x) s) Diag Zig in
     cond-both (Short 3) (isRed p (owner x))
-    (cond-both (Short 3) (isRed p (child p (other s) (owner y))) (rise-short p (m + 1) (z ∷ up)) (rotation-short (rotation z form s Grow)))
+    (cond-both (Short 3) (isRed p (child p (other s) (owner y))) (insertFixup-short p (m + 1) (z ∷ up)) (rotation-short (rotation z form s ForInsert)))
     (omega arith)
 
-pub insert-short : (st : State) (k : ℕ) (l : Link) → Short 3 (insertClimb st k l)
-unfolding insertClimb
+pub insert-short : (st : State) (k : ℕ) (l : Link) → Short 3 (fixupAfterInsert st k l)
+unfolding fixupAfterInsert
 insert-short st k l =
-    cond-both (Short 3) (isRed (st .pool) (owner l)) (rise-short (st .pool) 0 (pathTo (st .pool) (st .register .root) k l)) (omega arith)
+    cond-both (Short 3) (isRed (st .pool) (owner l)) (insertFixup-short (st .pool) 0 (pathTo (st .pool) (st .register .root) k l)) (omega arith)
 
 -- a borrow's three at most, after a red sibling's two
 sibling-short : (p : List ℕ) (l : Link) (z : Side) (w : ℕ) → Few 5 (redSibling p l z w)
@@ -96,19 +96,19 @@ unfolding redSibling
 sibling-short p l z w =
     let s = other z in
     let inner = child p s w in
-    let first = rotation l Diag z Pass in
-    let second = borrowed p (linkAt s w) z inner in
+    let first = rotation l Diag z RedSibling in
+    let second = blackSiblingOf p (linkAt s w) z inner in
     cond-both (Few 5) (eqb inner 0)
     (omega arith)
     (cond-both (Few 5) (redChild p inner)
     (rw (length-append (rotationStores first) (rotationStores second)) (let h = rotation-short second in omega arith))
     (omega arith))
 
-sink-short : (p : List ℕ) (m x : ℕ) (path : List Link) → Short 5 (sink p m x path)
-unfolding sink
-sink-short p m x [] = cond-both (Few 5) (isRed p x) (omega arith) (omega arith)
-sink-short p m x (l ∷ []) = cond-both (Few 5) (isRed p x) (omega arith) (omega arith)
-sink-short p m x (l ∷ above ∷ up) =
+deleteFixup-short : (p : List ℕ) (m x : ℕ) (path : List Link) → Short 5 (deleteFixup p m x path)
+unfolding deleteFixup
+deleteFixup-short p m x [] = cond-both (Few 5) (isRed p x) (omega arith) (omega arith)
+deleteFixup-short p m x (l ∷ []) = cond-both (Few 5) (isRed p x) (omega arith) (omega arith)
+deleteFixup-short p m x (l ∷ above ∷ up) =
     let z = other (sideOf l) in
     let w = child p z (owner l) in
     cond-both (Short 5) (isRed p x)
@@ -117,11 +117,11 @@ sink-short p m x (l ∷ above ∷ up) =
     (omega arith)
     (cond-both (Short 5) (isRed p w)
     (sibling-short p above z w)
-    (cond-both (Short 5) (redChild p w) (let h = rotation-short (borrowed p above z w) in omega arith) (sink-short p (m + 1) (owner l) (above ∷ up)))))
+    (cond-both (Short 5) (redChild p w) (let h = rotation-short (blackSiblingOf p above z w) in omega arith) (deleteFixup-short p (m + 1) (owner l) (above ∷ up)))))
 
-pub loss-short : (p : List ℕ) (n x : ℕ) (path : List Link) → Short 5 (lossClimb p n x path)
-unfolding lossClimb
-loss-short p n x path = cond-both (Short 5) (isRed p n) (omega arith) (sink-short p 0 x path)
+pub removal-short : (p : List ℕ) (n x : ℕ) (path : List Link) → Short 5 (fixupAfterRemoval p n x path)
+unfolding fixupAfterRemoval
+removal-short p n x path = cond-both (Short 5) (isRed p n) (omega arith) (deleteFixup-short p 0 x path)
 
 pub push-count : (w : Write) (l : List Store) → pushAll w l .count ≡ w .count + length l
 push-count w [] = omega arith

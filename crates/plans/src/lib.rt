@@ -1,25 +1,25 @@
 // The stores that a write plans.
-use types::Climb;
-use types::Ending;
-use types::Form;
-use types::Link;
-use types::Register;
-use types::Rotation;
-use types::Side;
-use types::Step;
-use types::Store;
-use types::Write;
+use datatypes::Ending;
+use datatypes::Fixup;
+use datatypes::Form;
+use datatypes::Link;
+use datatypes::Register;
+use datatypes::Rotation;
+use datatypes::Side;
+use datatypes::Step;
+use datatypes::Store;
+use datatypes::Write;
 ghost use mathlib.Core.Path.{_≡_};
 ghost use mathlib.Core.List.{[], _∷_};
 ghost use mathlib.Core.Bool.{not, cond};
-ghost use Rattle.types.specs.declared.Ending.the-variants.{Calm};
-ghost use Rattle.types.specs.Side.{owner};
+ghost use Rattle.datatypes.specs.declared.Ending.the-variants.{Balanced};
+ghost use Rattle.datatypes.specs.Side.{owner};
 ghost use Rattle.spec.specs.Pool.{isRed};
 ghost use Rattle.spec.specs.Search.{pathTo};
 ghost use Prim.Native.Nat.{ℕ, _<_, _≤_, _+_};
 ghost use lib.ListN.{length};
 ghost use Rattle.spec.specs.Register.{state, writeOf};
-ghost use Rattle.spec.specs.Plan.{store, rotationStores, endingStores, missing, climb, rise, insertPlan, unlinkPlan, successorPlan, deletePlan};
+ghost use Rattle.spec.specs.Plan.{store, rotationStores, endingStores, missing, fixupResult, insertFixup, insertPlan, unlinkPlan, successorPlan, deletePlan};
 ghost use Rattle.paths.specs.Upward.{upward};
 ghost use Rattle.plans.specs.Pushed.{pushed, pushAll};
 
@@ -74,31 +74,31 @@ fn push_rotation(w: Write, t: Rotation) -> Write
 {
     let link = t.link;
     let side = t.side;
-    let rule = t.rule;
+    let purpose = t.purpose;
     let form = t.form;
     match form {
         Form::Diag => {
-            let a = push(w, link, Step::DiagLower(side, rule));
-            push(a, link, Step::DiagRaise(side, rule))
+            let a = push(w, link, Step::DiagLower(side, purpose));
+            push(a, link, Step::DiagRaise(side, purpose))
         }
         Form::Zig => {
-            let a = push(w, link, Step::ZigLowerA(side, rule));
-            let b = push(a, link, Step::ZigLowerC(side, rule));
-            push(b, link, Step::ZigRaise(side, rule))
+            let a = push(w, link, Step::ZigLowerA(side, purpose));
+            let b = push(a, link, Step::ZigLowerC(side, purpose));
+            push(b, link, Step::ZigRaise(side, purpose))
         }
     }
 }
 
 // The climb after an insert of the key k at the link l.
-pub fn insert_climb(pool: &[u32], root: u32, k: u32, l: Link) -> Climb
-    ensures { λ r. ⌜ r ≡ cond (isRed (now (pool .entry)) (owner l)) (rise (now (pool .entry)) 0 (pathTo (now (pool .entry)) root k l)) (climb 0 Calm) ⌝ }
+pub fn fixup_after_insert(pool: &[u32], root: u32, k: u32, l: Link) -> Fixup
+    ensures { λ r. ⌜ r ≡ cond (isRed (now (pool .entry)) (owner l)) (insertFixup (now (pool .entry)) 0 (pathTo (now (pool .entry)) root k l)) (fixupResult 0 Balanced) ⌝ }
 {
     if pool::is_red(pool, register::owner(l)) {} else {
-        return climbs::climb(0, Ending::Calm);
+        return fixups::fixup_result(0, Ending::Balanced);
     }
     let mut path: [u64; paths::MOST_LINKS] = [0; paths::MOST_LINKS];
     let c = paths::path_to(pool, root, k, l, &mut path);
-    climbs::rise(pool, &path, c, 0)
+    fixups::insert_fixup(pool, &path, c, 0)
 }
 
 // the stores that a climb's ending plans
@@ -107,7 +107,7 @@ fn push_ending(w: Write, e: Ending) -> Write
     ensures { λ r. ⌜ r ≡ pushAll w (endingStores e) ⌝ }
 {
     match e {
-        Ending::Calm => w,
+        Ending::Balanced => w,
         Ending::Blacken => w,
         Ending::Rotate(t) => push_rotation(w, t),
         Ending::RotateTwice(t, u) => {
@@ -125,7 +125,7 @@ fn plan(w: Write, e: Ending) -> Planned
     ensures { λ r. ⌜ r .write ≡ pushAll w (endingStores e) ⌝ }
 {
     let write = push_ending(w, e);
-    let gone = climbs::missing(e);
+    let gone = fixups::missing(e);
     Planned {
         possible: !gone,
         write,
@@ -137,7 +137,7 @@ pub fn insert_plan(pool: &[u32], reg: Register, k: u32, v: u32, l: Link) -> Plan
     ensures { λ r. ⌜ r .possible ≡ insertPlan (state (now (pool .entry)) reg) k v l .possible ⌝ }
     ensures { λ r. ⌜ r .write ≡ writeOf (insertPlan (state (now (pool .entry)) reg) k v l .stores) ⌝ }
 {
-    let c = insert_climb(pool, reg.root, k, l);
+    let c = fixup_after_insert(pool, reg.root, k, l);
     let ending = c.ending;
     plan(one_store(l, Step::Insert(k, v)), ending)
 }
@@ -148,8 +148,8 @@ fn unlink_plan(pool: &[u32], reg: Register, l: Link, b: u32, path: &[u64], c: u3
     ensures { λ r. ⌜ r .possible ≡ unlinkPlan (state (now (pool .entry)) reg) l b (upward (now (path .entry)) c) .possible ⌝ }
     ensures { λ r. ⌜ r .write ≡ writeOf (unlinkPlan (state (now (pool .entry)) reg) l b (upward (now (path .entry)) c) .stores) ⌝ }
 {
-    let x = losses::only_child(pool, b);
-    let k = losses::loss_climb(pool, b, x, path, c);
+    let x = delete_fixups::only_child(pool, b);
+    let k = delete_fixups::fixup_after_removal(pool, b, x, path, c);
     let ending = k.ending;
     plan(one_store(l, Step::Unlink), ending)
 }
@@ -167,7 +167,7 @@ fn successor_plan(pool: &[u32], reg: Register, l: Link, b: u32, path: &[u64], c:
         };
     }
     let n = register::node_at(pool, reg.root, paths::nearest(path, c));
-    let k = losses::loss_climb(pool, n, pool::child(pool, Side::R, n), path, c);
+    let k = delete_fixups::fixup_after_removal(pool, n, pool::child(pool, Side::R, n), path, c);
     let ending = k.ending;
     let right = pool::child(pool, Side::R, b);
     if pool::child(pool, Side::L, right) == 0 {
@@ -185,7 +185,7 @@ pub fn delete_plan(pool: &[u32], reg: Register, l: Link, b: u32) -> Planned
     let mut path: [u64; paths::MOST_LINKS] = [0; paths::MOST_LINKS];
     let key = pool::word(pool, b, pool::KEY);
     let c = paths::path_to(pool, reg.root, key, l, &mut path);
-    if losses::two_children(pool, b) {
+    if delete_fixups::two_children(pool, b) {
         let d = paths::successor_path(pool, b, &mut path, c);
         return successor_plan(pool, reg, l, b, &path, d);
     }

@@ -9,18 +9,18 @@ use mathlib.Core.List.{List}
 use mathlib.Core.Option.{Option, none, some}
 use lib.Dec.{eqb}
 use lib.ListN.{length}
-use Rattle.types.specs.declared.Side.{Side}
-use Rattle.types.specs.declared.Side.the-variants.{L, R}
-use Rattle.types.specs.declared.Link.{Link}
-use Rattle.types.specs.declared.Step.{Step}
-use Rattle.types.specs.declared.Step.the-variants.{Vacant, Insert, DiagLower, DiagRaise, ZigLowerA, ZigLowerC, ZigRaise, Unlink, Adopt, Replace, Publish, Detach}
+use Rattle.datatypes.specs.declared.Side.{Side}
+use Rattle.datatypes.specs.declared.Side.the-variants.{L, R}
+use Rattle.datatypes.specs.declared.Link.{Link}
+use Rattle.datatypes.specs.declared.Step.{Step}
+use Rattle.datatypes.specs.declared.Step.the-variants.{Vacant, Insert, DiagLower, DiagRaise, ZigLowerA, ZigLowerC, ZigRaise, Unlink, Adopt, Replace, Publish, Detach}
 use Rattle.sequential.specs.Tree.{Colour, red, black, Tree, leaf, node}
 use Rattle.sequential.specs.Delete.{changedBy}
 use Rattle.tree.specs.Distinct.{_∈_}
 use Rattle.spec.specs.Pool.{word, child, nodes, slots, keyWord, recordWord, colourWord, standingWord, standingFree, blackColour, redColour}
 use Rattle.spec.specs.Register.{State, state, mostStores, withReader, readerOf, storeOf, hasSlot}
 use Rattle.spec.specs.Calls.{Answer, go, absent, found, more, done, wait, refused, Outcome, Call, writing, turning, call, reading, writeInHand, readerStep}
-use Rattle.spec.specs.PlainList.{went, heard, recordFor, accepted}
+use Rattle.spec.specs.PlainList.{carriedOut, noticeOf, recordFor, acceptedWrites}
 use Rattle.laws.specs.Queue.{Queue, Distinct}
 use Rattle.promise.specs.Run.{callAt, indexAfter, plainAfter, ticketsAfter, Gives, Lookup}
 
@@ -89,7 +89,7 @@ takesOne (Detach k) = false
 
 pub record Takes (st : State) (c : Call) (m : ℕ) : Type 0 where
   pub turn : c ≡ writing
-  pub makes : heard (call st c .answer) ≡ went
+  pub makes : noticeOf (call st c .answer) ≡ carriedOut
   pub step : takesOne (storeOf (st .register) 0 .step) ≡ true
   pub first : st .register .first ≡ m
 
@@ -133,7 +133,7 @@ pub record FreeRight (st : State) : Type 0 where
 -- whenever no write is in hand the tree is the sequential tree of the writes accepted, in order
 pub record Demand2 (N : ℕ) (cs : List Call) : Type 0 where
   pub atRest : (j : ℕ) → writeInHand (indexAfter N cs j) ≡ false
-      → Stands (indexAfter N cs j .pool) (indexAfter N cs j .register .root) (changedBy leaf (accepted (plainAfter N cs j)))
+      → Stands (indexAfter N cs j .pool) (indexAfter N cs j .register .root) (changedBy leaf (acceptedWrites (plainAfter N cs j)))
   pub free : (j : ℕ) → FreeRight (indexAfter N cs j)
   -- a write is done after at most seven stores
   pub soon : (j : ℕ) (l : Link) (n : ℕ) → Gives N cs j writing (more l n) → plainAfter N cs (j + 1) .made < mostStores
@@ -143,7 +143,7 @@ pub record Demand2 (N : ℕ) (cs : List Call) : Type 0 where
   -- with no awaited slot reading, a turn of a write in hand makes a store
   pub goesOn : (j : ℕ) → writeInHand (indexAfter N cs j) ≡ true
       → ((s : ℕ) → s < slots → hasSlot (indexAfter N cs j .register .awaited) s ≡ true → reading (indexAfter N cs j) s ≡ false)
-      → heard (call (indexAfter N cs j) writing .answer) ≡ went
+      → noticeOf (call (indexAfter N cs j) writing .answer) ≡ carriedOut
   -- a write that answers done is no longer in hand
   pub finished : (j : ℕ) (l : Link) (n : ℕ) → Gives N cs j writing (done l n) → writeInHand (indexAfter N cs (j + 1)) ≡ false
   -- the pool keeps its N nodes

@@ -7,7 +7,7 @@ use mathlib.Core.List.{List, [], _∷_}
 use mathlib.Core.Option.{Option, none, some}
 use Rattle.spec.specs.Register.{State, fresh}
 use Rattle.spec.specs.Calls.{Answer, ok, absent, found, Call, beginning, turning, givingUp, call}
-use Rattle.spec.specs.PlainList.{Ticket, Plain, noTicket, heard, feed}
+use Rattle.spec.specs.PlainList.{Ticket, Plain, noTicket, noticeOf, feed}
 
 -- Pool and register as the calls leave them, and the plain list, which hears of each call only its arguments, whether it was refused,
 -- and of a writer's turn whether it answered wait.
@@ -21,7 +21,7 @@ outset N = record { index = fresh N; plain = noTicket }
 abbrev pub thenCall : Moment → Call → Moment
 thenCall m c =
     let o = call (m .index) c in
-    record { index = o .after; plain = feed (m .plain) c (heard (o .answer)) }
+    record { index = o .after; plain = feed (m .plain) c (noticeOf (o .answer)) }
 
 -- call j of a list, counted from 0, if there is one
 abbrev pub callAt : List Call → ℕ → Option Call

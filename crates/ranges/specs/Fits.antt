@@ -11,13 +11,13 @@ use lib.ListN.{length, getD, set, length-set}
 use lib.Seq.{getD-set-same, getD-set-other}
 use borrow.Author.Tests.{lt-ltb, le-ltb}
 use Rattle.base.specs.Walk.{cond-both, fold-keeps}
-use Rattle.types.specs.declared.Side.{Side}
-use Rattle.types.specs.declared.Side.the-variants.{L, R}
-use Rattle.types.specs.declared.Link.{Link}
-use Rattle.types.specs.declared.Link.the-variants.{Root, Left, Right}
-use Rattle.types.specs.declared.Reader.{Reader}
-use Rattle.types.specs.declared.Write.{Write}
-use Rattle.types.specs.Side.{other}
+use Rattle.datatypes.specs.declared.Side.{Side}
+use Rattle.datatypes.specs.declared.Side.the-variants.{L, R}
+use Rattle.datatypes.specs.declared.Link.{Link}
+use Rattle.datatypes.specs.declared.Link.the-variants.{Root, Left, Right}
+use Rattle.datatypes.specs.declared.Reader.{Reader}
+use Rattle.datatypes.specs.declared.Write.{Write}
+use Rattle.datatypes.specs.Side.{other}
 use Rattle.spec.specs.Pool.{nodeWords, place, word, setWord, child, paint, nodes, allSlots, keyWord, recordWord, leftWord, rightWord, linkWord, colourWord, standingWord, holdersWord, nextWord, standingFree, standingLinked, standingRetired}
 use Rattle.spec.specs.Register.{State, state, noReader, readerOf, withRoot, withQueue, withHeld, withReader, withAwaited, withWrite, countUp, countDown, nodeAt, linkNode, setLink, dropSlot, readingSlots}
 use Rattle.spec.specs.Free.{queueEmpty, takeFree, fillNode, takeNode, freeNode, retire, retireTwo, release, endReading}
@@ -27,19 +27,19 @@ use Rattle.readers.specs.Marks.{reading-below}
 use Rattle.readers.specs.Words.{past-end}
 
 -- word f may be v, with N = top
-pub record Fit (top f v : ℕ) : Type 0 where
-  pub left : f ≡ leftWord → v ≤ top
-  pub right : f ≡ rightWord → v ≤ top
+pub record Fit (capacity f v : ℕ) : Type 0 where
+  pub left : f ≡ leftWord → v ≤ capacity
+  pub right : f ≡ rightWord → v ≤ capacity
   pub colour : f ≡ colourWord → v ≤ 1
   pub standing : f ≡ standingWord → v ≤ 2
   pub holders : f ≡ holdersWord → v ≤ allSlots
-  pub next : f ≡ nextWord → v ≤ top
+  pub next : f ≡ nextWord → v ≤ capacity
 
 abbrev pub Fits : ℕ → List ℕ → Type 0
-Fits top p = (n f : ℕ) → f < nodeWords → Fit top f (word p n f)
+Fits capacity p = (n f : ℕ) → f < nodeWords → Fit capacity f (word p n f)
 
-pub fit-zero : (top f : ℕ) → Fit top f 0
-fit-zero top f = record { left = λ _. omega arith; right = λ _. omega arith; colour = λ _. omega arith; standing = λ _. omega arith; holders = λ _. omega arith; next = λ _. omega arith }
+pub fit-zero : (capacity f : ℕ) → Fit capacity f 0
+fit-zero capacity f = record { left = λ _. omega arith; right = λ _. omega arith; colour = λ _. omega arith; standing = λ _. omega arith; holders = λ _. omega arith; next = λ _. omega arith }
 
 -- a word after a set: the old one, the new one, or 0 past the end
 pub set-cases : (p : List ℕ) (d m f g v : ℕ) → f < nodeWords → g < nodeWords → (word (setWord p d f v) m g ≡ word p m g) ⊎ (((f ≡ g) × (word (setWord p d f v) m g ≡ v)) ⊎ (word (setWord p d f v) m g ≡ 0))
@@ -57,94 +57,94 @@ set-cases p d m f g v hf hg = elim (ℕ-discrete d m) [
   ]
 ]
 
-pub fits-set : (top : ℕ) (p : List ℕ) (d f v : ℕ) → f < nodeWords → Fit top f v → Fits top p → Fits top (setWord p d f v)
-fits-set top p d f v hf fit h m g hg = go (set-cases p d m f g v hf hg)
+pub fits-set : (capacity : ℕ) (p : List ℕ) (d f v : ℕ) → f < nodeWords → Fit capacity f v → Fits capacity p → Fits capacity (setWord p d f v)
+fits-set capacity p d f v hf fit h m g hg = go (set-cases p d m f g v hf hg)
   where
-    go : (word (setWord p d f v) m g ≡ word p m g) ⊎ (((f ≡ g) × (word (setWord p d f v) m g ≡ v)) ⊎ (word (setWord p d f v) m g ≡ 0)) → Fit top g (word (setWord p d f v) m g)
+    go : (word (setWord p d f v) m g ≡ word p m g) ⊎ (((f ≡ g) × (word (setWord p d f v) m g ≡ v)) ⊎ (word (setWord p d f v) m g ≡ 0)) → Fit capacity g (word (setWord p d f v) m g)
     go (inl e) = rw e (h m g hg)
-    go (inr (inl e)) = rw (e .1) (subst (λ x. Fit top x v) (e .0) fit)
-    go (inr (inr e)) = rw e (fit-zero top g)
+    go (inr (inl e)) = rw (e .1) (subst (λ x. Fit capacity x v) (e .0) fit)
+    go (inr (inr e)) = rw e (fit-zero capacity g)
 
 -- values that fit
-fit-key : (top v : ℕ) → Fit top keyWord v
-fit-key top v = record { left = λ e. absurd (omega arith); right = λ e. absurd (omega arith); colour = λ e. absurd (omega arith); standing = λ e. absurd (omega arith); holders = λ e. absurd (omega arith); next = λ e. absurd (omega arith) }
+fit-key : (capacity v : ℕ) → Fit capacity keyWord v
+fit-key capacity v = record { left = λ e. absurd (omega arith); right = λ e. absurd (omega arith); colour = λ e. absurd (omega arith); standing = λ e. absurd (omega arith); holders = λ e. absurd (omega arith); next = λ e. absurd (omega arith) }
 
-fit-record : (top v : ℕ) → Fit top recordWord v
-fit-record top v = record { left = λ e. absurd (omega arith); right = λ e. absurd (omega arith); colour = λ e. absurd (omega arith); standing = λ e. absurd (omega arith); holders = λ e. absurd (omega arith); next = λ e. absurd (omega arith) }
+fit-record : (capacity v : ℕ) → Fit capacity recordWord v
+fit-record capacity v = record { left = λ e. absurd (omega arith); right = λ e. absurd (omega arith); colour = λ e. absurd (omega arith); standing = λ e. absurd (omega arith); holders = λ e. absurd (omega arith); next = λ e. absurd (omega arith) }
 
-fit-link : (top : ℕ) (s : Side) (v : ℕ) → v ≤ top → Fit top (linkWord s) v
-fit-link top L v h = record { left = λ e. h; right = λ e. h; colour = λ e. absurd (omega arith); standing = λ e. absurd (omega arith); holders = λ e. absurd (omega arith); next = λ e. absurd (omega arith) }
-fit-link top R v h = record { left = λ e. h; right = λ e. h; colour = λ e. absurd (omega arith); standing = λ e. absurd (omega arith); holders = λ e. absurd (omega arith); next = λ e. absurd (omega arith) }
+fit-link : (capacity : ℕ) (s : Side) (v : ℕ) → v ≤ capacity → Fit capacity (linkWord s) v
+fit-link capacity L v h = record { left = λ e. h; right = λ e. h; colour = λ e. absurd (omega arith); standing = λ e. absurd (omega arith); holders = λ e. absurd (omega arith); next = λ e. absurd (omega arith) }
+fit-link capacity R v h = record { left = λ e. h; right = λ e. h; colour = λ e. absurd (omega arith); standing = λ e. absurd (omega arith); holders = λ e. absurd (omega arith); next = λ e. absurd (omega arith) }
 
-fit-colour : (top v : ℕ) → v ≤ 1 → Fit top colourWord v
-fit-colour top v h = record { left = λ e. absurd (omega arith); right = λ e. absurd (omega arith); colour = λ e. h; standing = λ e. absurd (omega arith); holders = λ e. absurd (omega arith); next = λ e. absurd (omega arith) }
+fit-colour : (capacity v : ℕ) → v ≤ 1 → Fit capacity colourWord v
+fit-colour capacity v h = record { left = λ e. absurd (omega arith); right = λ e. absurd (omega arith); colour = λ e. h; standing = λ e. absurd (omega arith); holders = λ e. absurd (omega arith); next = λ e. absurd (omega arith) }
 
-fit-standing : (top v : ℕ) → v ≤ 2 → Fit top standingWord v
-fit-standing top v h = record { left = λ e. absurd (omega arith); right = λ e. absurd (omega arith); colour = λ e. absurd (omega arith); standing = λ e. h; holders = λ e. absurd (omega arith); next = λ e. absurd (omega arith) }
+fit-standing : (capacity v : ℕ) → v ≤ 2 → Fit capacity standingWord v
+fit-standing capacity v h = record { left = λ e. absurd (omega arith); right = λ e. absurd (omega arith); colour = λ e. absurd (omega arith); standing = λ e. h; holders = λ e. absurd (omega arith); next = λ e. absurd (omega arith) }
 
-fit-holders : (top v : ℕ) → v ≤ allSlots → Fit top holdersWord v
-fit-holders top v h = record { left = λ e. absurd (omega arith); right = λ e. absurd (omega arith); colour = λ e. absurd (omega arith); standing = λ e. absurd (omega arith); holders = λ e. h; next = λ e. absurd (omega arith) }
+fit-holders : (capacity v : ℕ) → v ≤ allSlots → Fit capacity holdersWord v
+fit-holders capacity v h = record { left = λ e. absurd (omega arith); right = λ e. absurd (omega arith); colour = λ e. absurd (omega arith); standing = λ e. absurd (omega arith); holders = λ e. h; next = λ e. absurd (omega arith) }
 
-pub fit-next : (top v : ℕ) → v ≤ top → Fit top nextWord v
-fit-next top v h = record { left = λ e. absurd (omega arith); right = λ e. absurd (omega arith); colour = λ e. absurd (omega arith); standing = λ e. absurd (omega arith); holders = λ e. absurd (omega arith); next = λ e. h }
+pub fit-next : (capacity v : ℕ) → v ≤ capacity → Fit capacity nextWord v
+fit-next capacity v h = record { left = λ e. absurd (omega arith); right = λ e. absurd (omega arith); colour = λ e. absurd (omega arith); standing = λ e. absurd (omega arith); holders = λ e. absurd (omega arith); next = λ e. h }
 
 -- words read off the pool fit
-pub child-fits : (top : ℕ) (p : List ℕ) (s : Side) (n : ℕ) → Fits top p → child p s n ≤ top
-child-fits top p L n h = h n leftWord (omega arith) .left refl
-child-fits top p R n h = h n rightWord (omega arith) .right refl
+pub child-fits : (capacity : ℕ) (p : List ℕ) (s : Side) (n : ℕ) → Fits capacity p → child p s n ≤ capacity
+child-fits capacity p L n h = h n leftWord (omega arith) .left refl
+child-fits capacity p R n h = h n rightWord (omega arith) .right refl
 
-pub colour-fits : (top : ℕ) (p : List ℕ) (n : ℕ) → Fits top p → word p n colourWord ≤ 1
-colour-fits top p n h = h n colourWord (omega arith) .colour refl
+pub colour-fits : (capacity : ℕ) (p : List ℕ) (n : ℕ) → Fits capacity p → word p n colourWord ≤ 1
+colour-fits capacity p n h = h n colourWord (omega arith) .colour refl
 
-next-fits : (top : ℕ) (p : List ℕ) (n : ℕ) → Fits top p → word p n nextWord ≤ top
-next-fits top p n h = h n nextWord (omega arith) .next refl
+next-fits : (capacity : ℕ) (p : List ℕ) (n : ℕ) → Fits capacity p → word p n nextWord ≤ capacity
+next-fits capacity p n h = h n nextWord (omega arith) .next refl
 
 -- The register but for the write in hand, with the pool; the pool has N nodes.
-pub record Within (top : ℕ) (st : State) : Type 0 where
-  pub size : nodes (st .pool) ≡ top
-  pub fits : Fits top (st .pool)
-  pub root : st .register .root ≤ top
-  pub first : st .register .first ≤ top
-  pub last : st .register .last ≤ top
-  pub free : st .register .free ≤ top
-  pub held : st .register .held ≤ top
+pub record Within (capacity : ℕ) (st : State) : Type 0 where
+  pub size : nodes (st .pool) ≡ capacity
+  pub fits : Fits capacity (st .pool)
+  pub root : st .register .root ≤ capacity
+  pub first : st .register .first ≤ capacity
+  pub last : st .register .last ≤ capacity
+  pub free : st .register .free ≤ capacity
+  pub held : st .register .held ≤ capacity
   pub awaited : st .register .awaited ≤ allSlots
-  pub readers : (s : ℕ) → readerOf (st .register) s .node ≤ top
+  pub readers : (s : ℕ) → readerOf (st .register) s .node ≤ capacity
 
 -- another pool of the same size
-pub within-pool : (top : ℕ) (st : State) (q : List ℕ) → length q ≡ length (st .pool) → Fits top q → Within top st → Within top (state q (st .register))
-within-pool top st q e f h = record { size = ap (λ n. n / nodeWords) e ∙ h .size; fits = f; root = h .root; first = h .first; last = h .last; free = h .free; held = h .held; awaited = h .awaited; readers = h .readers }
+pub within-pool : (capacity : ℕ) (st : State) (q : List ℕ) → length q ≡ length (st .pool) → Fits capacity q → Within capacity st → Within capacity (state q (st .register))
+within-pool capacity st q e f h = record { size = ap (λ n. n / nodeWords) e ∙ h .size; fits = f; root = h .root; first = h .first; last = h .last; free = h .free; held = h .held; awaited = h .awaited; readers = h .readers }
 
 link-low : (s : Side) → linkWord s < nodeWords
 link-low L = omega arith
 link-low R = omega arith
 
-cond-le : (b : Bool) (x y top : ℕ) → x ≤ top → y ≤ top → cond b x y ≤ top
-cond-le true x y top a b = a
-cond-le false x y top a b = b
+cond-le : (b : Bool) (x y capacity : ℕ) → x ≤ capacity → y ≤ capacity → cond b x y ≤ capacity
+cond-le true x y capacity a b = a
+cond-le false x y capacity a b = b
 
-count-up : (top n : ℕ) → n ≤ top → countUp top n ≤ top
-count-up top n h = elim (decLt n top) [ yes u ↦ rw (lt-ltb n top u) (omega arith) | no u ↦ rw (le-ltb n top (omega arith)) h ]
+count-up : (capacity n : ℕ) → n ≤ capacity → countUp capacity n ≤ capacity
+count-up capacity n h = elim (decLt n capacity) [ yes u ↦ rw (lt-ltb n capacity u) (omega arith) | no u ↦ rw (le-ltb n capacity (omega arith)) h ]
 
 -- Take.
-pub within-take : (top : ℕ) (st : State) (k v : ℕ) (s : Side) (x y c : ℕ) → x ≤ top → y ≤ top → c ≤ 1 → Within top st → Within top (takeNode st k v s x y c)
+pub within-take : (capacity : ℕ) (st : State) (k v : ℕ) (s : Side) (x y c : ℕ) → x ≤ capacity → y ≤ capacity → c ≤ 1 → Within capacity st → Within capacity (takeNode st k v s x y c)
 unfolding takeNode takeFree fillNode withQueue
-within-take top st k v s x y c hx hy hc h =
+within-take capacity st k v s x y c hx hy hc h =
     let p = st .pool in
     let n = st .register .first in
     let next = word p n nextWord in
     record {
       size = ap (λ m. m / nodeWords) (simp length-setWord) ∙ h .size;
-      fits = fits-set top _ n nextWord 0 (omega arith) (fit-zero top nextWord)
-          (fits-set top _ n holdersWord 0 (omega arith) (fit-zero top holdersWord)
-          (fits-set top _ n standingWord standingLinked (omega arith) (fit-standing top standingLinked (omega arith))
-          (fits-set top _ n colourWord c (omega arith) (fit-colour top c hc)
-          (fits-set top _ n (linkWord (other s)) y (link-low (other s)) (fit-link top (other s) y hy)
-          (fits-set top _ n (linkWord s) x (link-low s) (fit-link top s x hx)
-          (fits-set top _ n recordWord v (omega arith) (fit-record top v) (fits-set top p n keyWord k (omega arith) (fit-key top k) (h .fits))))))));
+      fits = fits-set capacity _ n nextWord 0 (omega arith) (fit-zero capacity nextWord)
+          (fits-set capacity _ n holdersWord 0 (omega arith) (fit-zero capacity holdersWord)
+          (fits-set capacity _ n standingWord standingLinked (omega arith) (fit-standing capacity standingLinked (omega arith))
+          (fits-set capacity _ n colourWord c (omega arith) (fit-colour capacity c hc)
+          (fits-set capacity _ n (linkWord (other s)) y (link-low (other s)) (fit-link capacity (other s) y hy)
+          (fits-set capacity _ n (linkWord s) x (link-low s) (fit-link capacity s x hx)
+          (fits-set capacity _ n recordWord v (omega arith) (fit-record capacity v) (fits-set capacity p n keyWord k (omega arith) (fit-key capacity k) (h .fits))))))));
       root = h .root;
-      first = next-fits top p n (h .fits);
-      last = cond-le (eqb next 0) 0 (st .register .last) top (omega arith) (h .last);
+      first = next-fits capacity p n (h .fits);
+      last = cond-le (eqb next 0) 0 (st .register .last) capacity (omega arith) (h .last);
       free = let a = h .free in omega arith;
       held = h .held;
       awaited = h .awaited;
@@ -152,55 +152,55 @@ within-take top st k v s x y c hx hy hc h =
     }
 
 -- Free, retire, release.
-pub within-free : (top : ℕ) (st : State) (n : ℕ) → n ≤ top → Within top st → Within top (freeNode st n)
+pub within-free : (capacity : ℕ) (st : State) (n : ℕ) → n ≤ capacity → Within capacity st → Within capacity (freeNode st n)
 unfolding freeNode withQueue
-within-free top st n hn h =
+within-free capacity st n hn h =
     let p = st .pool in
     let a = setWord p n standingWord standingFree in
     let b = setWord a n holdersWord 0 in
     let d = setWord b (st .register .last) nextWord n in
-    let fb : Fits top b = fits-set top a n holdersWord 0 (omega arith) (fit-zero top holdersWord) (fits-set top p n standingWord standingFree (omega arith) (fit-zero top standingWord) (h .fits)) in
-    let fd : Fits top d = fits-set top b (st .register .last) nextWord n (omega arith) (fit-next top n hn) fb in
+    let fb : Fits capacity b = fits-set capacity a n holdersWord 0 (omega arith) (fit-zero capacity holdersWord) (fits-set capacity p n standingWord standingFree (omega arith) (fit-zero capacity standingWord) (h .fits)) in
+    let fd : Fits capacity d = fits-set capacity b (st .register .last) nextWord n (omega arith) (fit-next capacity n hn) fb in
     let lb : length b ≡ length p = length-setWord a n holdersWord 0 ∙ length-setWord p n standingWord standingFree in
     let ld : length d ≡ length p = length-setWord b (st .register .last) nextWord n ∙ lb in
     let le : length (cond (queueEmpty st) b d) ≡ length p = cond-both {A = List ℕ} (λ q. length q ≡ length p) (queueEmpty st) lb ld in
     record {
       size = ap (λ m. m / nodeWords) (length-setWord (cond (queueEmpty st) b d) n nextWord 0 ∙ le) ∙ h .size;
-      fits = fits-set top (cond (queueEmpty st) b d) n nextWord 0 (omega arith) (fit-zero top nextWord) (cond-both (λ q. Fits top q) (queueEmpty st) fb fd);
+      fits = fits-set capacity (cond (queueEmpty st) b d) n nextWord 0 (omega arith) (fit-zero capacity nextWord) (cond-both (λ q. Fits capacity q) (queueEmpty st) fb fd);
       root = h .root;
-      first = cond-le (queueEmpty st) n (st .register .first) top hn (h .first);
+      first = cond-le (queueEmpty st) n (st .register .first) capacity hn (h .first);
       last = hn;
-      free = rw (h .size) (count-up top (st .register .free) (h .free));
+      free = rw (h .size) (count-up capacity (st .register .free) (h .free));
       held = h .held;
       awaited = h .awaited;
       readers = h .readers;
     }
 
-pub within-retire : (top : ℕ) (st : State) (n : ℕ) → n ≤ top → Within top st → Within top (retire st n)
+pub within-retire : (capacity : ℕ) (st : State) (n : ℕ) → n ≤ capacity → Within capacity st → Within capacity (retire st n)
 unfolding retire
-within-retire top st n hn h =
+within-retire capacity st n hn h =
     let p = st .pool in
     let m = readingSlots (st .register) in
     let a = setWord p n standingWord standingRetired in
-    cond-both (λ x. Within top x) (eqb m 0) (within-free top st n hn h)
-    (within-pool top st (setWord a n holdersWord m) (length-setWord a n holdersWord m ∙ length-setWord p n standingWord standingRetired)
-    (fits-set top a n holdersWord m (omega arith) (fit-holders top m (let z = reading-below (st .register) in omega arith)) (fits-set top p n standingWord standingRetired (omega arith) (fit-standing top standingRetired (omega arith)) (h .fits))) h)
+    cond-both (λ x. Within capacity x) (eqb m 0) (within-free capacity st n hn h)
+    (within-pool capacity st (setWord a n holdersWord m) (length-setWord a n holdersWord m ∙ length-setWord p n standingWord standingRetired)
+    (fits-set capacity a n holdersWord m (omega arith) (fit-holders capacity m (let z = reading-below (st .register) in omega arith)) (fits-set capacity p n standingWord standingRetired (omega arith) (fit-standing capacity standingRetired (omega arith)) (h .fits))) h)
 
-pub within-retireTwo : (top : ℕ) (st : State) (a c : ℕ) → a ≤ top → c ≤ top → Within top st → Within top (retireTwo st a c)
+pub within-retireTwo : (capacity : ℕ) (st : State) (a c : ℕ) → a ≤ capacity → c ≤ capacity → Within capacity st → Within capacity (retireTwo st a c)
 unfolding retireTwo
-within-retireTwo top st a c ha hc h =
-    cond-both (λ x. Within top x) (eqb a c) (within-retire top st a ha h)
-    (within-retire top _ (cond (ltb a c) c a) (cond-le (ltb a c) c a top hc ha) (within-retire top st (cond (ltb a c) a c) (cond-le (ltb a c) a c top ha hc) h))
+within-retireTwo capacity st a c ha hc h =
+    cond-both (λ x. Within capacity x) (eqb a c) (within-retire capacity st a ha h)
+    (within-retire capacity _ (cond (ltb a c) c a) (cond-le (ltb a c) c a capacity hc ha) (within-retire capacity st (cond (ltb a c) a c) (cond-le (ltb a c) a c capacity ha hc) h))
 
-within-release : (top s : ℕ) (st : State) (n : ℕ) → n ≤ top → Within top st → Within top (release s st n)
+within-release : (capacity s : ℕ) (st : State) (n : ℕ) → n ≤ capacity → Within capacity st → Within capacity (release s st n)
 unfolding release
-within-release top s st n hn h =
+within-release capacity s st n hn h =
     let p = st .pool in
     let d = dropSlot (word p n holdersWord) s in
     let small : d ≤ allSlots = (let a = drop-le (word p n holdersWord) s in let b = h .fits n holdersWord (omega arith) .holders refl in omega arith) in
-    cond-both (λ x. Within top x) (eqb (word p n standingWord) standingRetired)
-    (cond-both (λ x. Within top x) (eqb d 0) (within-free top st n hn h)
-    (within-pool top st (setWord p n holdersWord d) (length-setWord p n holdersWord d) (fits-set top p n holdersWord d (omega arith) (fit-holders top d small) (h .fits)) h))
+    cond-both (λ x. Within capacity x) (eqb (word p n standingWord) standingRetired)
+    (cond-both (λ x. Within capacity x) (eqb d 0) (within-free capacity st n hn h)
+    (within-pool capacity st (setWord p n holdersWord d) (length-setWord p n holdersWord d) (fits-set capacity p n holdersWord d (omega arith) (fit-holders capacity d small) (h .fits)) h))
     h
 
 past-reader : (l : List Reader) (i : ℕ) → length l ≤ i → getD l i noReader ≡ noReader
@@ -209,9 +209,9 @@ past-reader (x ∷ l) zero h = absurd (omega arith)
 past-reader (x ∷ l) (suc i) h = past-reader l i (omega arith)
 
 -- a reader's record
-pub within-reader : (top : ℕ) (st : State) (s : ℕ) (x : Reader) → x .node ≤ top → Within top st → Within top (state (st .pool) (withReader (st .register) s x))
+pub within-reader : (capacity : ℕ) (st : State) (s : ℕ) (x : Reader) → x .node ≤ capacity → Within capacity st → Within capacity (state (st .pool) (withReader (st .register) s x))
 unfolding withReader
-within-reader top st s x hx h = record {
+within-reader capacity st s x hx h = record {
   size = h .size;
   fits = h .fits;
   root = h .root;
@@ -221,60 +221,60 @@ within-reader top st s x hx h = record {
   held = h .held;
   awaited = h .awaited;
   readers = λ t. elim (ℕ-discrete s t) [
-    | no d ↦ subst (λ y. y .node ≤ top) (sym (getD-set-other (st .register .readers) s t x noReader (λ e. d (sym e)))) (h .readers t)
+    | no d ↦ subst (λ y. y .node ≤ capacity) (sym (getD-set-other (st .register .readers) s t x noReader (λ e. d (sym e)))) (h .readers t)
     | yes e ↦ elim (decLt s (length (st .register .readers))) [
-      | yes u ↦ subst (λ m. getD (set (st .register .readers) s x) m noReader .node ≤ top) e (subst (λ y. y .node ≤ top) (sym (getD-set-same (st .register .readers) s x noReader u)) hx)
-      | no u ↦ subst (λ m. getD (set (st .register .readers) s x) m noReader .node ≤ top) e
-          (subst (λ y. y .node ≤ top) (sym (past-reader (set (st .register .readers) s x) s (rw (length-set (st .register .readers) s x) (omega arith)))) (omega arith))
+      | yes u ↦ subst (λ m. getD (set (st .register .readers) s x) m noReader .node ≤ capacity) e (subst (λ y. y .node ≤ capacity) (sym (getD-set-same (st .register .readers) s x noReader u)) hx)
+      | no u ↦ subst (λ m. getD (set (st .register .readers) s x) m noReader .node ≤ capacity) e
+          (subst (λ y. y .node ≤ capacity) (sym (past-reader (set (st .register .readers) s x) s (rw (length-set (st .register .readers) s x) (omega arith)))) (omega arith))
     ]
   ];
 }
 
-within-awaited : (top : ℕ) (st : State) (m : ℕ) → m ≤ allSlots → Within top st → Within top (state (st .pool) (withAwaited (st .register) m))
+within-awaited : (capacity : ℕ) (st : State) (m : ℕ) → m ≤ allSlots → Within capacity st → Within capacity (state (st .pool) (withAwaited (st .register) m))
 unfolding withAwaited
-within-awaited top st m hm h = record { size = h .size; fits = h .fits; root = h .root; first = h .first; last = h .last; free = h .free; held = h .held; awaited = hm; readers = h .readers }
+within-awaited capacity st m hm h = record { size = h .size; fits = h .fits; root = h .root; first = h .first; last = h .last; free = h .free; held = h .held; awaited = hm; readers = h .readers }
 
 -- the end of a reading
-pub within-end : (top : ℕ) (st : State) (s : ℕ) → Within top st → Within top (endReading st s)
+pub within-end : (capacity : ℕ) (st : State) (s : ℕ) → Within capacity st → Within capacity (endReading st s)
 unfolding endReading
-within-end top st s h =
+within-end capacity st s h =
     let r = withReader (st .register) s noReader in
-    let a = within-reader top st s noReader (omega arith) h in
+    let a = within-reader capacity st s noReader (omega arith) h in
     let z = h .size in
-    fold-keeps (release s) (λ x. Within top x) 1 (nodes (st .pool) + 1) (state (st .pool) (withAwaited r (dropSlot (r .awaited) s)))
-    (λ x i u v w. within-release top s x i (omega arith) w)
-    (within-awaited top (state (st .pool) r) (dropSlot (r .awaited) s) (let b = a .awaited in let c = drop-le (r .awaited) s in omega arith) a)
+    fold-keeps (release s) (λ x. Within capacity x) 1 (nodes (st .pool) + 1) (state (st .pool) (withAwaited r (dropSlot (r .awaited) s)))
+    (λ x i u v w. within-release capacity s x i (omega arith) w)
+    (within-awaited capacity (state (st .pool) r) (dropSlot (r .awaited) s) (let b = a .awaited in let c = drop-le (r .awaited) s in omega arith) a)
 
 -- the write in hand is not looked at
-pub within-write : (top : ℕ) (st : State) (w : Write) → Within top st → Within top (state (st .pool) (withWrite (st .register) w))
+pub within-write : (capacity : ℕ) (st : State) (w : Write) → Within capacity st → Within capacity (state (st .pool) (withWrite (st .register) w))
 unfolding withWrite
-within-write top st w h = record { size = h .size; fits = h .fits; root = h .root; first = h .first; last = h .last; free = h .free; held = h .held; awaited = h .awaited; readers = h .readers }
+within-write capacity st w h = record { size = h .size; fits = h .fits; root = h .root; first = h .first; last = h .last; free = h .free; held = h .held; awaited = h .awaited; readers = h .readers }
 
-pub within-await : (top : ℕ) (st : State) → Within top st → Within top (state (st .pool) (withAwaited (st .register) (readingSlots (st .register))))
-within-await top st h = within-awaited top st (readingSlots (st .register)) (let z = reading-below (st .register) in omega arith) h
+pub within-await : (capacity : ℕ) (st : State) → Within capacity st → Within capacity (state (st .pool) (withAwaited (st .register) (readingSlots (st .register))))
+within-await capacity st h = within-awaited capacity st (readingSlots (st .register)) (let z = reading-below (st .register) in omega arith) h
 
 -- Links, colours, keys held.
-pub within-link : (top : ℕ) (st : State) (l : Link) (v : ℕ) → v ≤ top → Within top st → Within top (setLink st l v)
+pub within-link : (capacity : ℕ) (st : State) (l : Link) (v : ℕ) → v ≤ capacity → Within capacity st → Within capacity (setLink st l v)
 unfolding setLink withRoot
-within-link top st Root v hv h = record { size = h .size; fits = h .fits; root = hv; first = h .first; last = h .last; free = h .free; held = h .held; awaited = h .awaited; readers = h .readers }
-within-link top st (Left n) v hv h = within-pool top st (setWord (st .pool) n leftWord v) (length-setWord (st .pool) n leftWord v) (fits-set top (st .pool) n leftWord v (omega arith) (fit-link top L v hv) (h .fits)) h
-within-link top st (Right n) v hv h = within-pool top st (setWord (st .pool) n rightWord v) (length-setWord (st .pool) n rightWord v) (fits-set top (st .pool) n rightWord v (omega arith) (fit-link top R v hv) (h .fits)) h
+within-link capacity st Root v hv h = record { size = h .size; fits = h .fits; root = hv; first = h .first; last = h .last; free = h .free; held = h .held; awaited = h .awaited; readers = h .readers }
+within-link capacity st (Left n) v hv h = within-pool capacity st (setWord (st .pool) n leftWord v) (length-setWord (st .pool) n leftWord v) (fits-set capacity (st .pool) n leftWord v (omega arith) (fit-link capacity L v hv) (h .fits)) h
+within-link capacity st (Right n) v hv h = within-pool capacity st (setWord (st .pool) n rightWord v) (length-setWord (st .pool) n rightWord v) (fits-set capacity (st .pool) n rightWord v (omega arith) (fit-link capacity R v hv) (h .fits)) h
 
-pub fits-paint : (top : ℕ) (p : List ℕ) (n c : ℕ) → c ≤ 1 → Fits top p → Fits top (paint p n c)
-fits-paint top p n c hc h = fits-set top p n colourWord c (omega arith) (fit-colour top c hc) h
+pub fits-paint : (capacity : ℕ) (p : List ℕ) (n c : ℕ) → c ≤ 1 → Fits capacity p → Fits capacity (paint p n c)
+fits-paint capacity p n c hc h = fits-set capacity p n colourWord c (omega arith) (fit-colour capacity c hc) h
 
-pub within-held : (top : ℕ) (st : State) (n : ℕ) → n ≤ top → Within top st → Within top (state (st .pool) (withHeld (st .register) n))
+pub within-held : (capacity : ℕ) (st : State) (n : ℕ) → n ≤ capacity → Within capacity st → Within capacity (state (st .pool) (withHeld (st .register) n))
 unfolding withHeld
-within-held top st n hn h = record { size = h .size; fits = h .fits; root = h .root; first = h .first; last = h .last; free = h .free; held = hn; awaited = h .awaited; readers = h .readers }
+within-held capacity st n hn h = record { size = h .size; fits = h .fits; root = h .root; first = h .first; last = h .last; free = h .free; held = hn; awaited = h .awaited; readers = h .readers }
 
-pub within-more : (top : ℕ) (st : State) → Within top st → Within top (state (st .pool) (withHeld (st .register) (countUp (nodes (st .pool)) (st .register .held))))
-within-more top st h = within-held top st _ (rw (h .size) (count-up top (st .register .held) (h .held))) h
+pub within-more : (capacity : ℕ) (st : State) → Within capacity st → Within capacity (state (st .pool) (withHeld (st .register) (countUp (nodes (st .pool)) (st .register .held))))
+within-more capacity st h = within-held capacity st _ (rw (h .size) (count-up capacity (st .register .held) (h .held))) h
 
-pub within-less : (top : ℕ) (st : State) → Within top st → Within top (state (st .pool) (withHeld (st .register) (countDown (st .register .held))))
-within-less top st h = within-held top st _ (let a = h .held in omega arith) h
+pub within-less : (capacity : ℕ) (st : State) → Within capacity st → Within capacity (state (st .pool) (withHeld (st .register) (countDown (st .register .held))))
+within-less capacity st h = within-held capacity st _ (let a = h .held in omega arith) h
 
-pub node-fits : (top : ℕ) (st : State) (l : Link) → Within top st → linkNode st l ≤ top
+pub node-fits : (capacity : ℕ) (st : State) (l : Link) → Within capacity st → linkNode st l ≤ capacity
 unfolding nodeAt
-node-fits top st Root h = h .root
-node-fits top st (Left n) h = child-fits top (st .pool) L n (h .fits)
-node-fits top st (Right n) h = child-fits top (st .pool) R n (h .fits)
+node-fits capacity st Root h = h .root
+node-fits capacity st (Left n) h = child-fits capacity (st .pool) L n (h .fits)
+node-fits capacity st (Right n) h = child-fits capacity (st .pool) R n (h .fits)

@@ -8,25 +8,25 @@ use native.Mathlib.Omega.{arith}
 use lib.Dec.{eqb}
 use borrow.Author.Tests.{eqb-false}
 use Rattle.base.specs.Walk.{cond-both, fold-keeps}
-use Rattle.types.specs.declared.Side.{Side}
-use Rattle.types.specs.declared.Side.the-variants.{L, R}
-use Rattle.types.specs.declared.Link.{Link}
-use Rattle.types.specs.declared.Link.the-variants.{Root, Left, Right}
-use Rattle.types.specs.declared.Rule.{Rule}
-use Rattle.types.specs.declared.Rule.the-variants.{Grow, Pass, Borrow}
-use Rattle.types.specs.declared.Ending.{Ending}
-use Rattle.types.specs.declared.Ending.the-variants.{Calm, Blacken, Rotate, RotateTwice, Missing}
-use Rattle.types.specs.declared.Climb.{Climb}
-use Rattle.types.specs.declared.Step.{Step}
-use Rattle.types.specs.declared.Step.the-variants.{Vacant, Insert, DiagLower, DiagRaise, ZigLowerA, ZigLowerC, ZigRaise, Unlink, Adopt, Replace, Publish, Detach}
-use Rattle.types.specs.declared.Write.{Write}
-use Rattle.types.specs.Side.{other}
+use Rattle.datatypes.specs.declared.Side.{Side}
+use Rattle.datatypes.specs.declared.Side.the-variants.{L, R}
+use Rattle.datatypes.specs.declared.Link.{Link}
+use Rattle.datatypes.specs.declared.Link.the-variants.{Root, Left, Right}
+use Rattle.datatypes.specs.declared.Purpose.{Purpose}
+use Rattle.datatypes.specs.declared.Purpose.the-variants.{ForInsert, RedSibling, BlackSibling}
+use Rattle.datatypes.specs.declared.Ending.{Ending}
+use Rattle.datatypes.specs.declared.Ending.the-variants.{Balanced, Blacken, Rotate, RotateTwice, Missing}
+use Rattle.datatypes.specs.declared.Fixup.{Fixup}
+use Rattle.datatypes.specs.declared.Step.{Step}
+use Rattle.datatypes.specs.declared.Step.the-variants.{Vacant, Insert, DiagLower, DiagRaise, ZigLowerA, ZigLowerC, ZigRaise, Unlink, Adopt, Replace, Publish, Detach}
+use Rattle.datatypes.specs.declared.Write.{Write}
+use Rattle.datatypes.specs.Side.{other}
 use Rattle.spec.specs.Pool.{word, setWord, child, nodes, redColour, keyWord, recordWord, standingWord, holdersWord, standingRetired}
 use Rattle.spec.specs.Register.{State, state, noReader, linkNode, setLink, withRoot, withQueue, withHeld, withReader, withAwaited, withWrite, readingSlots, dropSlot}
 use Rattle.spec.specs.Free.{queueEmpty, takeFree, takeNode, freeNode, retire, release, endReading}
 use Rattle.spec.specs.Search.{pathTo}
-use Rattle.spec.specs.Plan.{insertClimb, paintRise, paintLoss, redChild, onlyChild}
-use Rattle.spec.specs.Turn.{painted, colourOf, oneMore, oneLess, endInsert, insertStore, copyNode, diagLower, endDiag, diagRaise, zigLowerA, zigLowerC, endZig, zigRaise, unlinkStore, adoptStore, replaceStore, movedWrite, publishStore, detachStore, isNode, stepFinds, stepMade, unlinkPath, unlinkClimb, replacePath, replaceClimb}
+use Rattle.spec.specs.Plan.{fixupAfterInsert, paintInsertFixup, paintDeleteFixup, redChild, onlyChild}
+use Rattle.spec.specs.Turn.{painted, colourOf, oneMore, oneLess, endInsert, insertStore, copyNode, diagLower, endDiag, diagRaise, zigLowerA, zigLowerC, endZig, zigRaise, unlinkStore, adoptStore, replaceStore, movedWrite, publishStore, detachStore, isNode, stepFinds, stepMade, unlinkPath, unlinkFixup, replacePath, replaceFixup}
 use Rattle.heap.specs.Fill.{retire-quiet, retireTwo-quiet}
 use Rattle.ranges.specs.Fits.{Within}
 use Rattle.ranges.specs.Writes.{WriteOk, write-moved}
@@ -52,26 +52,26 @@ hand-less : (st : State) → hand (oneLess st) ≡ hand st
 unfolding withHeld
 hand-less st = refl
 
-hand-loss : (st : State) (c : Climb) (x : ℕ) (path : List Link) → hand (paintLoss st c x path) ≡ hand st
-unfolding paintLoss
-hand-loss st c x path = refl
+hand-removal : (st : State) (c : Fixup) (x : ℕ) (path : List Link) → hand (paintDeleteFixup st c x path) ≡ hand st
+unfolding paintDeleteFixup
+hand-removal st c x path = refl
 
 hand-insert : (e : Ending) (st : State) → hand (endInsert e st) ≡ hand st
-hand-insert Calm st = refl
+hand-insert Balanced st = refl
 hand-insert Blacken st = refl
 hand-insert (Rotate t) st = refl
 hand-insert (RotateTwice t u) st = refl
 hand-insert Missing st = refl
 
-hand-diag : (rule : Rule) (st : State) (s : Side) (b : ℕ) → hand (endDiag rule st s b) ≡ hand st
-hand-diag Grow st s b = refl
-hand-diag Pass st s b = cond-both (λ x. hand x ≡ hand st) (redChild (st .pool) (child (st .pool) s (child (st .pool) (other s) b))) refl refl
-hand-diag Borrow st s b = refl
+hand-diag : (purpose : Purpose) (st : State) (s : Side) (b : ℕ) → hand (endDiag purpose st s b) ≡ hand st
+hand-diag ForInsert st s b = refl
+hand-diag RedSibling st s b = cond-both (λ x. hand x ≡ hand st) (redChild (st .pool) (child (st .pool) s (child (st .pool) (other s) b))) refl refl
+hand-diag BlackSibling st s b = refl
 
-hand-zig : (rule : Rule) (st : State) → hand (endZig rule st) ≡ hand st
-hand-zig Grow st = refl
-hand-zig Pass st = refl
-hand-zig Borrow st = refl
+hand-zig : (purpose : Purpose) (st : State) → hand (endZig purpose st) ≡ hand st
+hand-zig ForInsert st = refl
+hand-zig RedSibling st = refl
+hand-zig BlackSibling st = refl
 
 hand-retire : (st : State) (n : ℕ) → hand (retire st n) ≡ hand st
 hand-retire st n = retire-quiet st n .fields .write
@@ -113,10 +113,10 @@ filled st e = eqb-false (st .register .first) 0 (go (queueEmpty st) e)
 insert-hand : (st : State) (l : Link) (k v : ℕ) → hand (insertStore st l k v .after) ≡ hand st
 unfolding insertStore withHeld
 insert-hand st l k v =
-    let c = insertClimb st k l in
+    let c = fixupAfterInsert st k l in
     let path = pathTo (st .pool) (st .register .root) k l in
     let linked = oneMore (setLink (takeNode st k v L 0 0 redColour) l (st .register .first)) in
-    hand-insert (c .ending) (state (paintRise (c .levels) path (linked .pool)) (linked .register)) ∙ hand-link (takeNode st k v L 0 0 redColour) l (st .register .first) ∙ hand-take st k v L 0 0 redColour
+    hand-insert (c .ending) (state (paintInsertFixup (c .levels) path (linked .pool)) (linked .register)) ∙ hand-link (takeNode st k v L 0 0 redColour) l (st .register .first) ∙ hand-take st k v L 0 0 redColour
 
 unlink-hand : (st : State) (l : Link) → hand (unlinkStore st l .after) ≡ hand st
 unfolding unlinkStore withHeld
@@ -124,7 +124,7 @@ unlink-hand st l =
     let b = linkNode st l in
     let x = onlyChild (st .pool) b in
     let less = oneLess (setLink st l x) in
-    hand-retire (paintLoss less (unlinkClimb st l) x (unlinkPath st l)) b ∙ hand-loss less (unlinkClimb st l) x (unlinkPath st l) ∙ hand-link st l x
+    hand-retire (paintDeleteFixup less (unlinkFixup st l) x (unlinkPath st l)) b ∙ hand-removal less (unlinkFixup st l) x (unlinkPath st l) ∙ hand-link st l x
 
 replace-hand : (st : State) (l : Link) → hand (replaceStore st l .after) ≡ hand st
 unfolding replaceStore withHeld
@@ -133,7 +133,7 @@ replace-hand st l =
     let c = child (st .pool) R b in
     let x = child (st .pool) R c in
     let replaced = painted (oneLess (setLink st l c)) c (colourOf st b) in
-    hand-retire (paintLoss replaced (replaceClimb st l) x (replacePath st l)) b ∙ hand-loss replaced (replaceClimb st l) x (replacePath st l) ∙ hand-link st l c
+    hand-retire (paintDeleteFixup replaced (replaceFixup st l) x (replacePath st l)) b ∙ hand-removal replaced (replaceFixup st l) x (replacePath st l) ∙ hand-link st l c
 
 publish-hand : (st : State) (l : Link) (c : ℕ) → hand (publishStore st l c .after) ≡ movedWrite (linkNode st l) (st .register .first) (hand st)
 unfolding publishStore withHeld withAwaited withWrite
@@ -146,11 +146,11 @@ publish-hand st l c =
     let mid = state (base .pool) (withWrite (withAwaited r (readingSlots r)) (movedWrite b n (r .write))) in
     hand-retire mid b ∙ ap (movedWrite b n) (hand-link (copyNode st c L (child p L b) (child p R b) (colourOf st b)) l n ∙ hand-take st (word p c keyWord) (word p c recordWord) L (child p L b) (child p R b) (colourOf st b))
 
-module _ (top : ℕ) (st : State) (h : Within top st) (w : WriteOk top (st .register .write)) where
-  same : (x : Write) → x ≡ st .register .write → WriteOk top x
+module _ (capacity : ℕ) (st : State) (h : Within capacity st) (w : WriteOk capacity (st .register .write)) where
+  same : (x : Write) → x ≡ st .register .write → WriteOk capacity x
   same x e = rw e w
 
-  pub step-hand : (l : Link) (x : Step) → stepFinds st l x ≡ true → WriteOk top (stepMade st l x .after .register .write)
+  pub step-hand : (l : Link) (x : Step) → stepFinds st l x ≡ true → WriteOk capacity (stepMade st l x .after .register .write)
   unfolding stepMade stepFinds diagLower diagRaise zigLowerA zigLowerC zigRaise adoptStore detachStore
   step-hand l Vacant f = w
   step-hand l (Insert k v) f = same _ (insert-hand st l k v)
@@ -165,5 +165,5 @@ module _ (top : ℕ) (st : State) (h : Within top st) (w : WriteOk top (st .regi
   step-hand l (Publish c) f =
       let n = st .register .first in
       let d = filled st (both (isNode (linkNode st l)) (not (queueEmpty st)) f) in
-      rw (publish-hand st l c) (write-moved top (linkNode st l) n (st .register .write) (record { low = omega arith; high = h .first }) w)
-  step-hand l (Detach k) f = same _ (hand-retire _ _ ∙ hand-loss _ _ _ _ ∙ hand-link st _ _)
+      rw (publish-hand st l c) (write-moved capacity (linkNode st l) n (st .register .write) (record { low = omega arith; high = h .first }) w)
+  step-hand l (Detach k) f = same _ (hand-retire _ _ ∙ hand-removal _ _ _ _ ∙ hand-link st _ _)

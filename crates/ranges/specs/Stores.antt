@@ -4,193 +4,193 @@ use mathlib.Core.List.{List, [], _∷_}
 use native.Mathlib.Omega.{arith}
 use lib.Dec.{eqb}
 use Rattle.base.specs.Walk.{cond-both}
-use Rattle.types.specs.declared.Side.{Side}
-use Rattle.types.specs.declared.Side.the-variants.{L, R}
-use Rattle.types.specs.declared.Link.{Link}
-use Rattle.types.specs.declared.Rule.{Rule}
-use Rattle.types.specs.declared.Rule.the-variants.{Grow, Pass, Borrow}
-use Rattle.types.specs.declared.Ending.{Ending}
-use Rattle.types.specs.declared.Ending.the-variants.{Calm, Blacken, Rotate, RotateTwice, Missing}
-use Rattle.types.specs.declared.Climb.{Climb}
-use Rattle.types.specs.declared.Step.{Step}
-use Rattle.types.specs.declared.Step.the-variants.{Vacant, Insert, DiagLower, DiagRaise, ZigLowerA, ZigLowerC, ZigRaise, Unlink, Adopt, Replace, Publish, Detach}
-use Rattle.types.specs.Side.{other, linkAt, owner, sideOf}
+use Rattle.datatypes.specs.declared.Side.{Side}
+use Rattle.datatypes.specs.declared.Side.the-variants.{L, R}
+use Rattle.datatypes.specs.declared.Link.{Link}
+use Rattle.datatypes.specs.declared.Purpose.{Purpose}
+use Rattle.datatypes.specs.declared.Purpose.the-variants.{ForInsert, RedSibling, BlackSibling}
+use Rattle.datatypes.specs.declared.Ending.{Ending}
+use Rattle.datatypes.specs.declared.Ending.the-variants.{Balanced, Blacken, Rotate, RotateTwice, Missing}
+use Rattle.datatypes.specs.declared.Fixup.{Fixup}
+use Rattle.datatypes.specs.declared.Step.{Step}
+use Rattle.datatypes.specs.declared.Step.the-variants.{Vacant, Insert, DiagLower, DiagRaise, ZigLowerA, ZigLowerC, ZigRaise, Unlink, Adopt, Replace, Publish, Detach}
+use Rattle.datatypes.specs.Side.{other, linkAt, owner, sideOf}
 use Rattle.spec.specs.Pool.{child, paint, blackColour, redColour}
 use Rattle.spec.specs.Register.{State, state, linkNode, setLink, withAwaited, readingSlots}
 use Rattle.spec.specs.Free.{takeNode}
 use Rattle.spec.specs.Search.{pathTo}
-use Rattle.spec.specs.Plan.{insertClimb, paintRise, paintSink, paintEnd, paintLoss, redChild, onlyChild, nearest}
+use Rattle.spec.specs.Plan.{fixupAfterInsert, paintInsertFixup, paintDeleteLevels, paintEnd, paintDeleteFixup, redChild, onlyChild, nearest}
 use Rattle.spec.specs.Turn.{painted, colourOf, oneMore, oneLess, endInsert, insertStore, copyColour, risenColour, copyNode, diagLower, underCopy, endDiag, diagRaise, zigLowerA, zigLowerC, endZig, zigRaise, stepMade}
-use Rattle.spec.specs.Turn.{unlinkPath, unlinkClimb, unlinkStore, adoptStore, replacePath, replaceClimb, replaceStore, publishStore, detachPath, detachClimb, detachStore}
-use Rattle.readers.specs.Tints.{tinted-paint, tinted-rise, tinted-sink}
+use Rattle.spec.specs.Turn.{unlinkPath, unlinkFixup, unlinkStore, adoptStore, replacePath, replaceFixup, replaceStore, publishStore, detachPath, detachFixup, detachStore}
+use Rattle.readers.specs.ColourWork.{coloursChange-paint, coloursChange-insertFixup, coloursChange-deleteFixup}
 use Rattle.ranges.specs.Fits.{Fits, child-fits, colour-fits, Within, within-pool, within-take, within-retire, within-retireTwo, within-write, within-await, within-link, fits-paint, within-more, within-less, node-fits}
 
-fits-rise : (top m : ℕ) (path : List Link) (p : List ℕ) → Fits top p → Fits top (paintRise m path p)
-unfolding paintRise
-fits-rise top zero path p h = h
-fits-rise top (suc m) [] p h = h
-fits-rise top (suc m) (x ∷ []) p h = h
-fits-rise top (suc m) (x ∷ y ∷ up) p h =
+fits-insertFixup : (capacity m : ℕ) (path : List Link) (p : List ℕ) → Fits capacity p → Fits capacity (paintInsertFixup m path p)
+unfolding paintInsertFixup
+fits-insertFixup capacity zero path p h = h
+fits-insertFixup capacity (suc m) [] p h = h
+fits-insertFixup capacity (suc m) (x ∷ []) p h = h
+fits-insertFixup capacity (suc m) (x ∷ y ∷ up) p h =
     let aunt = child p (other (sideOf y)) (owner y) in
     let a = paint p (owner x) blackColour in
     let b = paint a aunt blackColour in
-    fits-rise top m up (paint b (owner y) redColour)
-    (fits-paint top b (owner y) redColour (omega arith) (fits-paint top a aunt blackColour (omega arith) (fits-paint top p (owner x) blackColour (omega arith) h)))
+    fits-insertFixup capacity m up (paint b (owner y) redColour)
+    (fits-paint capacity b (owner y) redColour (omega arith) (fits-paint capacity a aunt blackColour (omega arith) (fits-paint capacity p (owner x) blackColour (omega arith) h)))
 
-fits-sink : (top m : ℕ) (path : List Link) (p : List ℕ) → Fits top p → Fits top (paintSink m path p)
-unfolding paintSink
-fits-sink top zero path p h = h
-fits-sink top (suc m) [] p h = h
-fits-sink top (suc m) (l ∷ up) p h = fits-sink top m up _ (fits-paint top p (child p (other (sideOf l)) (owner l)) redColour (omega arith) h)
+fits-deleteFixup : (capacity m : ℕ) (path : List Link) (p : List ℕ) → Fits capacity p → Fits capacity (paintDeleteLevels m path p)
+unfolding paintDeleteLevels
+fits-deleteFixup capacity zero path p h = h
+fits-deleteFixup capacity (suc m) [] p h = h
+fits-deleteFixup capacity (suc m) (l ∷ up) p h = fits-deleteFixup capacity m up _ (fits-paint capacity p (child p (other (sideOf l)) (owner l)) redColour (omega arith) h)
 
-within-paint : (top : ℕ) (st : State) (n c : ℕ) → c ≤ 1 → Within top st → Within top (painted st n c)
-within-paint top st n c hc h = within-pool top st (paint (st .pool) n c) (tinted-paint (st .pool) n c .size) (fits-paint top (st .pool) n c hc (h .fits)) h
+within-paint : (capacity : ℕ) (st : State) (n c : ℕ) → c ≤ 1 → Within capacity st → Within capacity (painted st n c)
+within-paint capacity st n c hc h = within-pool capacity st (paint (st .pool) n c) (coloursChange-paint (st .pool) n c .size) (fits-paint capacity (st .pool) n c hc (h .fits)) h
 
-within-ending : (top : ℕ) (e : Ending) (st : State) (n : ℕ) → Within top st → Within top (state (paintEnd e st n) (st .register))
-within-ending top Calm st n h = h
-within-ending top Blacken st n h = within-paint top st n blackColour (omega arith) h
-within-ending top (Rotate t) st n h = h
-within-ending top (RotateTwice t u) st n h = h
-within-ending top Missing st n h = h
+within-ending : (capacity : ℕ) (e : Ending) (st : State) (n : ℕ) → Within capacity st → Within capacity (state (paintEnd e st n) (st .register))
+within-ending capacity Balanced st n h = h
+within-ending capacity Blacken st n h = within-paint capacity st n blackColour (omega arith) h
+within-ending capacity (Rotate t) st n h = h
+within-ending capacity (RotateTwice t u) st n h = h
+within-ending capacity Missing st n h = h
 
-within-loss : (top : ℕ) (st : State) (c : Climb) (x : ℕ) (path : List Link) → Within top st → Within top (paintLoss st c x path)
-unfolding paintLoss
-within-loss top st c x path h =
-    let q = paintSink (c .levels) path (st .pool) in
-    let mid = within-pool top st q (tinted-sink (c .levels) path (st .pool) .size) (fits-sink top (c .levels) path (st .pool) (h .fits)) h in
-    within-ending top (c .ending) (state q (st .register)) _ mid
+within-removal : (capacity : ℕ) (st : State) (c : Fixup) (x : ℕ) (path : List Link) → Within capacity st → Within capacity (paintDeleteFixup st c x path)
+unfolding paintDeleteFixup
+within-removal capacity st c x path h =
+    let q = paintDeleteLevels (c .levels) path (st .pool) in
+    let mid = within-pool capacity st q (coloursChange-deleteFixup (c .levels) path (st .pool) .size) (fits-deleteFixup capacity (c .levels) path (st .pool) (h .fits)) h in
+    within-ending capacity (c .ending) (state q (st .register)) _ mid
 
-within-insert-end : (top : ℕ) (e : Ending) (st : State) → Within top st → Within top (endInsert e st)
-within-insert-end top Calm st h = within-paint top st (st .register .root) blackColour (omega arith) h
-within-insert-end top Blacken st h = h
-within-insert-end top (Rotate t) st h = h
-within-insert-end top (RotateTwice t u) st h = h
-within-insert-end top Missing st h = h
+within-insert-end : (capacity : ℕ) (e : Ending) (st : State) → Within capacity st → Within capacity (endInsert e st)
+within-insert-end capacity Balanced st h = within-paint capacity st (st .register .root) blackColour (omega arith) h
+within-insert-end capacity Blacken st h = h
+within-insert-end capacity (Rotate t) st h = h
+within-insert-end capacity (RotateTwice t u) st h = h
+within-insert-end capacity Missing st h = h
 
-within-under : (top : ℕ) (st : State) (s : Side) (n : ℕ) → Within top st → Within top (underCopy st s n)
-within-under top st s n h =
+within-under : (capacity : ℕ) (st : State) (s : Side) (n : ℕ) → Within capacity st → Within capacity (underCopy st s n)
+within-under capacity st s n h =
     let w = child (st .pool) s n in
-    cond-both (λ x. Within top x) (redChild (st .pool) w) h (within-paint top (painted st w redColour) n blackColour (omega arith) (within-paint top st w redColour (omega arith) h))
+    cond-both (λ x. Within capacity x) (redChild (st .pool) w) h (within-paint capacity (painted st w redColour) n blackColour (omega arith) (within-paint capacity st w redColour (omega arith) h))
 
-within-diag-end : (top : ℕ) (rule : Rule) (st : State) (s : Side) (b : ℕ) → Within top st → Within top (endDiag rule st s b)
-within-diag-end top Grow st s b h = within-paint top st (st .register .root) blackColour (omega arith) h
-within-diag-end top Pass st s b h = within-under top st s (child (st .pool) (other s) b) h
-within-diag-end top Borrow st s b h = within-paint top st (child (st .pool) s b) blackColour (omega arith) h
+within-diag-end : (capacity : ℕ) (purpose : Purpose) (st : State) (s : Side) (b : ℕ) → Within capacity st → Within capacity (endDiag purpose st s b)
+within-diag-end capacity ForInsert st s b h = within-paint capacity st (st .register .root) blackColour (omega arith) h
+within-diag-end capacity RedSibling st s b h = within-under capacity st s (child (st .pool) (other s) b) h
+within-diag-end capacity BlackSibling st s b h = within-paint capacity st (child (st .pool) s b) blackColour (omega arith) h
 
-within-zig-end : (top : ℕ) (rule : Rule) (st : State) → Within top st → Within top (endZig rule st)
-within-zig-end top Grow st h = within-paint top st (st .register .root) blackColour (omega arith) h
-within-zig-end top Pass st h = h
-within-zig-end top Borrow st h = h
+within-zig-end : (capacity : ℕ) (purpose : Purpose) (st : State) → Within capacity st → Within capacity (endZig purpose st)
+within-zig-end capacity ForInsert st h = within-paint capacity st (st .register .root) blackColour (omega arith) h
+within-zig-end capacity RedSibling st h = h
+within-zig-end capacity BlackSibling st h = h
 
-copy-low : (rule : Rule) → copyColour rule ≤ 1
-copy-low Grow = omega arith
-copy-low Pass = omega arith
-copy-low Borrow = omega arith
+copy-low : (purpose : Purpose) → copyColour purpose ≤ 1
+copy-low ForInsert = omega arith
+copy-low RedSibling = omega arith
+copy-low BlackSibling = omega arith
 
-risen-low : (top : ℕ) (rule : Rule) (st : State) (c : ℕ) → Within top st → risenColour rule st c ≤ 1
-risen-low top Grow st c h = omega arith
-risen-low top Pass st c h = omega arith
-risen-low top Borrow st c h = colour-fits top (st .pool) c (h .fits)
+risen-low : (capacity : ℕ) (purpose : Purpose) (st : State) (c : ℕ) → Within capacity st → risenColour purpose st c ≤ 1
+risen-low capacity ForInsert st c h = omega arith
+risen-low capacity RedSibling st c h = omega arith
+risen-low capacity BlackSibling st c h = colour-fits capacity (st .pool) c (h .fits)
 
-only-fits : (top : ℕ) (p : List ℕ) (b : ℕ) → Fits top p → onlyChild p b ≤ top
-only-fits top p b h = cond-both (λ x. x ≤ top) (eqb (child p L b) 0) (child-fits top p R b h) (child-fits top p L b h)
+only-fits : (capacity : ℕ) (p : List ℕ) (b : ℕ) → Fits capacity p → onlyChild p b ≤ capacity
+only-fits capacity p b h = cond-both (λ x. x ≤ capacity) (eqb (child p L b) 0) (child-fits capacity p R b h) (child-fits capacity p L b h)
 
-module _ (top : ℕ) (st : State) (h : Within top st) where
+module _ (capacity : ℕ) (st : State) (h : Within capacity st) where
   abbrev kid : Side → ℕ → ℕ
   kid s n = child (st .pool) s n
 
-  low : (s : Side) (n : ℕ) → child (st .pool) s n ≤ top
-  low s n = child-fits top (st .pool) s n (h .fits)
+  low : (s : Side) (n : ℕ) → child (st .pool) s n ≤ capacity
+  low s n = child-fits capacity (st .pool) s n (h .fits)
 
-  copied : (n : ℕ) (s : Side) (x y c : ℕ) (l : Link) → x ≤ top → y ≤ top → c ≤ 1 → Within top (setLink (copyNode st n s x y c) l (st .register .first))
-  copied n s x y c l hx hy hc = within-link top _ l (st .register .first) (h .first) (within-take top st _ _ s x y c hx hy hc h)
+  copied : (n : ℕ) (s : Side) (x y c : ℕ) (l : Link) → x ≤ capacity → y ≤ capacity → c ≤ 1 → Within capacity (setLink (copyNode st n s x y c) l (st .register .first))
+  copied n s x y c l hx hy hc = within-link capacity _ l (st .register .first) (h .first) (within-take capacity st _ _ s x y c hx hy hc h)
 
-  insert-within : (l : Link) (k v : ℕ) → Within top (insertStore st l k v .after)
+  insert-within : (l : Link) (k v : ℕ) → Within capacity (insertStore st l k v .after)
   unfolding insertStore
   insert-within l k v =
-      let c = insertClimb st k l in
+      let c = fixupAfterInsert st k l in
       let path = pathTo (st .pool) (st .register .root) k l in
       let base = setLink (takeNode st k v L 0 0 redColour) l (st .register .first) in
       let linked = oneMore base in
-      let a = within-more top base (within-link top _ l (st .register .first) (h .first) (within-take top st k v L 0 0 redColour (omega arith) (omega arith) (omega arith) h)) in
-      within-insert-end top (c .ending) _ (within-pool top linked (paintRise (c .levels) path (linked .pool)) (tinted-rise (c .levels) path (linked .pool) .size) (fits-rise top (c .levels) path (linked .pool) (a .fits)) a)
+      let a = within-more capacity base (within-link capacity _ l (st .register .first) (h .first) (within-take capacity st k v L 0 0 redColour (omega arith) (omega arith) (omega arith) h)) in
+      within-insert-end capacity (c .ending) _ (within-pool capacity linked (paintInsertFixup (c .levels) path (linked .pool)) (coloursChange-insertFixup (c .levels) path (linked .pool) .size) (fits-insertFixup capacity (c .levels) path (linked .pool) (a .fits)) a)
 
-  diag-lower-within : (l : Link) (s : Side) (rule : Rule) → Within top (diagLower st l s rule .after)
+  diag-lower-within : (l : Link) (s : Side) (purpose : Purpose) → Within capacity (diagLower st l s purpose .after)
   unfolding diagLower
-  diag-lower-within l s rule =
+  diag-lower-within l s purpose =
       let c = linkNode st l in
       let b = kid s c in
-      copied c s (kid (other s) b) (kid (other s) c) (copyColour rule) (linkAt (other s) b) (low (other s) b) (low (other s) c) (copy-low rule)
+      copied c s (kid (other s) b) (kid (other s) c) (copyColour purpose) (linkAt (other s) b) (low (other s) b) (low (other s) c) (copy-low purpose)
 
-  zig-lower-A-within : (l : Link) (s : Side) (rule : Rule) → Within top (zigLowerA st l s rule .after)
+  zig-lower-A-within : (l : Link) (s : Side) (purpose : Purpose) → Within capacity (zigLowerA st l s purpose .after)
   unfolding zigLowerA
-  zig-lower-A-within l s rule =
+  zig-lower-A-within l s purpose =
       let a = kid s (linkNode st l) in
       let b = kid (other s) a in
-      copied a s (kid s a) (kid s b) (copyColour rule) (linkAt s b) (low s a) (low s b) (copy-low rule)
+      copied a s (kid s a) (kid s b) (copyColour purpose) (linkAt s b) (low s a) (low s b) (copy-low purpose)
 
-  zig-lower-C-within : (l : Link) (s : Side) (rule : Rule) → Within top (zigLowerC st l s rule .after)
+  zig-lower-C-within : (l : Link) (s : Side) (purpose : Purpose) → Within capacity (zigLowerC st l s purpose .after)
   unfolding zigLowerC
-  zig-lower-C-within l s rule =
+  zig-lower-C-within l s purpose =
       let c = linkNode st l in
       let b = kid (other s) (kid s c) in
-      copied c s (kid (other s) b) (kid (other s) c) (copyColour rule) (linkAt (other s) b) (low (other s) b) (low (other s) c) (copy-low rule)
+      copied c s (kid (other s) b) (kid (other s) c) (copyColour purpose) (linkAt (other s) b) (low (other s) b) (low (other s) c) (copy-low purpose)
 
-  diag-raise-within : (l : Link) (s : Side) (rule : Rule) → Within top (diagRaise st l s rule .after)
+  diag-raise-within : (l : Link) (s : Side) (purpose : Purpose) → Within capacity (diagRaise st l s purpose .after)
   unfolding diagRaise
-  diag-raise-within l s rule =
+  diag-raise-within l s purpose =
       let c = linkNode st l in
       let b = kid s c in
-      within-retire top _ c (node-fits top st l h)
-      (within-diag-end top rule _ s b (within-paint top _ b (risenColour rule st c) (risen-low top rule st c h) (within-link top st l b (low s c) h)))
+      within-retire capacity _ c (node-fits capacity st l h)
+      (within-diag-end capacity purpose _ s b (within-paint capacity _ b (risenColour purpose st c) (risen-low capacity purpose st c h) (within-link capacity st l b (low s c) h)))
 
-  zig-raise-within : (l : Link) (s : Side) (rule : Rule) → Within top (zigRaise st l s rule .after)
+  zig-raise-within : (l : Link) (s : Side) (purpose : Purpose) → Within capacity (zigRaise st l s purpose .after)
   unfolding zigRaise
-  zig-raise-within l s rule =
+  zig-raise-within l s purpose =
       let c = linkNode st l in
       let a = kid s c in
       let b = kid (other s) a in
-      within-retireTwo top _ a c (low s c) (node-fits top st l h)
-      (within-zig-end top rule _ (within-paint top _ b (risenColour rule st c) (risen-low top rule st c h) (within-link top st l b (low (other s) a) h)))
+      within-retireTwo capacity _ a c (low s c) (node-fits capacity st l h)
+      (within-zig-end capacity purpose _ (within-paint capacity _ b (risenColour purpose st c) (risen-low capacity purpose st c h) (within-link capacity st l b (low (other s) a) h)))
 
-  unlink-within : (l : Link) → Within top (unlinkStore st l .after)
+  unlink-within : (l : Link) → Within capacity (unlinkStore st l .after)
   unfolding unlinkStore
   unlink-within l =
       let b = linkNode st l in
       let x = onlyChild (st .pool) b in
-      within-retire top _ b (node-fits top st l h) (within-loss top _ (unlinkClimb st l) x (unlinkPath st l) (within-less top _ (within-link top st l x (only-fits top (st .pool) b (h .fits)) h)))
+      within-retire capacity _ b (node-fits capacity st l h) (within-removal capacity _ (unlinkFixup st l) x (unlinkPath st l) (within-less capacity _ (within-link capacity st l x (only-fits capacity (st .pool) b (h .fits)) h)))
 
-  adopt-within : (l : Link) → Within top (adoptStore st l .after)
+  adopt-within : (l : Link) → Within capacity (adoptStore st l .after)
   unfolding adoptStore
-  adopt-within l = within-link top st _ _ (low L (linkNode st l)) h
+  adopt-within l = within-link capacity st _ _ (low L (linkNode st l)) h
 
-  replace-within : (l : Link) → Within top (replaceStore st l .after)
+  replace-within : (l : Link) → Within capacity (replaceStore st l .after)
   unfolding replaceStore
   replace-within l =
       let b = linkNode st l in
       let c = kid R b in
-      within-retire top _ b (node-fits top st l h)
-      (within-loss top _ (replaceClimb st l) (kid R c) (replacePath st l)
-      (within-paint top _ c (colourOf st b) (colour-fits top (st .pool) b (h .fits)) (within-less top _ (within-link top st l c (low R b) h))))
+      within-retire capacity _ b (node-fits capacity st l h)
+      (within-removal capacity _ (replaceFixup st l) (kid R c) (replacePath st l)
+      (within-paint capacity _ c (colourOf st b) (colour-fits capacity (st .pool) b (h .fits)) (within-less capacity _ (within-link capacity st l c (low R b) h))))
 
-  publish-within : (l : Link) (c : ℕ) → Within top (publishStore st l c .after)
+  publish-within : (l : Link) (c : ℕ) → Within capacity (publishStore st l c .after)
   unfolding publishStore
   publish-within l c =
       let b = linkNode st l in
       let linked = oneLess (setLink (copyNode st c L (kid L b) (kid R b) (colourOf st b)) l (st .register .first)) in
-      let a = within-less top _ (copied c L (kid L b) (kid R b) (colourOf st b) l (low L b) (low R b) (colour-fits top (st .pool) b (h .fits))) in
-      within-retire top _ b (node-fits top st l h)
-      (within-write top (state (linked .pool) (withAwaited (linked .register) (readingSlots (linked .register)))) _ (within-await top linked a))
+      let a = within-less capacity _ (copied c L (kid L b) (kid R b) (colourOf st b) l (low L b) (low R b) (colour-fits capacity (st .pool) b (h .fits))) in
+      within-retire capacity _ b (node-fits capacity st l h)
+      (within-write capacity (state (linked .pool) (withAwaited (linked .register) (readingSlots (linked .register)))) _ (within-await capacity linked a))
 
-  detach-within : (l : Link) (k : ℕ) → Within top (detachStore st l k .after)
+  detach-within : (l : Link) (k : ℕ) → Within capacity (detachStore st l k .after)
   unfolding detachStore
   detach-within l k =
       let path = detachPath st l k in
       let above = nearest path in
       let c = linkNode st above in
-      within-retire top _ c (node-fits top st above h) (within-loss top _ (detachClimb st l k) (kid R c) path (within-link top st above (kid R c) (low R c) h))
+      within-retire capacity _ c (node-fits capacity st above h) (within-removal capacity _ (detachFixup st l k) (kid R c) path (within-link capacity st above (kid R c) (low R c) h))
 
-  pub step-within : (l : Link) (x : Step) → Within top (stepMade st l x .after)
+  pub step-within : (l : Link) (x : Step) → Within capacity (stepMade st l x .after)
   unfolding stepMade
   step-within l Vacant = h
   step-within l (Insert k v) = insert-within l k v

@@ -10,8 +10,8 @@ use native.Mathlib.Omega.{arith}
 use lib.Dec.{ltb}
 use lib.ListN.{length, length-set}
 use borrow.Author.Tests.{eq-eqb, ne-eqb, lt-ltb, le-ltb}
-use Rattle.types.specs.declared.Side.the-variants.{L}
-use Rattle.types.specs.declared.Reader.{Reader}
+use Rattle.datatypes.specs.declared.Side.the-variants.{L}
+use Rattle.datatypes.specs.declared.Reader.{Reader}
 use Rattle.spec.specs.Pool.{word, child, keyWord, recordWord, slots}
 use Rattle.spec.specs.Register.{State, state, readerOf, withReader}
 use Rattle.spec.specs.Free.{endReading}
@@ -48,11 +48,11 @@ pub load-some : (st : State) (s k n : ℕ) → n ≢ 0 → loaded st s k n ≡ o
 load-some st s k n d = rw (ne-eqb n 0 d)
 
 -- At a node that unfolds to t: the key is there with its record, or the child loaded has what t has, and the way is one node shorter.
-pub data Turned (p : List ℕ) (n k : ℕ) (t : Linked) : Type 0 where
-  met : k ≡ word p n keyWord → find t k ≡ some (word p n recordWord) → Turned p n k t
-  on : k ≢ word p n keyWord → (u : Linked) → Rep p (child p (towards p k n) n) u → find u k ≡ find t k → path t k ≡ n ∷ path u k → Turned p n k t
+pub data StepResult (p : List ℕ) (n k : ℕ) (t : Linked) : Type 0 where
+  met : k ≡ word p n keyWord → find t k ≡ some (word p n recordWord) → StepResult p n k t
+  on : k ≢ word p n keyWord → (u : Linked) → Rep p (child p (towards p k n) n) u → find u k ≡ find t k → path t k ≡ n ∷ path u k → StepResult p n k t
 
-pub turned : (p : List ℕ) (n k : ℕ) (t : Linked) → n ≢ 0 → Rep p n t → Turned p n k t
+pub turned : (p : List ℕ) (n k : ℕ) (t : Linked) → n ≢ 0 → Rep p n t → StepResult p n k t
 turned p n k nil d h = absurd (d h)
 turned p n k (cell N l r) d h =
     let w = h .0 in
@@ -66,7 +66,7 @@ turned p n k (cell N l r) d h =
 pub turn-finds : (p : List ℕ) (A : Option ℕ → Type 0) (n k : ℕ) → n ≢ 0 → k ≢ word p n keyWord → Finds p A n k → Finds p A (child p (towards p k n) n) k
 turn-finds p A n k d e f = case (turned p n k (f .tree) d (f .unfolds))
   where
-    case : Turned p n k (f .tree) → Finds p A (child p (towards p k n) n) k
+    case : StepResult p n k (f .tree) → Finds p A (child p (towards p k n) n) k
     case (met i j) = absurd (e i)
     case (on i u r a b) = record { tree = u; unfolds = r; answer = subst A (sym a) (f .answer) }
 
@@ -74,7 +74,7 @@ pub turn-way : (p : List ℕ) (root : ℕ) (seen : List ℕ) (n k : ℕ) → n �
     → OnWay p root (seen ++ n ∷ []) (child p (towards p k n) n) k
 turn-way p root seen n k d e w = case (turned p n k (w .tree) d (w .unfolds))
   where
-    case : Turned p n k (w .tree) → OnWay p root (seen ++ n ∷ []) (child p (towards p k n) n) k
+    case : StepResult p n k (w .tree) → OnWay p root (seen ++ n ∷ []) (child p (towards p k n) n) k
     case (met i j) = absurd (e i)
     case (on i u r a b) = record {
       tree = u;
@@ -88,7 +88,7 @@ turn-way p root seen n k d e w = case (turned p n k (w .tree) d (w .unfolds))
 pub turn-found : (p : List ℕ) (A : Option ℕ → Type 0) (n k : ℕ) → n ≢ 0 → k ≡ word p n keyWord → Finds p A n k → A (some (word p n recordWord))
 turn-found p A n k d e f = case (turned p n k (f .tree) d (f .unfolds))
   where
-    case : Turned p n k (f .tree) → A (some (word p n recordWord))
+    case : StepResult p n k (f .tree) → A (some (word p n recordWord))
     case (met i j) = subst A j (f .answer)
     case (on i u r a b) = absurd (i e)
 

@@ -11,9 +11,9 @@ use native.Mathlib.Decide.{ℕ-discrete}
 use lib.Dec.{eqb}
 use lib.ListN.{length}
 use borrow.Author.Tests.{eq-eqb, ne-eqb}
-use Rattle.types.specs.declared.Side.{Side}
-use Rattle.types.specs.declared.Side.the-variants.{L, R}
-use Rattle.types.specs.Side.{other, sameSide}
+use Rattle.datatypes.specs.declared.Side.{Side}
+use Rattle.datatypes.specs.declared.Side.the-variants.{L, R}
+use Rattle.datatypes.specs.Side.{other, sameSide}
 use Rattle.sequential.specs.Tree.{Rel, near, here, far, rel, pick}
 use Rattle.spec.specs.Pool.{word, child, keyWord, recordWord}
 use Rattle.tree.specs.Order.{tri-case}
@@ -71,9 +71,9 @@ module _ (p q : List ℕ) (U : ℕ → Type 0) (d : ℕ) (s : Side) (b : ℕ) (t
   )
 
 -- with no node's link redirected (0 is no node) the trees are the same
-pub rep-still : (p q : List ℕ) (U : ℕ → Type 0) → Redirects p q U 0 L 0 → (t : Linked) (a : ℕ) → All U t → Rep p a t → Rep q a t
-rep-still p q U h nil a u r = r
-rep-still p q U h (cell N l r) a u w =
+pub rep-leavesTree : (p q : List ℕ) (U : ℕ → Type 0) → Redirects p q U 0 L 0 → (t : Linked) (a : ℕ) → All U t → Rep p a t → Rep q a t
+rep-leavesTree p q U h nil a u r = r
+rep-leavesTree p q U h (cell N l r) a u w =
     let z = ne-eqb 0 (N .num) (let x = w .0 .within .low in omega arith) in (
       record {
         is = w .0 .is;
@@ -81,8 +81,8 @@ rep-still p q U h (cell N l r) a u w =
         key-is = h .keys (N .num) (u .0) ∙ w .0 .key-is;
         val-is = h .records (N .num) (u .0) ∙ w .0 .val-is;
       },
-      rw (h .links (N .num) L (u .0), z) (rep-still p q U h l _ (u .1) (w .1)),
-      rw (h .links (N .num) R (u .0)) (rep-still p q U h r _ (u .2) (w .2)),
+      rw (h .links (N .num) L (u .0), z) (rep-leavesTree p q U h l _ (u .1) (w .1)),
+      rw (h .links (N .num) R (u .0)) (rep-leavesTree p q U h r _ (u .2) (w .2)),
     )
 
 -- every occurrence of d has the key k

@@ -9,15 +9,15 @@ use mathlib.Core.Path.{_≡_, refl, sym, ap, _∙_, subst}
 use mathlib.Core.Logic.{_≢_, _⊎_, inl, inr, ⊎-elim}
 use mathlib.Core.List.{List, [], _∷_, _++_, append-assoc}
 use mathlib.Core.Option.{Option}
-use Rattle.types.specs.declared.Side.{Side}
-use Rattle.types.specs.declared.Side.the-variants.{L}
+use Rattle.datatypes.specs.declared.Side.{Side}
+use Rattle.datatypes.specs.declared.Side.the-variants.{L}
 use Rattle.spec.specs.Pool.{word, keyWord, standingWord, standingLinked}
 use Rattle.tree.specs.Distinct.{_∈_, in-append, Distinct}
 use Rattle.tree.specs.Thin.{Thin, thin-refl, thin-trans, thin-stays}
 use Rattle.tree.specs.Linked.{Linked, find, path}
 use Rattle.heap.specs.Rep.{Rep, rep-unique}
 use Rattle.readers.specs.Thinner.{thin-members, thin-end, thin-cut, path-once, once-there}
-use Rattle.readers.specs.Graft.{graft, All, all-path, Redirects, rep-still, rep-graft, Keyed, rep-keyed, Passes, apart, through, passes}
+use Rattle.readers.specs.Graft.{graft, All, all-path, Redirects, rep-leavesTree, rep-graft, Keyed, rep-keyed, Passes, apart, through, passes}
 
 -- R2 of trees: t where the lookup is, T the whole tree; P are the nodes that are linked no longer
 abbrev pub Follows : (ℕ → Type 0) → List ℕ → Linked → Linked → ℕ → Type 0
@@ -102,8 +102,8 @@ module _ {p q : List ℕ} {U : ℕ → Type 0} {d : ℕ} {s : Side} {b root : �
   store-finds A A′ more n k seen now f u w =
       let t = f .tree in
       let same : w .tree ≡ t = rep-unique p (w .tree) t n n refl (w .unfolds) (f .unfolds) in
-      let top : w .whole ≡ T = rep-unique p (w .whole) T root root refl (w .rooted) (h .before) in
-      let way : Follows (Unlinked p) seen t T k = rw (same, top) at (w .follows) in
+      let capacity : w .whole ≡ T = rep-unique p (w .whole) T root root refl (w .rooted) (h .before) in
+      let way : Follows (Unlinked p) seen t T k = rw (same, capacity) at (w .follows) in
       let key = word p d keyWord in
       let case = find-after d s key (h .below) t T k seen (Unlinked p) (λ x. x (h .linked)) (rep-keyed p d t n (f .unfolds)) (rep-keyed p d T root (h .before)) way in
       record {
@@ -117,8 +117,8 @@ module _ {p q : List ℕ} {U : ℕ → Type 0} {d : ℕ} {s : Side} {b root : �
       → (w : OnWay p root seen n k) → All U (w .tree) → OnWay q root seen n k
   store-way n k seen gone usable thins w u =
       let t = w .tree in
-      let top : w .whole ≡ T = rep-unique p (w .whole) T root root refl (w .rooted) (h .before) in
-      let way : Follows (Unlinked p) seen t T k = rw top at (w .follows) in
+      let capacity : w .whole ≡ T = rep-unique p (w .whole) T root root refl (w .rooted) (h .before) in
+      let way : Follows (Unlinked p) seen t T k = rw capacity at (w .follows) in
       let key = word p d keyWord in
       let member : (m : ℕ) → m ∈ (seen ++ path t k) → U m = λ m i. ⊎-elim (usable m) (all-path U t k m u) (in-append m seen (path t k) .0 i) in
       record {
@@ -137,23 +137,23 @@ pub record Anew (p q : List ℕ) (U : ℕ → Type 0) (root root′ : ℕ) (T T�
   pub after : Rep q root′ T′
 
 module _ {p q : List ℕ} {U : ℕ → Type 0} {root root′ : ℕ} {T T′ : Linked} (h : Anew p q U root root′ T T′) where
-  pub unfolds-still : (t : Linked) (n : ℕ) → All U t → Rep p n t → Rep q n t
-  unfolds-still t n u r = rep-still p q U (h .words) t n u r
+  pub unfolds-leavesTree : (t : Linked) (n : ℕ) → All U t → Rep p n t → Rep q n t
+  unfolds-leavesTree t n u r = rep-leavesTree p q U (h .words) t n u r
 
   pub anew-finds : (A A′ : Option ℕ → Type 0) → ((o : Option ℕ) → A o → A′ o) → (n k : ℕ) → (f : Finds p A n k) → All U (f .tree) → Finds q A′ n k
-  anew-finds A A′ more n k f u = record { tree = f .tree; unfolds = unfolds-still (f .tree) n u (f .unfolds); answer = more _ (f .answer) }
+  anew-finds A A′ more n k f u = record { tree = f .tree; unfolds = unfolds-leavesTree (f .tree) n u (f .unfolds); answer = more _ (f .answer) }
 
   pub anew-way : (n k : ℕ) (seen : List ℕ) → ((m : ℕ) → U m → Unlinked p m → Unlinked q m) → ((m : ℕ) → m ∈ seen → U m) → Thin (Unlinked q) (path T k) (path T′ k)
       → (w : OnWay p root seen n k) → All U (w .tree) → OnWay q root′ seen n k
   anew-way n k seen gone usable thins w u =
       let t = w .tree in
-      let top : w .whole ≡ T = rep-unique p (w .whole) T root root refl (w .rooted) (h .before) in
-      let way : Follows (Unlinked p) seen t T k = rw top at (w .follows) in
+      let capacity : w .whole ≡ T = rep-unique p (w .whole) T root root refl (w .rooted) (h .before) in
+      let way : Follows (Unlinked p) seen t T k = rw capacity at (w .follows) in
       let member : (m : ℕ) → m ∈ (seen ++ path t k) → U m = λ m i. ⊎-elim (usable m) (all-path U t k m u) (in-append m seen (path t k) .0 i) in
       record {
         tree = t;
         whole = T′;
-        unfolds = unfolds-still t n u (w .unfolds);
+        unfolds = unfolds-leavesTree t n u (w .unfolds);
         rooted = h .after;
         follows = thin-trans (thin-members (λ m i. gone m (member m i)) way) thins;
       }

@@ -11,17 +11,17 @@ use lib.Dec.{eqb}
 use lib.ListN.{length, getD, set, length-set}
 use lib.Seq.{getD-set-same, getD-set-other}
 use borrow.Author.Tests.{eqb-true, eqb-false, eq-eqb, ne-eqb}
-use Rattle.types.specs.declared.Side.{Side}
-use Rattle.types.specs.declared.Reader.{Reader}
-use Rattle.types.specs.declared.Register.{Register}
+use Rattle.datatypes.specs.declared.Side.{Side}
+use Rattle.datatypes.specs.declared.Reader.{Reader}
+use Rattle.datatypes.specs.declared.Register.{Register}
 use Rattle.spec.specs.Pool.{word, setWord, nodes, slots, standingWord, holdersWord, standingFree, standingLinked, standingRetired}
 use Rattle.spec.specs.Register.{State, state, noReader, hasSlot, dropSlot, readingSlots, withReader, withAwaited, withQueue}
 use Rattle.spec.specs.Free.{fillNode, takeFree, takeNode, freeNode, retire, endReading}
-use Rattle.laws.specs.Words.{Node, length-setWord, word-other}
+use Rattle.laws.specs.Words.{InPool, length-setWord, word-other}
 use Rattle.laws.specs.Slots.{drop-same, drop-other, drop-le}
 use Rattle.readers.specs.Marks.{reading-bit, reading-below}
 use Rattle.readers.specs.Words.{node-length, node-high, free-length, free-other, free-standing, free-holders, retire-none, retire-some, marked, marked-length, marked-other, marked-standing, marked-holders, fill-length, fill-other, fill-standing, fill-holders}
-use Rattle.readers.specs.Stock.{Stock, free-stock, take-stock, mark-stock, word-stock, field-stock}
+use Rattle.readers.specs.QueueExact.{QueueExact, free-exact, take-exact, mark-exact, word-exact, field-exact}
 use Rattle.readers.specs.Release.{else-free, retired, freedBelow, end-released}
 
 abbrev pub readingIn : List Reader → ℕ → Bool
@@ -40,8 +40,8 @@ pub record Slots (xs : List Reader) (m : ℕ) : Type 0 where
   pub reads : (s : ℕ) → s < slots → hasSlot m s ≡ true → readingIn xs s ≡ true
 
 pub record Owned (st : State) (l : List ℕ) : Type 0 where
-  pub stock : Stock st l
-  pub good : (n : ℕ) → Node (st .pool) n → Good (st .register .readers) (word (st .pool) n standingWord) (word (st .pool) n holdersWord)
+  pub exact : QueueExact st l
+  pub good : (n : ℕ) → InPool (st .pool) n → Good (st .register .readers) (word (st .pool) n standingWord) (word (st .pool) n holdersWord)
   pub awaited : Slots (st .register .readers) (st .register .awaited)
   pub eight : length (st .register .readers) ≡ slots
 
@@ -62,7 +62,7 @@ module _ (p : List ℕ) (r q : Register) (l : List ℕ) where
   pub own-readers : q .first ≡ r .first → q .last ≡ r .last → q .free ≡ r .free → q .awaited ≡ r .awaited → length (q .readers) ≡ length (r .readers)
       → ((s : ℕ) → s < slots → readingIn (r .readers) s ≡ true → readingIn (q .readers) s ≡ true) → Owned (state p r) l → Owned (state p q) l
   own-readers a b c w e more h = record {
-    stock = field-stock p r q l a b c (h .stock);
+    exact = field-exact p r q l a b c (h .exact);
     good = λ n hn. (let g = h .good n hn in
         record { rank = g .rank; mask = g .mask; holder = g .holder; reads = λ i s u v. more s u (g .reads i s u v) });
     awaited = rw w (record { below = h .awaited .below; reads = λ s u v. more s u (h .awaited .reads s u v) });
@@ -113,10 +113,10 @@ pub own-end : (st : State) (l : List ℕ) (s : ℕ) → Owned st l → Owned (en
 unfolding withReader withAwaited
 own-end st l s h =
     let p = st .pool in
-    let d = end-released st s l (h .stock) in
+    let d = end-released st s l (h .exact) in
     let xs = st .register .readers in
     record {
-      stock = d .stock;
+      exact = d .exact;
       good = λ n hn. (
           let k = node-length (endReading st s .pool) p n (sym (d .size)) hn in
           let u : n < nodes p + 1 = (let a = node-high p n k in omega arith) in
@@ -127,12 +127,12 @@ own-end st l s h =
     }
 
 -- Retire and take.
-pub own-free : (st : State) (l : List ℕ) (n : ℕ) → Owned st l → Node (st .pool) n → word (st .pool) n standingWord ≢ standingFree → Owned (freeNode st n) (l ++ n ∷ [])
+pub own-free : (st : State) (l : List ℕ) (n : ℕ) → Owned st l → InPool (st .pool) n → word (st .pool) n standingWord ≢ standingFree → Owned (freeNode st n) (l ++ n ∷ [])
 own-free st l n h hn d =
     let p = st .pool in
     let e = else-free (st .register) st n (record { root = refl; held = refl; readers = refl; awaited = refl; write = refl }) in
     record {
-      stock = free-stock st l n (h .stock) hn d;
+      exact = free-exact st l n (h .exact) hn d;
       good = λ m hm. rw (e .readers) (elim (ℕ-discrete n m) [
         | yes i ↦ rw (← i, free-standing st n hn, free-holders st n hn) (good-free (st .register .readers))
         | no c ↦ rw (free-other st n m standingWord c (omega arith), free-other st n m holdersWord c (omega arith))
@@ -143,12 +143,12 @@ own-free st l n h hn d =
     }
 
 -- two words of a node that stands linked or retired
-pub own-mark : (st : State) (l : List ℕ) (n a b : ℕ) → Owned st l → Node (st .pool) n → word (st .pool) n standingWord ≢ standingFree → a ≢ standingFree
+pub own-mark : (st : State) (l : List ℕ) (n a b : ℕ) → Owned st l → InPool (st .pool) n → word (st .pool) n standingWord ≢ standingFree → a ≢ standingFree
     → Good (st .register .readers) a b → Owned (state (marked (st .pool) n a b) (st .register)) l
 own-mark st l n a b h hn d e g =
     let p = st .pool in
     record {
-      stock = mark-stock st l n a b (h .stock) hn d e;
+      exact = mark-exact st l n a b (h .exact) hn d e;
       good = λ m hm. elim (ℕ-discrete n m) [
         | yes i ↦ rw (← i, marked-standing p n a b hn, marked-holders p n a b hn) g
         | no c ↦ rw (marked-other p n a b m standingWord (omega arith) c, marked-other p n a b m holdersWord (omega arith) c)
@@ -162,7 +162,7 @@ own-mark st l n a b h hn d e g =
 abbrev pub freedNow : Register → ℕ → List ℕ
 freedNow r n = cond (eqb (readingSlots r) 0) (n ∷ []) []
 
-pub own-retire : (st : State) (l : List ℕ) (n : ℕ) → Owned st l → Node (st .pool) n → word (st .pool) n standingWord ≢ standingFree → Owned (retire st n) (l ++ freedNow (st .register) n)
+pub own-retire : (st : State) (l : List ℕ) (n : ℕ) → Owned st l → InPool (st .pool) n → word (st .pool) n standingWord ≢ standingFree → Owned (retire st n) (l ++ freedNow (st .register) n)
 own-retire st l n h hn d = elim (ℕ-discrete (readingSlots (st .register)) 0) [
   | yes e ↦ rw (retire-none st n e, eq-eqb (readingSlots (st .register)) 0 e) (own-free st l n h hn d)
   | no c ↦ rw (retire-some st n c, ne-eqb (readingSlots (st .register)) 0 c, append-nil l)
@@ -174,11 +174,11 @@ unfolding takeNode takeFree withQueue
 own-take st n l k v s x y c h =
     let p = st .pool in
     let a = st .register .first in
-    let first : a ≡ n = h .stock .queued .chain .0 in
-    let ha : Node p a = rw first (h .stock .standing n .0 (inl refl) .0) in
+    let first : a ≡ n = h .exact .queued .chain .0 in
+    let ha : InPool p a = rw first (h .exact .standing n .0 (inl refl) .0) in
     let q = fillNode p a k v s x y c in
     record {
-      stock = take-stock st n l k v s x y c (h .stock);
+      exact = take-exact st n l k v s x y c (h .exact);
       good = λ m hm. elim (ℕ-discrete a m) [
         | yes i ↦ rw (← i, fill-standing p a k v s x y c ha, fill-holders p a k v s x y c ha) (good-linked (st .register .readers))
         | no d ↦ rw (fill-other p a k v s x y c m standingWord (omega arith) d, fill-other p a k v s x y c m holdersWord (omega arith) d)
@@ -193,7 +193,7 @@ pub own-word : (st : State) (l : List ℕ) (n f v : ℕ) → f < standingWord �
 own-word st l n f v u h =
     let p = st .pool in
     record {
-      stock = word-stock st l n f v u (h .stock);
+      exact = word-exact st l n f v u (h .exact);
       good = λ m hm. rw (word-other p n m f standingWord v (omega arith) (omega arith) (inr (omega arith)), word-other p n m f holdersWord v (omega arith) (omega arith) (inr (omega arith)))
           (h .good m (node-length (setWord p n f v) p m (sym (length-setWord p n f v)) hm));
       awaited = h .awaited;

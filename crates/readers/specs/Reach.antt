@@ -8,32 +8,32 @@ use mathlib.Core.List.{List}
 use mathlib.Core.Logic.{_≢_, _⊎_, inl, inr, ⊎-elim}
 use native.Mathlib.Omega.{arith}
 use borrow.Author.Tests.{eq-eqb, ne-eqb}
-use Rattle.types.specs.declared.Side.{Side}
-use Rattle.types.specs.declared.Side.the-variants.{L, R}
+use Rattle.datatypes.specs.declared.Side.{Side}
+use Rattle.datatypes.specs.declared.Side.the-variants.{L, R}
 use Rattle.spec.specs.Pool.{word, child, linkWord, nodes, slots, standingWord, holdersWord, standingFree, standingLinked, standingRetired}
 use Rattle.spec.specs.Register.{State, hasSlot, dropSlot}
 use Rattle.spec.specs.Free.{endReading}
-use Rattle.laws.specs.Words.{Node}
+use Rattle.laws.specs.Words.{InPool}
 use Rattle.laws.specs.Slots.{drop-same, drop-other}
 use Rattle.promise.specs.Demands.{Leads, arrived, onward}
 use Rattle.readers.specs.Marks.{no-bit}
 use Rattle.readers.specs.Words.{node-high, node-length, Whole, whole-length, stands-node}
-use Rattle.readers.specs.Stock.{Stock}
+use Rattle.readers.specs.QueueExact.{QueueExact}
 use Rattle.readers.specs.Release.{retired, freedBy, end-released}
 
-abbrev pub Stands : List ℕ → ℕ → ℕ → Type 0
-Stands p n a = word p n standingWord ≡ a
+abbrev pub HasStanding : List ℕ → ℕ → ℕ → Type 0
+HasStanding p n a = word p n standingWord ≡ a
 
 -- node m is linked, or retired with the bit of slot s
 abbrev pub Kept : List ℕ → ℕ → ℕ → Type 0
-Kept p s m = Stands p m standingLinked ⊎ (Stands p m standingRetired × (hasSlot (word p m holdersWord) s ≡ true))
+Kept p s m = HasStanding p m standingLinked ⊎ (HasStanding p m standingRetired × (hasSlot (word p m holdersWord) s ≡ true))
 
 abbrev pub LinkedClosed : List ℕ → Type 0
-LinkedClosed p = (n : ℕ) (z : Side) → Stands p n standingLinked → child p z n ≢ 0 → Stands p (child p z n) standingLinked
+LinkedClosed p = (n : ℕ) (z : Side) → HasStanding p n standingLinked → child p z n ≢ 0 → HasStanding p (child p z n) standingLinked
 
 pub record Closed (p : List ℕ) : Type 0 where
   pub linked : LinkedClosed p
-  pub retired : (n : ℕ) (z : Side) → Stands p n standingRetired → child p z n ≢ 0 → (s : ℕ) → s < slots → hasSlot (word p n holdersWord) s ≡ true → Kept p s (child p z n)
+  pub retired : (n : ℕ) (z : Side) → HasStanding p n standingRetired → child p z n ≢ 0 → (s : ℕ) → s < slots → hasSlot (word p n holdersWord) s ≡ true → Kept p s (child p z n)
 
 -- a kept node does not stand free
 pub kept-stands : (p : List ℕ) (s m : ℕ) → Kept p s m → word p m standingWord ≢ standingFree
@@ -54,14 +54,14 @@ kept-reach p s n m u c k (arrived a d) = k
 kept-reach p s n m u c k (onward a b z d l) = kept-reach p s (child p z n) m u c (kept-child p s n z u c k (leads-there p (child p z n) m l)) l
 
 -- The end of slot s's reading: for other slots every kept node stays kept, and children stay so.
-module _ (st : State) (s : ℕ) (l : List ℕ) (w : Whole (st .pool)) (h : Stock st l) where
+module _ (st : State) (s : ℕ) (l : List ℕ) (w : Whole (st .pool)) (h : QueueExact st l) where
   abbrev before : List ℕ
   before = st .pool
 
   abbrev after : List ℕ
   after = endReading st s .pool
 
-  within : (n : ℕ) → Node before n → n < nodes before + 1
+  within : (n : ℕ) → InPool before n → n < nodes before + 1
   within n hn = let a = node-high before n hn in omega arith
 
   after-child : (n : ℕ) (z : Side) → child after z n ≡ child before z n
@@ -69,34 +69,34 @@ module _ (st : State) (s : ℕ) (l : List ℕ) (w : Whole (st .pool)) (h : Stock
   after-child n R = end-released st s l h .words n (linkWord R) (omega arith)
 
   -- linked nodes stay, and no other comes
-  pub end-linked : (n : ℕ) → Stands before n standingLinked → Stands after n standingLinked
+  pub end-linked : (n : ℕ) → HasStanding before n standingLinked → HasStanding after n standingLinked
   end-linked n e =
       let hn = stands-node before n standingWord w (omega arith) (omega arith) in
       end-released st s l h .standing n (within n hn) ∙ rw e
 
-  after-node : (n : ℕ) → word after n standingWord ≢ standingFree → Node before n
+  after-node : (n : ℕ) → word after n standingWord ≢ standingFree → InPool before n
   after-node n d =
       let e = end-released st s l h .size in
       node-length after before n (sym e) (stands-node after n standingWord (whole-length before after e w) (omega arith) d)
 
-  pub linked-end : (n : ℕ) → Stands after n standingLinked → Stands before n standingLinked
+  pub linked-end : (n : ℕ) → HasStanding after n standingLinked → HasStanding before n standingLinked
   linked-end n e =
       let hn = after-node n (omega arith) in
       go (freedBy before s n) (sym (end-released st s l h .standing n (within n hn)) ∙ e)
     where
-      go : (b : Bool) → cond b standingFree (word before n standingWord) ≡ standingLinked → Stands before n standingLinked
+      go : (b : Bool) → cond b standingFree (word before n standingWord) ≡ standingLinked → HasStanding before n standingLinked
       go true e = absurd (omega arith)
       go false e = e
 
   -- a retired node was retired, and each of its holders but s is left
-  retired-end : (n : ℕ) → Stands after n standingRetired → Stands before n standingRetired × (word after n holdersWord ≡ dropSlot (word before n holdersWord) s)
+  retired-end : (n : ℕ) → HasStanding after n standingRetired → HasStanding before n standingRetired × (word after n holdersWord ≡ dropSlot (word before n holdersWord) s)
   retired-end n e =
       let hn = after-node n (omega arith) in
       let r = end-released st s l h in
       let i = go (freedBy before s n) (sym (r .standing n (within n hn)) ∙ e) in
       (i, r .holders n (within n hn) ∙ rw (eq-eqb (word before n standingWord) standingRetired i))
     where
-      go : (b : Bool) → cond b standingFree (word before n standingWord) ≡ standingRetired → Stands before n standingRetired
+      go : (b : Bool) → cond b standingFree (word before n standingWord) ≡ standingRetired → HasStanding before n standingRetired
       go true e = absurd (omega arith)
       go false e = e
 
@@ -125,23 +125,23 @@ module _ (st : State) (s : ℕ) (l : List ℕ) (w : Whole (st .pool)) (h : Stock
   }
 
 -- A store. What becomes of a node from one pool to the next, with W the slots that are reading.
-pub data Fate (p q : List ℕ) (W : ℕ → Type 0) (n : ℕ) : Type 0 where
+pub data NodeChange (p q : List ℕ) (W : ℕ → Type 0) (n : ℕ) : Type 0 where
   -- it was free or linked and is linked now
-  comes : Stands p n standingFree ⊎ Stands p n standingLinked → Stands q n standingLinked → Fate p q W n
+  comes : HasStanding p n standingFree ⊎ HasStanding p n standingLinked → HasStanding q n standingLinked → NodeChange p q W n
   -- it was linked and is retired with all that are reading, its links as they were
-  leaves : Stands p n standingLinked → Stands q n standingRetired → ((s : ℕ) → s < slots → W s → hasSlot (word q n holdersWord) s ≡ true)
-      → ((z : Side) → child q z n ≡ child p z n) → Fate p q W n
+  leaves : HasStanding p n standingLinked → HasStanding q n standingRetired → ((s : ℕ) → s < slots → W s → hasSlot (word q n holdersWord) s ≡ true)
+      → ((z : Side) → child q z n ≡ child p z n) → NodeChange p q W n
   -- it was retired, and no word of it that matters has changed
-  rests : Stands p n standingRetired → Stands q n standingRetired → word q n holdersWord ≡ word p n holdersWord → ((z : Side) → child q z n ≡ child p z n) → Fate p q W n
+  rests : HasStanding p n standingRetired → HasStanding q n standingRetired → word q n holdersWord ≡ word p n holdersWord → ((z : Side) → child q z n ≡ child p z n) → NodeChange p q W n
   -- it is free; if it was linked none is reading
-  goes : word p n standingWord ≢ standingRetired → Stands q n standingFree → (Stands p n standingLinked → (s : ℕ) → s < slots → ¬ (W s)) → Fate p q W n
+  goes : word p n standingWord ≢ standingRetired → HasStanding q n standingFree → (HasStanding p n standingLinked → (s : ℕ) → s < slots → ¬ (W s)) → NodeChange p q W n
 
-module _ (p q : List ℕ) (W : ℕ → Type 0) (fate : (n : ℕ) → Fate p q W n) where
+module _ (p q : List ℕ) (W : ℕ → Type 0) (change : (n : ℕ) → NodeChange p q W n) where
   -- for a reading slot every kept node stays kept
   pub kept-store : (s m : ℕ) → s < slots → W s → Kept p s m → Kept q s m
-  kept-store s m u r k = go (fate m) k
+  kept-store s m u r k = go (change m) k
     where
-      go : Fate p q W m → Kept p s m → Kept q s m
+      go : NodeChange p q W m → Kept p s m → Kept q s m
       go (comes a e) k = inl e
       go (leaves a e bits same) k = inr (e, bits s u r)
       go (rests a e same links) (inl i) = absurd (omega arith)
@@ -151,19 +151,19 @@ module _ (p q : List ℕ) (W : ℕ → Type 0) (fate : (n : ℕ) → Fate p q W 
 
   -- a node that was retired is not linked again
   pub not-again : (m : ℕ) → word p m standingWord ≢ standingFree → word p m standingWord ≢ standingLinked → word q m standingWord ≢ standingLinked
-  not-again m a b = go (fate m)
+  not-again m a b = go (change m)
     where
-      go : Fate p q W m → word q m standingWord ≢ standingLinked
+      go : NodeChange p q W m → word q m standingWord ≢ standingLinked
       go (comes c e) z = ⊎-elim a b c
       go (leaves c e bits same) z = absurd (b c)
       go (rests c e same links) z = omega arith
       go (goes c e none) z = omega arith
 
   -- children stay kept, if those of linked nodes are linked
-  pub closed-store : Closed p → LinkedClosed q → ((n s : ℕ) → Stands q n standingRetired → s < slots → hasSlot (word q n holdersWord) s ≡ true → W s) → Closed q
-  closed-store c linked reads = record { linked = linked; retired = λ n z e d s u i. go n z (fate n) e d s u i }
+  pub closed-store : Closed p → LinkedClosed q → ((n s : ℕ) → HasStanding q n standingRetired → s < slots → hasSlot (word q n holdersWord) s ≡ true → W s) → Closed q
+  closed-store c linked reads = record { linked = linked; retired = λ n z e d s u i. go n z (change n) e d s u i }
     where
-      go : (n : ℕ) (z : Side) → Fate p q W n → Stands q n standingRetired → child q z n ≢ 0 → (s : ℕ) → s < slots → hasSlot (word q n holdersWord) s ≡ true → Kept q s (child q z n)
+      go : (n : ℕ) (z : Side) → NodeChange p q W n → HasStanding q n standingRetired → child q z n ≢ 0 → (s : ℕ) → s < slots → hasSlot (word q n holdersWord) s ≡ true → Kept q s (child q z n)
       go n z (comes a b) e d s u i = absurd (omega arith)
       go n z (leaves a b bits same) e d s u i =
           rw (same z) (kept-store s (child p z n) u (reads n s e u i) (inl (c .linked n z a (λ x. d (same z ∙ x)))))

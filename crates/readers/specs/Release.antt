@@ -10,15 +10,15 @@ use native.Mathlib.Decide.{ℕ-discrete}
 use lib.Dec.{eqb}
 use lib.ListN.{length}
 use borrow.Author.Tests.{eqb-true}
-use Rattle.types.specs.declared.Register.{Register}
+use Rattle.datatypes.specs.declared.Register.{Register}
 use Rattle.spec.specs.Pool.{nodeWords, word, setWord, nodes, standingWord, holdersWord, standingFree, standingRetired}
 use Rattle.spec.specs.Register.{State, state, noReader, withQueue, withReader, withAwaited, dropSlot}
 use Rattle.spec.specs.Free.{freeNode, release, endReading}
-use Rattle.laws.specs.Words.{Node, length-setWord, word-none, word-same, word-other}
+use Rattle.laws.specs.Words.{InPool, length-setWord, word-none, word-same, word-other}
 use Rattle.laws.specs.Queue.{chain-word}
 use Rattle.readers.specs.Marks.{walk}
 use Rattle.readers.specs.Words.{node-length, node-in, free-length, free-words, free-other, free-standing, free-holders, free-register}
-use Rattle.readers.specs.Stock.{Stock, free-stock, pool-stock, field-stock}
+use Rattle.readers.specs.QueueExact.{QueueExact, free-exact, pool-exact, field-exact}
 
 -- two registers equal but for the queue
 pub record SameElse (r q : Register) : Type 0 where
@@ -69,7 +69,7 @@ pub record Released (old : State) (s : ℕ) (l : List ℕ) (i : ℕ) (st : State
   pub holders : (m : ℕ) → m < i → word (st .pool) m holdersWord ≡ holdersAfter (old .pool) s m
   pub standing-on : (m : ℕ) → i ≤ m → word (st .pool) m standingWord ≡ word (old .pool) m standingWord
   pub holders-on : (m : ℕ) → i ≤ m → word (st .pool) m holdersWord ≡ word (old .pool) m holdersWord
-  pub stock : Stock st (l ++ freedBelow (old .pool) s i)
+  pub exact : QueueExact st (l ++ freedBelow (old .pool) s i)
   pub else : SameElse (old .register) (st .register)
 
 module _ (old : State) (s : ℕ) (l : List ℕ) where
@@ -88,11 +88,11 @@ module _ (old : State) (s : ℕ) (l : List ℕ) where
     holders = λ m u. elim (ℕ-discrete m i) [ yes d ↦ rw (d, e) (h .holders-on i (omega arith)) | no d ↦ h .holders m (omega arith) ];
     standing-on = λ m u. h .standing-on m (omega arith);
     holders-on = λ m u. h .holders-on m (omega arith);
-    stock = rw e (h .stock);
+    exact = rw e (h .exact);
     else = h .else;
   }
 
-  lessened : (i : ℕ) (st : State) → Node p i → retired p i ≡ true → eqb (dropSlot (word p i holdersWord) s) 0 ≡ false → Released old s l i st
+  lessened : (i : ℕ) (st : State) → InPool p i → retired p i ≡ true → eqb (dropSlot (word p i holdersWord) s) 0 ≡ false → Released old s l i st
       → Released old s l (suc i) (state (setWord (st .pool) i holdersWord (dropSlot (word p i holdersWord) s)) (st .register))
   lessened i st hi e z h =
       let q = st .pool in
@@ -111,14 +111,14 @@ module _ (old : State) (s : ℕ) (l : List ℕ) where
         ];
         standing-on = λ m u. same m standingWord (omega arith) (inr (omega arith)) ∙ h .standing-on m (omega arith);
         holders-on = λ m u. same m holdersWord (omega arith) (inl (omega arith)) ∙ h .holders-on m (omega arith);
-        stock = rw (e, z) (pool-stock q (setWord q i holdersWord d) (st .register) (l ++ freedBelow p s i) (length-setWord q i holdersWord d)
-            (chain-word q i holdersWord d (st .register .first) (l ++ freedBelow p s i) (omega arith) (h .stock .queued .chain))
+        exact = rw (e, z) (pool-exact q (setWord q i holdersWord d) (st .register) (l ++ freedBelow p s i) (length-setWord q i holdersWord d)
+            (chain-word q i holdersWord d (st .register .first) (l ++ freedBelow p s i) (omega arith) (h .exact .queued .chain))
             (λ m hm. rw (same m standingWord (omega arith) (inr (omega arith))) (λ x. x, λ x. x))
-            (h .stock));
+            (h .exact));
         else = h .else;
       }
 
-  let-go : (i : ℕ) (st : State) → Node p i → retired p i ≡ true → eqb (dropSlot (word p i holdersWord) s) 0 ≡ true → Released old s l i st
+  let-go : (i : ℕ) (st : State) → InPool p i → retired p i ≡ true → eqb (dropSlot (word p i holdersWord) s) 0 ≡ true → Released old s l i st
       → Released old s l (suc i) (freeNode st i)
   let-go i st hi e z h =
       let q = st .pool in
@@ -137,11 +137,11 @@ module _ (old : State) (s : ℕ) (l : List ℕ) where
         ];
         standing-on = λ m u. free-other st i m standingWord (omega arith) (omega arith) ∙ h .standing-on m (omega arith);
         holders-on = λ m u. free-other st i m holdersWord (omega arith) (omega arith) ∙ h .holders-on m (omega arith);
-        stock = rw (e, z, ← append-assoc l (freedBelow p s i) (i ∷ [])) (free-stock st (l ++ freedBelow p s i) i (h .stock) hq (omega arith));
+        exact = rw (e, z, ← append-assoc l (freedBelow p s i) (i ∷ [])) (free-exact st (l ++ freedBelow p s i) i (h .exact) hq (omega arith));
         else = else-free (old .register) st i (h .else);
       }
 
-  start : Stock old l → Released old s l 1 old
+  start : QueueExact old l → Released old s l 1 old
   start h = kept 0 old (rw (word-none (old .pool) standingWord)) record {
     size = refl;
     words = λ m f u. refl;
@@ -149,11 +149,11 @@ module _ (old : State) (s : ℕ) (l : List ℕ) where
     holders = λ m u. absurd (omega arith);
     standing-on = λ m u. refl;
     holders-on = λ m u. refl;
-    stock = rw (append-nil l) h;
+    exact = rw (append-nil l) h;
     else = else-refl (old .register);
   }
 
-  step : (i : ℕ) (st : State) → Node p i → Released old s l i st → Released old s l (suc i) (release s st i)
+  step : (i : ℕ) (st : State) → InPool p i → Released old s l i st → Released old s l (suc i) (release s st i)
   unfolding release
   step i st hi h = rw (h .standing-on i (omega arith), h .holders-on i (omega arith)) (go (retired p i) refl (eqb (dropSlot (word p i holdersWord) s) 0) refl)
     where
@@ -169,10 +169,10 @@ ended st s =
     let r = withReader (st .register) s noReader in
     state (st .pool) (withAwaited r (dropSlot (r .awaited) s))
 
-pub end-released : (st : State) (s : ℕ) (l : List ℕ) → Stock st l → Released (ended st s) s l (nodes (st .pool) + 1) (endReading st s)
+pub end-released : (st : State) (s : ℕ) (l : List ℕ) → QueueExact st l → Released (ended st s) s l (nodes (st .pool) + 1) (endReading st s)
 unfolding endReading withReader withAwaited
 end-released st s l h =
     let old = ended st s in
     walk (release s) (Released old s l) 1 (nodes (st .pool) + 1) old (omega arith)
     (λ i a u v r. rw (add-one i) (step old s l i a (node-in (st .pool) i u (omega arith)) r))
-    (start old s l (field-stock (st .pool) (st .register) (old .register) l refl refl refl h))
+    (start old s l (field-exact (st .pool) (st .register) (old .register) l refl refl refl h))

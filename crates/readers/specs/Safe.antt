@@ -9,9 +9,9 @@ use native.Mathlib.Omega.{arith}
 use native.Mathlib.Decide.{ℕ-discrete}
 use lib.ListN.{length, getD}
 use borrow.Author.Tests.{eq-eqb, ne-eqb}
-use Rattle.types.specs.declared.Link.{Link}
-use Rattle.types.specs.declared.Write.{Write}
-use Rattle.types.specs.declared.Reader.{Reader}
+use Rattle.datatypes.specs.declared.Link.{Link}
+use Rattle.datatypes.specs.declared.Write.{Write}
+use Rattle.datatypes.specs.declared.Reader.{Reader}
 use Rattle.spec.specs.Pool.{nodes, slots, standingWord, standingLinked}
 use Rattle.spec.specs.Register.{State, state, noReader, readerOf, withReader, withAwaited, withWrite}
 use Rattle.spec.specs.Free.{endReading}
@@ -21,8 +21,8 @@ use Rattle.readers.specs.Marks.{reader-same, reader-other}
 use Rattle.readers.specs.Words.{Whole, whole-length, stands-node}
 use Rattle.readers.specs.Release.{ended, end-released}
 use Rattle.readers.specs.Owned.{readingIn, Owned, own-reader, own-end}
-use Rattle.readers.specs.Reach.{Stands, Kept, LinkedClosed, Closed, kept-reach, leads-there, kept-end, closed-end, end-linked, kept-store, closed-store}
-use Rattle.readers.specs.Fates.{Reading}
+use Rattle.readers.specs.Reach.{HasStanding, Kept, LinkedClosed, Closed, kept-reach, leads-there, kept-end, closed-end, end-linked, kept-store, closed-store}
+use Rattle.readers.specs.NodeChanges.{Reading}
 use Rattle.readers.specs.Stored.{own-fields}
 use Rattle.readers.specs.Turns.{Turn}
 
@@ -31,7 +31,7 @@ pub record Safe (st : State) : Type 0 where
   pub queue : List ℕ
   pub owned : Owned st queue
   pub closed : Closed (st .pool)
-  pub root : st .register .root ≢ 0 → Stands (st .pool) (st .register .root) standingLinked
+  pub root : st .register .root ≢ 0 → HasStanding (st .pool) (st .register .root) standingLinked
   pub at : (s : ℕ) → s < slots → reading st s ≡ true → readerOf (st .register) s .node ≢ 0 → Kept (st .pool) s (readerOf (st .register) s .node)
 
 -- what a slot reaches is kept for it
@@ -56,8 +56,8 @@ safe-write st w h = record {
   at = h .at;
 }
 
-root-reader : (st : State) (s : ℕ) (x : Reader) → (st .register .root ≢ 0 → Stands (st .pool) (st .register .root) standingLinked)
-    → withReader (st .register) s x .root ≢ 0 → Stands (st .pool) (withReader (st .register) s x .root) standingLinked
+root-reader : (st : State) (s : ℕ) (x : Reader) → (st .register .root ≢ 0 → HasStanding (st .pool) (st .register .root) standingLinked)
+    → withReader (st .register) s x .root ≢ 0 → HasStanding (st .pool) (withReader (st .register) s x .root) standingLinked
 unfolding withReader
 root-reader st s x h = h
 
@@ -90,10 +90,10 @@ unfolding withAwaited
 ended-own st s u = reader-same (st .register) s noReader u
 
 pub end-reader : (st : State) (s t : ℕ) → Safe st → s ≢ t → readerOf (endReading st s .register) t ≡ readerOf (st .register) t
-end-reader st s t h d = ap (λ xs. getD xs t noReader) (end-released st s (h .queue) (h .owned .stock) .else .readers) ∙ ended-reader st s t d
+end-reader st s t h d = ap (λ xs. getD xs t noReader) (end-released st s (h .queue) (h .owned .exact) .else .readers) ∙ ended-reader st s t d
 
 pub end-own : (st : State) (s : ℕ) → s < slots → Safe st → readerOf (endReading st s .register) s ≡ noReader
-end-own st s u h = ap (λ xs. getD xs s noReader) (end-released st s (h .queue) (h .owned .stock) .else .readers) ∙ ended-own st s (rw (h .owned .eight) u)
+end-own st s u h = ap (λ xs. getD xs s noReader) (end-released st s (h .queue) (h .owned .exact) .else .readers) ∙ ended-own st s (rw (h .owned .eight) u)
 
 ended-root : (st : State) (s : ℕ) → ended st s .register .root ≡ st .register .root
 unfolding withAwaited withReader
@@ -103,35 +103,35 @@ ended-root st s = refl
 pub safe-end : (st : State) (s : ℕ) → s < slots → Safe st → Safe (endReading st s)
 safe-end st s u h =
     let q = h .queue in
-    let stock = h .owned .stock in
-    let d = end-released st s q stock in
+    let exact = h .owned .exact in
+    let d = end-released st s q exact in
     let same : endReading st s .register .root ≡ st .register .root = d .else .root ∙ ended-root st s in
     record {
       whole = whole-length (st .pool) (endReading st s .pool) (d .size) (h .whole);
       queue = _;
       owned = own-end st q s (h .owned);
-      closed = closed-end st s q (h .whole) stock (h .closed);
-      root = λ z. rw same (end-linked st s q (h .whole) stock (st .register .root) (h .root (λ i. z (same ∙ i))));
+      closed = closed-end st s q (h .whole) exact (h .closed);
+      root = λ z. rw same (end-linked st s q (h .whole) exact (st .register .root) (h .root (λ i. z (same ∙ i))));
       at = λ t v i z. elim (ℕ-discrete s t) [
         | yes j ↦ absurd (false≢true (sym (ap (λ y. y .reading) (end-own st s u h)) ∙ subst (λ y. readerOf (endReading st s .register) y .reading ≡ true) (sym j) i))
         | no j ↦ (let o = end-reader st s t h j in
             subst (λ y. Kept (endReading st s .pool) t (y .node)) (sym o)
-            (kept-end st s q (h .whole) stock t (readerOf (st .register) t .node) j (h .at t v (sym (ap (λ y. y .reading) o) ∙ i) (λ x. z (ap (λ y. y .node) o ∙ x)))))
+            (kept-end st s q (h .whole) exact t (readerOf (st .register) t .node) j (h .at t v (sym (ap (λ y. y .reading) o) ∙ i) (λ x. z (ap (λ y. y .node) o ∙ x)))))
       ];
     }
 
 -- a turn of the writer
 pub safe-turn : (st after : State) (came gone : List ℕ) (l : Link) (v : ℕ) → Safe st → Turn st after came gone l v → LinkedClosed (after .pool)
-    → (after .register .root ≢ 0 → Stands (after .pool) (after .register .root) standingLinked) → Safe after
+    → (after .register .root ≢ 0 → HasStanding (after .pool) (after .register .root) standingLinked) → Safe after
 safe-turn st after came gone l v h t linked root = record {
   whole = whole-length (st .pool) (after .pool) (t .size) (h .whole);
   queue = t .queue;
   owned = t .owned;
-  closed = closed-store (st .pool) (after .pool) (Reading (st .register)) (t .fate) (h .closed) linked
+  closed = closed-store (st .pool) (after .pool) (Reading (st .register)) (t .change) (h .closed) linked
       (λ n s e u i. subst (λ xs. readingIn xs s ≡ true) (t .readers) (t .owned .good n (stands-node (after .pool) n standingWord (whole-length (st .pool) (after .pool) (t .size) (h .whole)) (omega arith) (omega arith)) .reads e s u i));
   root = root;
   at = λ s u i d. (let o : readerOf (after .register) s ≡ readerOf (st .register) s = ap (λ xs. getD xs s noReader) (t .readers) in
       subst (λ y. Kept (after .pool) s (y .node)) (sym o)
-      (kept-store (st .pool) (after .pool) (Reading (st .register)) (t .fate) s (readerOf (st .register) s .node) u (sym (ap (λ y. y .reading) o) ∙ i)
+      (kept-store (st .pool) (after .pool) (Reading (st .register)) (t .change) s (readerOf (st .register) s .node) u (sym (ap (λ y. y .reading) o) ∙ i)
       (h .at s u (sym (ap (λ y. y .reading) o) ∙ i) (λ x. d (ap (λ y. y .node) o ∙ x)))));
 }

@@ -3,23 +3,23 @@
 use Prim.Native.Nat.{ℕ}
 use mathlib.Core.Path.{_≡_, refl, _∙_}
 use mathlib.Core.List.{List, [], _∷_}
-use Rattle.types.specs.declared.Side.{Side}
-use Rattle.types.specs.declared.Side.the-variants.{L, R}
-use Rattle.types.specs.declared.Link.{Link}
-use Rattle.types.specs.declared.Link.the-variants.{Root, Left, Right}
-use Rattle.types.specs.declared.Write.{Write}
-use Rattle.types.specs.Side.{other, linkAt}
+use Rattle.datatypes.specs.declared.Side.{Side}
+use Rattle.datatypes.specs.declared.Side.the-variants.{L, R}
+use Rattle.datatypes.specs.declared.Link.{Link}
+use Rattle.datatypes.specs.declared.Link.the-variants.{Root, Left, Right}
+use Rattle.datatypes.specs.declared.Write.{Write}
+use Rattle.datatypes.specs.Side.{other, linkAt}
 use Rattle.spec.specs.Pool.{redColour, standingLinked}
 use Rattle.spec.specs.Register.{State, state, setLink, withRoot, withQueue, withAwaited, withWrite}
 use Rattle.spec.specs.Free.{takeFree, takeNode}
 use Rattle.spec.specs.Search.{pathTo}
-use Rattle.spec.specs.Plan.{insertClimb, paintRise}
+use Rattle.spec.specs.Plan.{fixupAfterInsert, paintInsertFixup}
 use Rattle.spec.specs.Turn.{oneMore, endInsert, insertStore}
 use Rattle.readers.specs.Words.{Whole}
 use Rattle.readers.specs.Owned.{Slots, Owned}
-use Rattle.readers.specs.Reach.{Stands}
+use Rattle.readers.specs.Reach.{HasStanding}
 use Rattle.readers.specs.Stored.{OwnerLinked, Stored, own-fields, taking-stored}
-use Rattle.readers.specs.Tints.{Recoloured, recoloured-trans, recoloured-pool, recoloured-more, recoloured-insert, tinted-rise, stored-recoloured}
+use Rattle.readers.specs.ColourWork.{Recoloured, recoloured-trans, recoloured-pool, recoloured-more, recoloured-insert, coloursChange-insertFixup, stored-recoloured}
 use Rattle.readers.specs.Turns.{Turn, turn-none}
 
 -- a turn, and the awaited slots after it
@@ -27,7 +27,7 @@ pub record Step (st after : State) (came gone : List ℕ) (l : Link) (v m : ℕ)
   pub turn : Turn st after came gone l v
   pub awaited : after .register .awaited ≡ m
 
-pub owner-at : (p : List ℕ) (s : Side) (n : ℕ) → Stands p n standingLinked → OwnerLinked p (linkAt s n)
+pub owner-at : (p : List ℕ) (s : Side) (n : ℕ) → HasStanding p n standingLinked → OwnerLinked p (linkAt s n)
 owner-at p L n e = e
 owner-at p R n e = e
 
@@ -68,13 +68,13 @@ module _ (st : State) (n : ℕ) (q : List ℕ) (w : Whole (st .pool)) (h : Owned
   pub insert-step : (l : Link) (k v : ℕ) → OwnerLinked (st .pool) l → Step st (insertStore st l k v .after) (n ∷ []) [] l first (st .register .awaited)
   unfolding insertStore
   insert-step l k v o =
-      let c = insertClimb st k l in
+      let c = fixupAfterInsert st k l in
       let path = pathTo (st .pool) (st .register .root) k l in
       let base = setLink (takeNode st k v L 0 0 redColour) l first in
       let linked = oneMore base in
-      let coloured = state (paintRise (c .levels) path (linked .pool)) (linked .register) in
+      let coloured = state (paintInsertFixup (c .levels) path (linked .pool)) (linked .register) in
       let tint : Recoloured base (endInsert (c .ending) coloured) =
-      recoloured-trans (recoloured-more base) (recoloured-trans (recoloured-pool linked (paintRise (c .levels) path (linked .pool)) (tinted-rise (c .levels) path (linked .pool))) (recoloured-insert (c .ending) coloured)) in
+      recoloured-trans (recoloured-more base) (recoloured-trans (recoloured-pool linked (paintInsertFixup (c .levels) path (linked .pool)) (coloursChange-insertFixup (c .levels) path (linked .pool))) (recoloured-insert (c .ending) coloured)) in
       record {
         turn = turn-none st (endInsert (c .ending) coloured) (n ∷ q) (n ∷ []) l first w o h
             (stored-recoloured st base (endInsert (c .ending) coloured) (n ∷ []) l first tint (taking-stored st n q k v L 0 0 redColour l first w o h));

@@ -9,21 +9,21 @@ use native.Mathlib.Omega.{arith}
 use lib.Dec.{eqb}
 use lib.ListN.{length}
 use borrow.Author.Tests.{eqb-true, eqb-false}
-use Rattle.types.specs.declared.Side.{Side}
-use Rattle.types.specs.declared.Side.the-variants.{L, R}
-use Rattle.types.specs.declared.Link.{Link}
-use Rattle.types.specs.declared.Link.the-variants.{Root, Left, Right}
-use Rattle.types.specs.declared.Register.{Register}
-use Rattle.types.specs.Side.{sameSide}
+use Rattle.datatypes.specs.declared.Side.{Side}
+use Rattle.datatypes.specs.declared.Side.the-variants.{L, R}
+use Rattle.datatypes.specs.declared.Link.{Link}
+use Rattle.datatypes.specs.declared.Link.the-variants.{Root, Left, Right}
+use Rattle.datatypes.specs.declared.Register.{Register}
+use Rattle.datatypes.specs.Side.{sameSide}
 use Rattle.spec.specs.Pool.{nodeWords, word, setWord, child, keyWord, recordWord, leftWord, rightWord, linkWord, colourWord, standingWord, holdersWord, standingFree, standingLinked}
 use Rattle.spec.specs.Register.{State, state, withRoot, withQueue, setLink}
 use Rattle.spec.specs.Free.{takeFree, takeNode}
 use Rattle.tree.specs.Distinct.{_∈_}
-use Rattle.laws.specs.Words.{Node, length-setWord, word-same, word-other}
+use Rattle.laws.specs.Words.{InPool, length-setWord, word-same, word-other}
 use Rattle.readers.specs.Words.{Whole, whole-length, stands-node, fill-length, fill-other, fill-standing}
-use Rattle.readers.specs.Stock.{field-stock}
+use Rattle.readers.specs.QueueExact.{field-exact}
 use Rattle.readers.specs.Owned.{Slots, Owned, own-word, own-take}
-use Rattle.readers.specs.Reach.{Stands}
+use Rattle.readers.specs.Reach.{HasStanding}
 use Rattle.readers.specs.Graft.{hits}
 
 -- the link stored, among a node's links; the root after it
@@ -40,8 +40,8 @@ rootAfter (Right d) v r = r
 -- the link is the root, or a linked node's
 abbrev pub OwnerLinked : List ℕ → Link → Type 0
 OwnerLinked p Root = Unit {0}
-OwnerLinked p (Left d) = Stands p d standingLinked
-OwnerLinked p (Right d) = Stands p d standingLinked
+OwnerLinked p (Left d) = HasStanding p d standingLinked
+OwnerLinked p (Right d) = HasStanding p d standingLinked
 
 -- The link l := v, with the nodes `came` taken.
 pub record Stored (st mid : State) (came : List ℕ) (l : Link) (v : ℕ) : Type 0 where
@@ -51,7 +51,7 @@ pub record Stored (st mid : State) (came : List ℕ) (l : Link) (v : ℕ) : Type
   pub keys : (n : ℕ) → ¬ (n ∈ came) → word (mid .pool) n keyWord ≡ word (st .pool) n keyWord
   pub records : (n : ℕ) → ¬ (n ∈ came) → word (mid .pool) n recordWord ≡ word (st .pool) n recordWord
   pub links : (n : ℕ) (z : Side) → ¬ (n ∈ came) → child (mid .pool) z n ≡ cond (hitsLink l n z) v (child (st .pool) z n)
-  pub new : (n : ℕ) → n ∈ came → Stands (st .pool) n standingFree × Stands (mid .pool) n standingLinked
+  pub new : (n : ℕ) → n ∈ came → HasStanding (st .pool) n standingFree × HasStanding (mid .pool) n standingLinked
   pub root : mid .register .root ≡ rootAfter l v (st .register .root)
   pub readers : mid .register .readers ≡ st .register .readers
   pub free : st .register .free ≤ mid .register .free + length came
@@ -63,7 +63,7 @@ link-low L = omega arith
 link-low R = omega arith
 
 -- a link of a node after a link is set
-pub child-set : (p : List ℕ) (d : ℕ) (s : Side) (v n : ℕ) (z : Side) → Node p d → child (setWord p d (linkWord s) v) z n ≡ cond (hits d s n z) v (child p z n)
+pub child-set : (p : List ℕ) (d : ℕ) (s : Side) (v n : ℕ) (z : Side) → InPool p d → child (setWord p d (linkWord s) v) z n ≡ cond (hits d s n z) v (child p z n)
 child-set p d s v n z hd = go (eqb d n) refl s z
   where
     go : (x : Bool) → eqb d n ≡ x → (s z : Side) → child (setWord p d (linkWord s) v) z n ≡ cond (cond (sameSide s z) x false) v (child p z n)
@@ -80,7 +80,7 @@ child-set p d s v n z hd = go (eqb d n) refl s z
 pub own-fields : (p : List ℕ) (r q : Register) (l : List ℕ) → q .first ≡ r .first → q .last ≡ r .last → q .free ≡ r .free → q .readers ≡ r .readers
     → Slots (q .readers) (q .awaited) → Owned (state p r) l → Owned (state p q) l
 own-fields p r q l a b c e w h = record {
-  stock = field-stock p r q l a b c (h .stock);
+  exact = field-exact p r q l a b c (h .exact);
   good = λ n hn. rw e (h .good n hn);
   awaited = w;
   eight = ap length e ∙ h .eight;
@@ -88,7 +88,7 @@ own-fields p r q l a b c e w h = record {
 
 -- a link of a linked node
 side-stored : (st : State) (q : List ℕ) (d : ℕ) (s : Side) (v : ℕ) (l : Link) → ((n : ℕ) (z : Side) → hitsLink l n z ≡ hits d s n z) → rootAfter l v (st .register .root) ≡ st .register .root
-    → Node (st .pool) d → Owned st q → Stored st (state (setWord (st .pool) d (linkWord s) v) (st .register)) [] l v
+    → InPool (st .pool) d → Owned st q → Stored st (state (setWord (st .pool) d (linkWord s) v) (st .register)) [] l v
 side-stored st q d s v l same keep hd h =
     let p = st .pool in
     let u = link-low s in
@@ -143,9 +143,9 @@ unfolding takeNode takeFree withQueue
 taking-stored st n q k w s x y c l v whole o h =
     let p = st .pool in
     let a = st .register .first in
-    let first : a ≡ n = h .stock .queued .chain .0 in
-    let here = h .stock .standing n .0 (inl refl) in
-    let ha : Node p a = rw first (here .0) in
+    let first : a ≡ n = h .exact .queued .chain .0 in
+    let here = h .exact .standing n .0 (inl refl) in
+    let ha : InPool p a = rw first (here .0) in
     let base = takeNode st k w s x y c in
     let out : (m f : ℕ) → f < nodeWords → ¬ (m ∈ (n ∷ [])) → word (base .pool) m f ≡ word p m f =
     λ m f u i. fill-other p a k w s x y c m f u (λ e. i (inl (sym e ∙ first))) in
@@ -157,7 +157,7 @@ taking-stored st n q k w s x y c l v whole o h =
       keys = λ m i. g .keys m (λ z. z) ∙ out m keyWord (omega arith) i;
       records = λ m i. g .records m (λ z. z) ∙ out m recordWord (omega arith) i;
       links = λ m z i. g .links m z (λ z. z) ∙ ap (cond (hitsLink l m z) v) (out m (linkWord z) (let u = link-low z in omega arith) i);
-      new = λ m i. only m i (here .1, g .standing n (λ z. z) ∙ subst (λ i. Stands (base .pool) i standingLinked) first (fill-standing p a k w s x y c ha));
+      new = λ m i. only m i (here .1, g .standing n (λ z. z) ∙ subst (λ i. HasStanding (base .pool) i standingLinked) first (fill-standing p a k w s x y c ha));
       root = g .root;
       readers = g .readers;
       free = let a = g .free in omega arith;
@@ -165,17 +165,17 @@ taking-stored st n q k w s x y c l v whole o h =
       owned = g .owned;
     }
   where
-    only : (m : ℕ) → m ∈ (n ∷ []) → Stands (st .pool) n standingFree × Stands (setLink (takeNode st k w s x y c) l v .pool) n standingLinked
-        → Stands (st .pool) m standingFree × Stands (setLink (takeNode st k w s x y c) l v .pool) m standingLinked
+    only : (m : ℕ) → m ∈ (n ∷ []) → HasStanding (st .pool) n standingFree × HasStanding (setLink (takeNode st k w s x y c) l v .pool) n standingLinked
+        → HasStanding (st .pool) m standingFree × HasStanding (setLink (takeNode st k w s x y c) l v .pool) m standingLinked
     only m (inl e) z = rw e z
     only m (inr i) z = absurd i
 
-    apart : (d : ℕ) → Stands (st .pool) d standingLinked → Stands (st .pool) n standingFree → ¬ (d ∈ (n ∷ []))
-    apart d a b (inl e) = let z = subst (λ m. Stands (st .pool) m standingLinked) e a in absurd (omega arith)
+    apart : (d : ℕ) → HasStanding (st .pool) d standingLinked → HasStanding (st .pool) n standingFree → ¬ (d ∈ (n ∷ []))
+    apart d a b (inl e) = let z = subst (λ m. HasStanding (st .pool) m standingLinked) e a in absurd (omega arith)
     apart d a b (inr i) = i
 
     owner : (l : Link) → OwnerLinked (st .pool) l → ((m : ℕ) → ¬ (m ∈ (n ∷ [])) → word (takeNode st k w s x y c .pool) m standingWord ≡ word (st .pool) m standingWord)
-        → Stands (st .pool) n standingFree → OwnerLinked (takeNode st k w s x y c .pool) l
+        → HasStanding (st .pool) n standingFree → OwnerLinked (takeNode st k w s x y c .pool) l
     owner Root o f z = tt
     owner (Left d) o f z = f d (apart d o z) ∙ o
     owner (Right d) o f z = f d (apart d o z) ∙ o

@@ -4,7 +4,7 @@ use mathlib.Core.Path.{_≡_, refl, sym, ap, _∙_, subst}
 use mathlib.Core.Logic.{_⊎_, inl, inr, ⊎-elim}
 use mathlib.Core.List.{List, [], _∷_, _++_}
 use native.Mathlib.Omega.{arith}
-use Rattle.types.specs.declared.Side.the-variants.{L}
+use Rattle.datatypes.specs.declared.Side.the-variants.{L}
 use Rattle.tree.specs.Order.{tri-case}
 use Rattle.tree.specs.Distinct.{_∈_, in-append, Distinct}
 use Rattle.tree.specs.Occurs.{occ, in-occ}

@@ -9,23 +9,23 @@ use native.Mathlib.Omega.{arith}
 use native.Mathlib.Decide.{ℕ-discrete}
 use lib.ListN.{length}
 use borrow.Author.Tests.{ne-eqb}
-use Rattle.types.specs.declared.Side.{Side}
-use Rattle.types.specs.declared.Side.the-variants.{L, R}
-use Rattle.types.specs.declared.Link.{Link}
-use Rattle.types.specs.declared.Link.the-variants.{Root, Left, Right}
-use Rattle.types.specs.declared.Write.{Write}
-use Rattle.types.specs.Side.{owner}
+use Rattle.datatypes.specs.declared.Side.{Side}
+use Rattle.datatypes.specs.declared.Side.the-variants.{L, R}
+use Rattle.datatypes.specs.declared.Link.{Link}
+use Rattle.datatypes.specs.declared.Link.the-variants.{Root, Left, Right}
+use Rattle.datatypes.specs.declared.Write.{Write}
+use Rattle.datatypes.specs.Side.{owner}
 use Rattle.spec.specs.Pool.{word, child, linkWord, keyWord, recordWord, standingWord, holdersWord, standingFree, standingLinked, standingRetired}
 use Rattle.spec.specs.Register.{State, state, withWrite}
 use Rattle.spec.specs.Free.{retire, retireTwo}
 use Rattle.tree.specs.Distinct.{_∈_}
-use Rattle.laws.specs.Words.{Node, word-none}
+use Rattle.laws.specs.Words.{InPool, word-none}
 use Rattle.heap.specs.Rep.{alike-refl}
 use Rattle.heap.specs.Fill.{Quiet, retire-quiet, retireTwo-quiet}
 use Rattle.readers.specs.Words.{Whole, whole-length, stands-node}
 use Rattle.readers.specs.Owned.{readingIn, Owned, own-retire}
-use Rattle.readers.specs.Reach.{Stands, Fate, comes, leaves, goes}
-use Rattle.readers.specs.Fates.{ranked, Reading, fate-same, Retires, stays, out, off, retire-other, retire-retires, retire-gone, retire-free, retireTwo-free, retireTwo-retires, retireTwo-owned, retireTwo-gone, retireTwo-other}
+use Rattle.readers.specs.Reach.{HasStanding, NodeChange, comes, leaves, goes}
+use Rattle.readers.specs.NodeChanges.{ranked, Reading, change-same, Retires, stays, out, off, retire-other, retire-retires, retire-gone, retire-free, retireTwo-free, retireTwo-retires, retireTwo-owned, retireTwo-gone, retireTwo-other}
 use Rattle.readers.specs.Stored.{hitsLink, rootAfter, OwnerLinked, Stored, link-low, own-fields}
 
 -- whether a number is in a list
@@ -40,10 +40,10 @@ in-dec n (m ∷ l) = go (ℕ-discrete n m) (in-dec n l)
 
 pub record Turn (st after : State) (came gone : List ℕ) (l : Link) (v : ℕ) : Type 0 where
   pub size : length (after .pool) ≡ length (st .pool)
-  pub fate : (n : ℕ) → Fate (st .pool) (after .pool) (Reading (st .register)) n
+  pub change : (n : ℕ) → NodeChange (st .pool) (after .pool) (Reading (st .register)) n
   -- those linked afterwards: those that were or came, and did not go
-  pub linked : (n : ℕ) → Stands (after .pool) n standingLinked ↔ ((Stands (st .pool) n standingLinked ⊎ (n ∈ came)) × (¬ (n ∈ gone)))
-  pub new : (n : ℕ) → n ∈ came → Stands (st .pool) n standingFree
+  pub linked : (n : ℕ) → HasStanding (after .pool) n standingLinked ↔ ((HasStanding (st .pool) n standingLinked ⊎ (n ∈ came)) × (¬ (n ∈ gone)))
+  pub new : (n : ℕ) → n ∈ came → HasStanding (st .pool) n standingFree
   pub keys : (n : ℕ) → ¬ (n ∈ came) → word (after .pool) n keyWord ≡ word (st .pool) n keyWord
   pub records : (n : ℕ) → ¬ (n ∈ came) → word (after .pool) n recordWord ≡ word (st .pool) n recordWord
   pub links : (n : ℕ) (z : Side) → ¬ (n ∈ came) → child (after .pool) z n ≡ cond (hitsLink l n z) v (child (st .pool) z n)
@@ -61,63 +61,63 @@ not-hit (Left m) n R d = refl
 not-hit (Right m) n L d = refl
 not-hit (Right m) n R d = ne-eqb m n d
 
-pub owner-linked : (p : List ℕ) (l : Link) (n : ℕ) → n ≢ 0 → OwnerLinked p l → ¬ (Stands p n standingLinked) → owner l ≢ n
+pub owner-linked : (p : List ℕ) (l : Link) (n : ℕ) → n ≢ 0 → OwnerLinked p l → ¬ (HasStanding p n standingLinked) → owner l ≢ n
 owner-linked p Root n z o d e = z (sym e)
-owner-linked p (Left m) n z o d e = d (subst (λ i. Stands p i standingLinked) e o)
-owner-linked p (Right m) n z o d e = d (subst (λ i. Stands p i standingLinked) e o)
+owner-linked p (Left m) n z o d e = d (subst (λ i. HasStanding p i standingLinked) e o)
+owner-linked p (Right m) n z o d e = d (subst (λ i. HasStanding p i standingLinked) e o)
 
 -- What was stored, then the nodes of `gone` retired.
 module _ (st mid after : State) (q came gone : List ℕ) (l : Link) (v : ℕ) (w : Whole (st .pool)) (o : OwnerLinked (st .pool) l) (h : Owned st q) (s : Stored st mid came l v)
     (quiet : Quiet mid after) (each : (n : ℕ) → Retires (mid .pool) (after .pool) (Reading (mid .register)) n)
-    (went : (n : ℕ) → n ∈ gone → Stands (st .pool) n standingLinked × (owner l ≢ n) × (word (after .pool) n standingWord ≢ standingLinked))
+    (carriedOut : (n : ℕ) → n ∈ gone → HasStanding (st .pool) n standingLinked × (owner l ≢ n) × (word (after .pool) n standingWord ≢ standingLinked))
     (kept : (n : ℕ) → ¬ (n ∈ gone) → word (after .pool) n standingWord ≡ word (mid .pool) n standingWord)
     (grows : mid .register .free ≤ after .register .free) (l′ : List ℕ) (owned : Owned after l′) where
   -- who came was free, who went was linked
-  not-both : (n : ℕ) → Stands (st .pool) n standingLinked → ¬ (n ∈ came)
+  not-both : (n : ℕ) → HasStanding (st .pool) n standingLinked → ¬ (n ∈ came)
   not-both n e i = let z = s .new n i .0 in absurd (omega arith)
 
   same-link : (n : ℕ) (z : Side) → child (after .pool) z n ≡ child (mid .pool) z n
   same-link n z = quiet .words .words n (linkWord z) (let u = link-low z in omega arith)
 
-  still : (n : ℕ) (z : Side) → ¬ (n ∈ came) → owner l ≢ n → child (after .pool) z n ≡ child (st .pool) z n
-  still n z i d = same-link n z ∙ s .links n z i ∙ rw (not-hit l n z d)
+  leavesTree : (n : ℕ) (z : Side) → ¬ (n ∈ came) → owner l ≢ n → child (after .pool) z n ≡ child (st .pool) z n
+  leavesTree n z i d = same-link n z ∙ s .links n z i ∙ rw (not-hit l n z d)
 
-  fate-of : (n : ℕ) → Fate (st .pool) (after .pool) (Reading (st .register)) n
-  fate-of n = go (each n) (in-dec n gone) (in-dec n came)
+  change-of : (n : ℕ) → NodeChange (st .pool) (after .pool) (Reading (st .register)) n
+  change-of n = go (each n) (in-dec n gone) (in-dec n came)
     where
       plain : ¬ (n ∈ came) → word (after .pool) n standingWord ≡ word (mid .pool) n standingWord → word (after .pool) n holdersWord ≡ word (mid .pool) n holdersWord
-          → Fate (st .pool) (after .pool) (Reading (st .register)) n
-      plain i a b = fate-same (st .pool) (after .pool) (Reading (st .register)) n (ranked st q w h n) (a ∙ s .standing n i)
-          (λ e. (b ∙ s .holders n i, λ z. still n z i (owner-linked (st .pool) l n (λ x. let y = subst (λ m. Stands (st .pool) m standingRetired) x e in let k = word-none (st .pool) standingWord in omega arith) o (λ x. let y = x in omega arith))))
+          → NodeChange (st .pool) (after .pool) (Reading (st .register)) n
+      plain i a b = change-same (st .pool) (after .pool) (Reading (st .register)) n (ranked st q w h n) (a ∙ s .standing n i)
+          (λ e. (b ∙ s .holders n i, λ z. leavesTree n z i (owner-linked (st .pool) l n (λ x. let y = subst (λ m. HasStanding (st .pool) m standingRetired) x e in let k = word-none (st .pool) standingWord in omega arith) o (λ x. let y = x in omega arith))))
 
-      go : Retires (mid .pool) (after .pool) (Reading (mid .register)) n → Dec (n ∈ gone) → Dec (n ∈ came) → Fate (st .pool) (after .pool) (Reading (st .register)) n
+      go : Retires (mid .pool) (after .pool) (Reading (mid .register)) n → Dec (n ∈ gone) → Dec (n ∈ came) → NodeChange (st .pool) (after .pool) (Reading (st .register)) n
       go (stays a b) g (yes i) = comes (inl (s .new n i .0)) (a ∙ s .new n i .1)
       go (stays a b) g (no i) = plain i a b
       go (out a b bits) (no j) c = absurd (let z = kept n j in omega arith)
       go (out a b bits) (yes j) c =
-          let e = went n j in
-          leaves (e .0) b (λ t u r. bits t u (subst (λ xs. readingIn xs t ≡ true) (sym (s .readers)) r)) (λ z. still n z (not-both n (e .0)) (e .1))
+          let e = carriedOut n j in
+          leaves (e .0) b (λ t u r. bits t u (subst (λ xs. readingIn xs t ≡ true) (sym (s .readers)) r)) (λ z. leavesTree n z (not-both n (e .0)) (e .1))
       go (off a b none) (no j) c = absurd (let z = kept n j in omega arith)
       go (off a b none) (yes j) c =
-          let e = went n j .0 in
+          let e = carriedOut n j .0 in
           goes (omega arith) b (λ _ t u r. none t u (subst (λ xs. readingIn xs t ≡ true) (sym (s .readers)) r))
 
-  linked-of : (n : ℕ) → Stands (after .pool) n standingLinked ↔ ((Stands (st .pool) n standingLinked ⊎ (n ∈ came)) × (¬ (n ∈ gone)))
+  linked-of : (n : ℕ) → HasStanding (after .pool) n standingLinked ↔ ((HasStanding (st .pool) n standingLinked ⊎ (n ∈ came)) × (¬ (n ∈ gone)))
   linked-of n = (there (in-dec n gone) (in-dec n came), λ x. back (x .1) (x .0))
     where
-      there : Dec (n ∈ gone) → Dec (n ∈ came) → Stands (after .pool) n standingLinked → (Stands (st .pool) n standingLinked ⊎ (n ∈ came)) × (¬ (n ∈ gone))
-      there (yes j) c e = absurd (went n j .2 e)
+      there : Dec (n ∈ gone) → Dec (n ∈ came) → HasStanding (after .pool) n standingLinked → (HasStanding (st .pool) n standingLinked ⊎ (n ∈ came)) × (¬ (n ∈ gone))
+      there (yes j) c e = absurd (carriedOut n j .2 e)
       there (no j) (yes i) e = (inr i, j)
       there (no j) (no i) e = (inl (sym (s .standing n i) ∙ sym (kept n j) ∙ e), j)
 
-      back : ¬ (n ∈ gone) → Stands (st .pool) n standingLinked ⊎ (n ∈ came) → Stands (after .pool) n standingLinked
+      back : ¬ (n ∈ gone) → HasStanding (st .pool) n standingLinked ⊎ (n ∈ came) → HasStanding (after .pool) n standingLinked
       back j (inl e) = kept n j ∙ s .standing n (not-both n e) ∙ e
       back j (inr i) = kept n j ∙ s .new n i .1
 
   turn-of : Turn st after came gone l v
   turn-of = record {
     size = quiet .words .size ∙ s .size;
-    fate = fate-of;
+    change = change-of;
     linked = linked-of;
     new = λ n i. s .new n i .0;
     keys = λ n i. quiet .words .words n keyWord (omega arith) ∙ s .keys n i;
@@ -131,13 +131,13 @@ module _ (st mid after : State) (q came gone : List ℕ) (l : Link) (v : ℕ) (w
   }
 
 module _ (st mid : State) (q came : List ℕ) (l : Link) (v : ℕ) (w : Whole (st .pool)) (o : OwnerLinked (st .pool) l) (h : Owned st q) (s : Stored st mid came l v) where
-  out-of-came : (n : ℕ) → Stands (st .pool) n standingLinked → ¬ (n ∈ came)
+  out-of-came : (n : ℕ) → HasStanding (st .pool) n standingLinked → ¬ (n ∈ came)
   out-of-came n e i = let z = s .new n i .0 in absurd (omega arith)
 
-  linked-mid : (n : ℕ) → Stands (st .pool) n standingLinked → Stands (mid .pool) n standingLinked
+  linked-mid : (n : ℕ) → HasStanding (st .pool) n standingLinked → HasStanding (mid .pool) n standingLinked
   linked-mid n e = s .standing n (out-of-came n e) ∙ e
 
-  node-mid : (n : ℕ) → Stands (st .pool) n standingLinked → Node (mid .pool) n
+  node-mid : (n : ℕ) → HasStanding (st .pool) n standingLinked → InPool (mid .pool) n
   node-mid n e = let i = linked-mid n e in stands-node (mid .pool) n standingWord (whole-length (st .pool) (mid .pool) (s .size) w) (omega arith) (omega arith)
 
   -- none retired
@@ -148,7 +148,7 @@ module _ (st mid : State) (q came : List ℕ) (l : Link) (v : ℕ) (w : Whole (s
       (λ n. stays refl refl) (λ n i. absurd i) (λ n i. refl) (omega arith) (s .queue) (s .owned)
 
   -- one
-  pub turn-one : (c : ℕ) → Stands (st .pool) c standingLinked → owner l ≢ c → Turn st (retire mid c) came (c ∷ []) l v
+  pub turn-one : (c : ℕ) → HasStanding (st .pool) c standingLinked → owner l ≢ c → Turn st (retire mid c) came (c ∷ []) l v
   turn-one c e d =
       turn-of st mid (retire mid c) q came (c ∷ []) l v w o h s (retire-quiet mid c)
       (λ n. retire-retires mid c n (node-mid c e) (linked-mid c e))
@@ -158,12 +158,12 @@ module _ (st mid : State) (q came : List ℕ) (l : Link) (v : ℕ) (w : Whole (s
       _
       (own-retire mid (s .queue) c (s .owned) (node-mid c e) (let x = linked-mid c e in omega arith))
     where
-      only : (n : ℕ) → n ∈ (c ∷ []) → Stands (st .pool) n standingLinked × (owner l ≢ n) × (word (retire mid c .pool) n standingWord ≢ standingLinked)
+      only : (n : ℕ) → n ∈ (c ∷ []) → HasStanding (st .pool) n standingLinked × (owner l ≢ n) × (word (retire mid c .pool) n standingWord ≢ standingLinked)
       only n (inl x) = rw x (e, d, retire-gone mid c (node-mid c e))
       only n (inr x) = absurd x
 
   -- two
-  pub turn-two : (a c : ℕ) → a ≢ c → Stands (st .pool) a standingLinked → Stands (st .pool) c standingLinked → owner l ≢ a → owner l ≢ c → Turn st (retireTwo mid a c) came (a ∷ c ∷ []) l v
+  pub turn-two : (a c : ℕ) → a ≢ c → HasStanding (st .pool) a standingLinked → HasStanding (st .pool) c standingLinked → owner l ≢ a → owner l ≢ c → Turn st (retireTwo mid a c) came (a ∷ c ∷ []) l v
   turn-two a c apart ea ec da dc =
       let all = retireTwo-owned mid a c apart (node-mid a ea) (node-mid c ec) (linked-mid a ea) (linked-mid c ec) (s .queue) (s .owned) in
       turn-of st mid (retireTwo mid a c) q came (a ∷ c ∷ []) l v w o h s (retireTwo-quiet mid a c)
@@ -177,7 +177,7 @@ module _ (st mid : State) (q came : List ℕ) (l : Link) (v : ℕ) (w : Whole (s
       gone : (word (retireTwo mid a c .pool) a standingWord ≢ standingLinked) × (word (retireTwo mid a c .pool) c standingWord ≢ standingLinked)
       gone = retireTwo-gone mid a c apart (node-mid a ea) (node-mid c ec) (linked-mid a ea) (linked-mid c ec)
 
-      both : (n : ℕ) → n ∈ (a ∷ c ∷ []) → Stands (st .pool) n standingLinked × (owner l ≢ n) × (word (retireTwo mid a c .pool) n standingWord ≢ standingLinked)
+      both : (n : ℕ) → n ∈ (a ∷ c ∷ []) → HasStanding (st .pool) n standingLinked × (owner l ≢ n) × (word (retireTwo mid a c .pool) n standingWord ≢ standingLinked)
       both n (inl x) = rw x (ea, da, gone .0)
       both n (inr (inl x)) = rw x (ec, dc, gone .1)
       both n (inr (inr x)) = absurd x
@@ -187,7 +187,7 @@ pub turn-write : (st a : State) (came gone : List ℕ) (l : Link) (v : ℕ) (x :
 unfolding withWrite
 turn-write st a came gone l v x t = record {
   size = t .size;
-  fate = t .fate;
+  change = t .change;
   linked = t .linked;
   new = t .new;
   keys = t .keys;

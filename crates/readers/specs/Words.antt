@@ -8,25 +8,25 @@ use native.Mathlib.Omega.{arith}
 use native.Mathlib.Decide.{ℕ-discrete, decLe}
 use lib.ListN.{length, getD}
 use borrow.Author.Tests.{eq-eqb, ne-eqb}
-use Rattle.types.specs.declared.Side.{Side}
-use Rattle.types.specs.declared.Side.the-variants.{L, R}
-use Rattle.types.specs.Side.{other}
+use Rattle.datatypes.specs.declared.Side.{Side}
+use Rattle.datatypes.specs.declared.Side.the-variants.{L, R}
+use Rattle.datatypes.specs.Side.{other}
 use Rattle.spec.specs.Pool.{nodeWords, place, word, setWord, nodes, keyWord, recordWord, linkWord, colourWord, standingWord, holdersWord, nextWord, standingFree, standingLinked, standingRetired}
 use Rattle.spec.specs.Register.{State, state, withQueue, countUp, readingSlots}
 use Rattle.spec.specs.Free.{queueEmpty, fillNode, freeNode, retire}
-use Rattle.laws.specs.Words.{Node, length-setWord, word-none, word-at, word-same, word-other}
+use Rattle.laws.specs.Words.{InPool, length-setWord, word-none, word-at, word-same, word-other}
 
-pub node-set : (p : List ℕ) (m n f v : ℕ) → Node p m → Node (setWord p n f v) m
+pub node-set : (p : List ℕ) (m n f v : ℕ) → InPool p m → InPool (setWord p n f v) m
 node-set p m n f v h = record { low = h .low; high = rw length-setWord (h .high) }
 
-pub node-length : (p q : List ℕ) (m : ℕ) → length q ≡ length p → Node p m → Node q m
+pub node-length : (p q : List ℕ) (m : ℕ) → length q ≡ length p → InPool p m → InPool q m
 node-length p q m e h = record { low = h .low; high = rw e (h .high) }
 
 -- a node's number is at most N
-pub node-high : (p : List ℕ) (n : ℕ) → Node p n → n ≤ nodes p
+pub node-high : (p : List ℕ) (n : ℕ) → InPool p n → n ≤ nodes p
 node-high p n h = let a = h .high in omega arith
 
-pub node-in : (p : List ℕ) (n : ℕ) → 1 ≤ n → n ≤ nodes p → Node p n
+pub node-in : (p : List ℕ) (n : ℕ) → 1 ≤ n → n ≤ nodes p → InPool p n
 node-in p n a b = record { low = a; high = omega arith }
 
 -- Eight words a node and no more: what has a word that is not 0 is a node.
@@ -41,7 +41,7 @@ past-end [] i h = refl
 past-end (x ∷ l) zero h = absurd (omega arith)
 past-end (x ∷ l) (suc i) h = past-end l i (omega arith)
 
-pub stands-node : (p : List ℕ) (n f : ℕ) → Whole p → f < nodeWords → word p n f ≢ 0 → Node p n
+pub stands-node : (p : List ℕ) (n f : ℕ) → Whole p → f < nodeWords → word p n f ≢ 0 → InPool p n
 stands-node p n f w u d = elim (ℕ-discrete n 0) [
   | yes e ↦ absurd (d (rw (e, word-none p f)))
   | no c ↦ elim (decLe (n * nodeWords) (length p)) [
@@ -92,13 +92,13 @@ module _ (st : State) (n : ℕ) where
       ∙ word-other stood n m holdersWord f 0 (omega arith) (omega arith) (inl d)
       ∙ word-other (st .pool) n m standingWord f standingFree (omega arith) (omega arith) (inl d)
 
-  pub free-standing : Node (st .pool) n → word (freeNode st n .pool) n standingWord ≡ standingFree
+  pub free-standing : InPool (st .pool) n → word (freeNode st n .pool) n standingWord ≡ standingFree
   free-standing h =
       low-words n standingWord (omega arith)
       ∙ word-other stood n n holdersWord standingWord 0 (omega arith) (omega arith) (inr (omega arith))
       ∙ word-same (st .pool) n standingWord standingFree h (omega arith)
 
-  pub free-holders : Node (st .pool) n → word (freeNode st n .pool) n holdersWord ≡ 0
+  pub free-holders : InPool (st .pool) n → word (freeNode st n .pool) n holdersWord ≡ 0
   free-holders h = low-words n holdersWord (omega arith) ∙ word-same stood n holdersWord 0 (node-set (st .pool) n n standingWord standingFree h) (omega arith)
 
   pub free-register : freeNode st n .register ≡ withQueue (st .register) (cond (queueEmpty st) n (st .register .first)) n (countUp (nodes (st .pool)) (st .register .free))
@@ -131,10 +131,10 @@ module _ (p : List ℕ) (n a b : ℕ) where
   pub marked-other : (m f : ℕ) → f < nodeWords → n ≢ m → word marked m f ≡ word p m f
   marked-other m f h d = word-other _ n m holdersWord f b (omega arith) h (inl d) ∙ word-other p n m standingWord f a (omega arith) h (inl d)
 
-  pub marked-standing : Node p n → word marked n standingWord ≡ a
+  pub marked-standing : InPool p n → word marked n standingWord ≡ a
   marked-standing h = word-other _ n n holdersWord standingWord b (omega arith) (omega arith) (inr (omega arith)) ∙ word-same p n standingWord a h (omega arith)
 
-  pub marked-holders : Node p n → word marked n holdersWord ≡ b
+  pub marked-holders : InPool p n → word marked n holdersWord ≡ b
   marked-holders h = word-same _ n holdersWord b (node-set p n n standingWord a h) (omega arith)
 
 link-high : (s : Side) → linkWord s < colourWord
@@ -161,19 +161,19 @@ module _ (p : List ℕ) (n k v : ℕ) (s : Side) (x y c : ℕ) where
       ∙ word-other _ n m recordWord f _ (omega arith) h (inl d)
       ∙ word-other p n m keyWord f k (omega arith) h (inl d)
 
-  pub fill-standing : Node p n → word (fillNode p n k v s x y c) n standingWord ≡ standingLinked
+  pub fill-standing : InPool p n → word (fillNode p n k v s x y c) n standingWord ≡ standingLinked
   unfolding fillNode
   fill-standing h =
       word-other _ n n nextWord standingWord 0 (omega arith) (omega arith) (inr (omega arith))
       ∙ word-other _ n n holdersWord standingWord 0 (omega arith) (omega arith) (inr (omega arith))
       ∙ word-same _ n standingWord standingLinked (node-length p _ n (simp length-setWord) h) (omega arith)
 
-  pub fill-holders : Node p n → word (fillNode p n k v s x y c) n holdersWord ≡ 0
+  pub fill-holders : InPool p n → word (fillNode p n k v s x y c) n holdersWord ≡ 0
   unfolding fillNode
   fill-holders h =
       word-other _ n n nextWord holdersWord 0 (omega arith) (omega arith) (inr (omega arith))
       ∙ word-same _ n holdersWord 0 (node-length p _ n (simp length-setWord) h) (omega arith)
 
-  pub fill-next : Node p n → word (fillNode p n k v s x y c) n nextWord ≡ 0
+  pub fill-next : InPool p n → word (fillNode p n k v s x y c) n nextWord ≡ 0
   unfolding fillNode
   fill-next h = word-same _ n nextWord 0 (node-length p _ n (simp length-setWord) h) (omega arith)

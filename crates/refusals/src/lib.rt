@@ -1,5 +1,5 @@
 // The tests that a call begins with: each answers the number of the first cause that holds, or 0.
-use types::Register;
+use datatypes::Register;
 ghost use mathlib.Core.Path.{_≡_};
 ghost use Rattle.spec.specs.Register.{state};
 ghost use Rattle.spec.specs.Pool.{slots};
@@ -14,8 +14,8 @@ pub fn lent_refusal(pool: &[u32], reg: Register) -> u32
     if pool::length_right(pool) {} else {
         return 1;
     }
-    let top = pool::nodes(pool);
-    if register::register_in_range(reg, top) & pool::pool_in_range(pool) {} else {
+    let capacity = pool::nodes(pool);
+    if register::register_in_range(reg, capacity) & pool::pool_in_range(pool) {} else {
         return 2;
     }
     0

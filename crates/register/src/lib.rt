@@ -1,14 +1,14 @@
 // The register: fields changed, links read and stored, slots as bits, the test of ranges.
-use types::Link;
-use types::Register;
-use types::Side;
-use types::Step;
-use types::Store;
-use types::Write;
+use datatypes::Link;
+use datatypes::Register;
+use datatypes::Side;
+use datatypes::Step;
+use datatypes::Store;
+use datatypes::Write;
 ghost use mathlib.Core.Path.{_≡_};
 ghost use Prim.Native.Nat.{ℕ, _<_, _≤_, _+_, _*_};
 ghost use mathlib.Core.Bool.{cond, _&&_};
-ghost use Rattle.types.specs.Side.{linkAt, owner, sideOf, sameSide};
+ghost use Rattle.datatypes.specs.Side.{linkAt, owner, sideOf, sameSide};
 ghost use Rattle.spec.specs.Register.{withWrite, countUp, countDown, nodeAt, hasSlot, putSlot, dropSlot, readingSlots, nodeNumber, linkInRange, stepInRange, isRoot, isVacant, mostStores, storeInRange, readerInRange, registerInRange};
 ghost use Rattle.spec.specs.Pool.{slots};
 ghost use Rattle.base.specs.Walk.{allIn};
@@ -33,10 +33,10 @@ pub fn choose(test: bool, x: u32, y: u32) -> u32
 }
 
 // A count at an end of its range goes no further.
-pub fn count_up(top: u32, n: u32) -> u32
-    ensures { λ r. ⌜ r ≡ countUp top n ⌝ }
+pub fn count_up(capacity: u32, n: u32) -> u32
+    ensures { λ r. ⌜ r ≡ countUp capacity n ⌝ }
 {
-    if n < top { n + 1 } else { n }
+    if n < capacity { n + 1 } else { n }
 }
 
 pub fn count_down(n: u32) -> u32
@@ -130,24 +130,24 @@ pub fn reading_slots(reg: Register) -> u32
     m
 }
 
-fn node_number(n: u32, top: u32) -> bool
-    ensures { λ r. ⌜ r ≡ nodeNumber top n ⌝ }
+fn node_number(n: u32, capacity: u32) -> bool
+    ensures { λ r. ⌜ r ≡ nodeNumber capacity n ⌝ }
 {
-    (1 <= n) & (n <= top)
+    (1 <= n) & (n <= capacity)
 }
 
-fn link_in_range(l: Link, top: u32) -> bool
-    ensures { λ r. ⌜ r ≡ linkInRange top l ⌝ }
+fn link_in_range(l: Link, capacity: u32) -> bool
+    ensures { λ r. ⌜ r ≡ linkInRange capacity l ⌝ }
 {
     match l {
         Link::Root => true,
-        Link::Left(n) => node_number(n, top),
-        Link::Right(n) => node_number(n, top),
+        Link::Left(n) => node_number(n, capacity),
+        Link::Right(n) => node_number(n, capacity),
     }
 }
 
-fn step_in_range(s: Step, top: u32) -> bool
-    ensures { λ r. ⌜ r ≡ stepInRange top s ⌝ }
+fn step_in_range(s: Step, capacity: u32) -> bool
+    ensures { λ r. ⌜ r ≡ stepInRange capacity s ⌝ }
 {
     match s {
         Step::Vacant => false,
@@ -160,7 +160,7 @@ fn step_in_range(s: Step, top: u32) -> bool
         Step::Unlink => true,
         Step::Adopt => true,
         Step::Replace => true,
-        Step::Publish(n) => node_number(n, top),
+        Step::Publish(n) => node_number(n, capacity),
         Step::Detach(_) => true,
     }
 }
@@ -195,40 +195,40 @@ fn is_vacant(s: Step) -> bool
 }
 
 // a store that is to come, or a vacant one
-fn store_in_range(x: Store, coming: bool, top: u32) -> bool
-    ensures { λ r. ⌜ r ≡ cond coming (linkInRange top (x .link) && stepInRange top (x .step)) (isRoot (x .link) && isVacant (x .step)) ⌝ }
+fn store_in_range(x: Store, coming: bool, capacity: u32) -> bool
+    ensures { λ r. ⌜ r ≡ cond coming (linkInRange capacity (x .link) && stepInRange capacity (x .step)) (isRoot (x .link) && isVacant (x .step)) ⌝ }
 {
     let link = x.link;
     let step = x.step;
     if coming {
-        link_in_range(link, top) & step_in_range(step, top)
+        link_in_range(link, capacity) & step_in_range(step, capacity)
     } else {
         is_root(link) & is_vacant(step)
     }
 }
 
-fn readers_in_range(reg: Register, top: u32) -> bool
-    ensures { λ r. ⌜ r ≡ allIn (readerInRange top reg) 0 slots ⌝ }
+fn readers_in_range(reg: Register, capacity: u32) -> bool
+    ensures { λ r. ⌜ r ≡ allIn (readerInRange capacity reg) 0 slots ⌝ }
 {
     let mut ok = true;
     let mut s: u32 = 0;
     while s < SLOTS {
         let i = s as usize;
-        ok = ok & (reg.readers[i].node <= top);
+        ok = ok & (reg.readers[i].node <= capacity);
         s += 1;
     }
     ok
 }
 
-fn stores_in_range(w: Write, top: u32) -> bool
-    ensures { λ r. ⌜ r ≡ allIn (storeInRange top w) 0 mostStores ⌝ }
+fn stores_in_range(w: Write, capacity: u32) -> bool
+    ensures { λ r. ⌜ r ≡ allIn (storeInRange capacity w) 0 mostStores ⌝ }
 {
     let count = w.count;
     let mut i: u32 = 0;
     while i < MOST_STORES {
         let at = i as usize;
         let x = w.stores[at];
-        if store_in_range(x, i < count, top) {} else {
+        if store_in_range(x, i < count, capacity) {} else {
             return false;
         }
         i += 1;
@@ -237,14 +237,14 @@ fn stores_in_range(w: Write, top: u32) -> bool
 }
 
 // every field of the register in its range
-pub fn register_in_range(reg: Register, top: u32) -> bool
-    ensures { λ r. ⌜ r ≡ registerInRange top reg ⌝ }
+pub fn register_in_range(reg: Register, capacity: u32) -> bool
+    ensures { λ r. ⌜ r ≡ registerInRange capacity reg ⌝ }
 {
-    let a = (reg.root <= top) & (reg.first <= top) & (reg.last <= top);
-    let b = (reg.free <= top) & (reg.held <= top) & (reg.awaited <= pool::ALL_SLOTS);
+    let a = (reg.root <= capacity) & (reg.first <= capacity) & (reg.last <= capacity);
+    let b = (reg.free <= capacity) & (reg.held <= capacity) & (reg.awaited <= pool::ALL_SLOTS);
     let w = reg.write;
-    if a & b & (w.count <= MOST_STORES) & readers_in_range(reg, top) {} else {
+    if a & b & (w.count <= MOST_STORES) & readers_in_range(reg, capacity) {} else {
         return false;
     }
-    stores_in_range(w, top)
+    stores_in_range(w, capacity)
 }

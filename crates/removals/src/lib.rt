@@ -1,40 +1,40 @@
 // The stores of a writer's turn that take a node out of the tree: unlink, replace, detach.
-use types::Climb;
-use types::Head;
-use types::Link;
-use types::Side;
-use types::Turned;
+use datatypes::Fixup;
+use datatypes::Head;
+use datatypes::Link;
+use datatypes::Side;
+use datatypes::StepResult;
 ghost use mathlib.Core.Path.{_≡_};
 ghost use Prim.Native.Nat.{ℕ, _<_, _≤_};
 ghost use lib.ListN.{length};
-ghost use Rattle.types.specs.declared.Step.the-variants.{Unlink, Replace, Detach};
+ghost use Rattle.datatypes.specs.declared.Step.the-variants.{Unlink, Replace, Detach};
 ghost use Rattle.spec.specs.Register.{setLink};
 ghost use Rattle.spec.specs.Free.{retire};
-ghost use Rattle.spec.specs.Plan.{paintLoss};
+ghost use Rattle.spec.specs.Plan.{paintDeleteFixup};
 ghost use Rattle.spec.specs.Turn.{oneLess, painted};
 ghost use Rattle.heads.specs.Head.{Follows, FollowsReading, TriesReading};
 ghost use Rattle.paths.specs.Upward.{upward};
 
 // The colours of a climb along a path of c links, where x came; then n is retired.
-fn settle(
+fn colour_and_retire(
     pool: &mut [u32],
     h: Head,
     reading: u32,
-    k: Climb,
+    k: Fixup,
     x: u32,
     path: &[u64],
     c: u32,
     n: u32,
 ) -> Head
     requires { ⌜ (length (now pool) < 8192) × (c ≤ length (now path)) ⌝ }
-    ensures { λ r. ⌜ FollowsReading reading (λ st. retire (paintLoss st k x (upward (now (path .entry)) c)) n) (now (pool .entry)) h (now (pool .exit)) r ⌝ }
+    ensures { λ r. ⌜ FollowsReading reading (λ st. retire (paintDeleteFixup st k x (upward (now (path .entry)) c)) n) (now (pool .entry)) h (now (pool .exit)) r ⌝ }
 {
-    losses::paint_loss(pool, h.root, k, x, path, c);
+    delete_fixups::paint_delete_fixup(pool, h.root, k, x, path, c);
     queue::retire(pool, h, reading, n)
 }
 
 // The link l is stored with v, and a key less is held.
-fn store_less(pool: &mut [u32], h: Head, l: Link, v: u32) -> Head
+fn store_one_less(pool: &mut [u32], h: Head, l: Link, v: u32) -> Head
     ensures { λ r. ⌜ Follows (λ st. oneLess (setLink st l v)) (now (pool .entry)) h (now (pool .exit)) r ⌝ }
 {
     let mut r = heads::set_link(pool, h, l, v);
@@ -43,23 +43,23 @@ fn store_less(pool: &mut [u32], h: Head, l: Link, v: u32) -> Head
 }
 
 // B's link from above := its only child, or 0.
-pub fn unlink(pool: &mut [u32], h: Head, reading: u32, l: Link) -> Turned
+pub fn unlink(pool: &mut [u32], h: Head, reading: u32, l: Link) -> StepResult
     requires { ⌜ length (now pool) < 8192 ⌝ }
     ensures { λ r. ⌜ TriesReading reading l Unlink (now (pool .entry)) h (now (pool .exit)) r ⌝ }
 {
     let b = register::node_at(pool, h.root, l);
-    let x = losses::only_child(pool, b);
+    let x = delete_fixups::only_child(pool, b);
     let mut path: [u64; paths::MOST_LINKS] = [0; paths::MOST_LINKS];
     let key = pool::word(pool, b, pool::KEY);
     let c = paths::path_to(pool, h.root, key, l, &mut path);
-    let k = losses::loss_climb(pool, b, x, &path, c);
-    let found = (b != 0) & climbs::calmly(k);
+    let k = delete_fixups::fixup_after_removal(pool, b, x, &path, c);
+    let found = (b != 0) & fixups::nodes_found(k);
     if found {} else {
         return heads::missed(h);
     }
-    let less = store_less(pool, h, l, x);
-    let head = settle(pool, less, reading, k, x, &path, c, b);
-    Turned {
+    let less = store_one_less(pool, h, l, x);
+    let head = colour_and_retire(pool, less, reading, k, x, &path, c, b);
+    StepResult {
         found,
         link: l,
         node: x,
@@ -71,13 +71,13 @@ pub fn unlink(pool: &mut [u32], h: Head, reading: u32, l: Link) -> Turned
 fn store_successor(pool: &mut [u32], h: Head, l: Link, n: u32, colour: u32) -> Head
     ensures { λ r. ⌜ Follows (λ st. painted (oneLess (setLink st l n)) n colour) (now (pool .entry)) h (now (pool .exit)) r ⌝ }
 {
-    let r = store_less(pool, h, l, n);
+    let r = store_one_less(pool, h, l, n);
     pool::set_word(pool, n, pool::COLOUR, colour);
     r
 }
 
 // B's link from above := C, its right child, which has no left child but B's.
-pub fn replace(pool: &mut [u32], h: Head, reading: u32, l: Link) -> Turned
+pub fn replace(pool: &mut [u32], h: Head, reading: u32, l: Link) -> StepResult
     requires { ⌜ length (now pool) < 8192 ⌝ }
     ensures { λ r. ⌜ TriesReading reading l Replace (now (pool .entry)) h (now (pool .exit)) r ⌝ }
 {
@@ -88,15 +88,15 @@ pub fn replace(pool: &mut [u32], h: Head, reading: u32, l: Link) -> Turned
     let key = pool::word(pool, b, pool::KEY);
     let above = paths::path_to(pool, h.root, key, l, &mut path);
     let c = paths::below_right(&mut path, b, above);
-    let k = losses::loss_climb(pool, n, x, &path, c);
-    let found = (n != 0) & climbs::calmly(k);
+    let k = delete_fixups::fixup_after_removal(pool, n, x, &path, c);
+    let found = (n != 0) & fixups::nodes_found(k);
     if found {} else {
         return heads::missed(h);
     }
     let colour = pool::word(pool, b, pool::COLOUR);
     let less = store_successor(pool, h, l, n, colour);
-    let head = settle(pool, less, reading, k, x, &path, c, b);
-    Turned {
+    let head = colour_and_retire(pool, less, reading, k, x, &path, c, b);
+    StepResult {
         found,
         link: l,
         node: n,
@@ -105,7 +105,7 @@ pub fn replace(pool: &mut [u32], h: Head, reading: u32, l: Link) -> Turned
 }
 
 // F's left := C's right, where C is found by the key from the link l.
-pub fn detach(pool: &mut [u32], h: Head, reading: u32, l: Link, key: u32) -> Turned
+pub fn detach(pool: &mut [u32], h: Head, reading: u32, l: Link, key: u32) -> StepResult
     requires { ⌜ length (now pool) < 8192 ⌝ }
     ensures { λ r. ⌜ TriesReading reading l (Detach key) (now (pool .entry)) h (now (pool .exit)) r ⌝ }
 {
@@ -116,14 +116,14 @@ pub fn detach(pool: &mut [u32], h: Head, reading: u32, l: Link, key: u32) -> Tur
     let link = paths::nearest(&path, c);
     let n = register::node_at(pool, h.root, link);
     let x = pool::child(pool, Side::R, n);
-    let k = losses::loss_climb(pool, n, x, &path, c);
-    let found = (c != 0) & (n != 0) & climbs::calmly(k);
+    let k = delete_fixups::fixup_after_removal(pool, n, x, &path, c);
+    let found = (c != 0) & (n != 0) & fixups::nodes_found(k);
     if found {} else {
         return heads::missed(h);
     }
     let stored = heads::set_link(pool, h, link, x);
-    let head = settle(pool, stored, reading, k, x, &path, c, n);
-    Turned {
+    let head = colour_and_retire(pool, stored, reading, k, x, &path, c, n);
+    StepResult {
         found,
         link,
         node: x,

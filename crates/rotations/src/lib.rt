@@ -1,19 +1,19 @@
 // The stores of a rotation: diag and zig, left and right alike. Each function tries one store: it tests that the nodes are there, and
 // the free node that it takes, before it changes anything.
-use types::Head;
-use types::Link;
-use types::Rule;
-use types::Side;
-use types::Turned;
+use datatypes::Head;
+use datatypes::Link;
+use datatypes::Purpose;
+use datatypes::Side;
+use datatypes::StepResult;
 ghost use mathlib.Core.Path.{_≡_};
 ghost use mathlib.Core.Bool.{true};
 ghost use Prim.Native.Nat.{ℕ, _<_};
 ghost use lib.ListN.{length};
-ghost use Rattle.types.specs.declared.Step.the-variants.{DiagLower, DiagRaise, ZigLowerA, ZigLowerC, ZigRaise};
+ghost use Rattle.datatypes.specs.declared.Step.the-variants.{DiagLower, DiagRaise, ZigLowerA, ZigLowerC, ZigRaise};
 ghost use Rattle.spec.specs.Pool.{paint, blackColour};
 ghost use Rattle.spec.specs.Register.{state, setLink};
 ghost use Rattle.spec.specs.Turn.{painted, copyNode, copyColour, risenColour, underCopy, endDiag, endDiagFinds, endZig};
-ghost use Rattle.types.specs.declared.Register.{Register};
+ghost use Rattle.datatypes.specs.declared.Register.{Register};
 ghost use Rattle.heads.specs.Head.{Follows, Tries, TriesReading};
 
 // A copy of node n is taken, with x on the side s and y on the other side.
@@ -25,30 +25,30 @@ pub fn take_copy(pool: &mut [u32], h: Head, n: u32, s: Side, x: u32, y: u32, col
     queue::take_node(pool, h, k, v, s, x, y, colour)
 }
 
-fn copy_colour(rule: Rule) -> u32
-    ensures { λ r. ⌜ r ≡ copyColour rule ⌝ }
+fn copy_colour(purpose: Purpose) -> u32
+    ensures { λ r. ⌜ r ≡ copyColour purpose ⌝ }
 {
-    match rule {
-        Rule::Grow => pool::RED,
-        Rule::Pass => pool::RED,
-        Rule::Borrow => pool::BLACK,
+    match purpose {
+        Purpose::ForInsert => pool::RED,
+        Purpose::RedSibling => pool::RED,
+        Purpose::BlackSibling => pool::BLACK,
     }
 }
 
 // the risen node's colour, c being the top
-fn risen_colour(pool: &[u32], rule: Rule, c: u32) -> u32
-    ensures { λ r. ⌜ ((q : Register) → r ≡ risenColour rule (state (now (pool .entry)) q) c) ⌝ }
+fn risen_colour(pool: &[u32], purpose: Purpose, c: u32) -> u32
+    ensures { λ r. ⌜ ((q : Register) → r ≡ risenColour purpose (state (now (pool .entry)) q) c) ⌝ }
 {
-    match rule {
-        Rule::Grow => pool::BLACK,
-        Rule::Pass => pool::BLACK,
-        Rule::Borrow => pool::word(pool, c, pool::COLOUR),
+    match purpose {
+        Purpose::ForInsert => pool::BLACK,
+        Purpose::RedSibling => pool::BLACK,
+        Purpose::BlackSibling => pool::word(pool, c, pool::COLOUR),
     }
 }
 
 // C' takes B's inner child on B's side; B's inner link := C'.
-pub fn diag_lower(pool: &mut [u32], h: Head, l: Link, s: Side, rule: Rule) -> Turned
-    ensures { λ r. ⌜ Tries l (DiagLower s rule) (now (pool .entry)) h (now (pool .exit)) r ⌝ }
+pub fn diag_lower(pool: &mut [u32], h: Head, l: Link, s: Side, purpose: Purpose) -> StepResult
+    ensures { λ r. ⌜ Tries l (DiagLower s purpose) (now (pool .entry)) h (now (pool .exit)) r ⌝ }
 {
     let c = register::node_at(pool, h.root, l);
     let b = pool::child(pool, s, c);
@@ -62,9 +62,9 @@ pub fn diag_lower(pool: &mut [u32], h: Head, l: Link, s: Side, rule: Rule) -> Tu
     let x = pool::child(pool, z, b);
     let y = pool::child(pool, z, c);
     let link = register::link_at(z, b);
-    let taken = take_copy(pool, h, c, s, x, y, copy_colour(rule));
+    let taken = take_copy(pool, h, c, s, x, y, copy_colour(purpose));
     let head = heads::set_link(pool, taken, link, h.first);
-    Turned {
+    StepResult {
         found: true,
         link,
         node: h.first,
@@ -73,8 +73,8 @@ pub fn diag_lower(pool: &mut [u32], h: Head, l: Link, s: Side, rule: Rule) -> Tu
 }
 
 // A' takes B's child on A's side; B's link on that side := A'.
-pub fn zig_lower_a(pool: &mut [u32], h: Head, l: Link, s: Side, rule: Rule) -> Turned
-    ensures { λ r. ⌜ Tries l (ZigLowerA s rule) (now (pool .entry)) h (now (pool .exit)) r ⌝ }
+pub fn zig_lower_a(pool: &mut [u32], h: Head, l: Link, s: Side, purpose: Purpose) -> StepResult
+    ensures { λ r. ⌜ Tries l (ZigLowerA s purpose) (now (pool .entry)) h (now (pool .exit)) r ⌝ }
 {
     let a = pool::child(pool, s, register::node_at(pool, h.root, l));
     let b = pool::child(pool, pool::other(s), a);
@@ -87,9 +87,9 @@ pub fn zig_lower_a(pool: &mut [u32], h: Head, l: Link, s: Side, rule: Rule) -> T
     let x = pool::child(pool, s, a);
     let y = pool::child(pool, s, b);
     let link = register::link_at(s, b);
-    let taken = take_copy(pool, h, a, s, x, y, copy_colour(rule));
+    let taken = take_copy(pool, h, a, s, x, y, copy_colour(purpose));
     let head = heads::set_link(pool, taken, link, h.first);
-    Turned {
+    StepResult {
         found: true,
         link,
         node: h.first,
@@ -98,8 +98,8 @@ pub fn zig_lower_a(pool: &mut [u32], h: Head, l: Link, s: Side, rule: Rule) -> T
 }
 
 // C' takes B's child on the other side; B's link on that side := C'.
-pub fn zig_lower_c(pool: &mut [u32], h: Head, l: Link, s: Side, rule: Rule) -> Turned
-    ensures { λ r. ⌜ Tries l (ZigLowerC s rule) (now (pool .entry)) h (now (pool .exit)) r ⌝ }
+pub fn zig_lower_c(pool: &mut [u32], h: Head, l: Link, s: Side, purpose: Purpose) -> StepResult
+    ensures { λ r. ⌜ Tries l (ZigLowerC s purpose) (now (pool .entry)) h (now (pool .exit)) r ⌝ }
 {
     let z = pool::other(s);
     let c = register::node_at(pool, h.root, l);
@@ -113,9 +113,9 @@ pub fn zig_lower_c(pool: &mut [u32], h: Head, l: Link, s: Side, rule: Rule) -> T
     let x = pool::child(pool, z, b);
     let y = pool::child(pool, z, c);
     let link = register::link_at(z, b);
-    let taken = take_copy(pool, h, c, s, x, y, copy_colour(rule));
+    let taken = take_copy(pool, h, c, s, x, y, copy_colour(purpose));
     let head = heads::set_link(pool, taken, link, h.first);
-    Turned {
+    StepResult {
         found: true,
         link,
         node: h.first,
@@ -137,7 +137,7 @@ fn under_copy(pool: &mut [u32], s: Side, copy: u32)
     ensures { λ _. ⌜ ((q : Register) → now (pool .exit) ≡ underCopy (state (now (pool .entry)) q) s copy .pool) ⌝ }
 {
     let w = pool::child(pool, s, copy);
-    if climbs::red_child(pool, w) {
+    if fixups::red_child(pool, w) {
         return;
     }
     pool::set_word(pool, w, pool::COLOUR, pool::RED);
@@ -145,16 +145,16 @@ fn under_copy(pool: &mut [u32], s: Side, copy: u32)
 }
 
 // the colour work after a diag's last store, B being risen
-fn end_diag(pool: &mut [u32], root: u32, rule: Rule, s: Side, b: u32)
-    ensures { λ _. ⌜ ((q : Register) → q .root ≡ root → now (pool .exit) ≡ endDiag rule (state (now (pool .entry)) q) s b .pool) ⌝ }
+fn end_diag(pool: &mut [u32], root: u32, purpose: Purpose, s: Side, b: u32)
+    ensures { λ _. ⌜ ((q : Register) → q .root ≡ root → now (pool .exit) ≡ endDiag purpose (state (now (pool .entry)) q) s b .pool) ⌝ }
 {
-    match rule {
-        Rule::Grow => pool::set_word(pool, root, pool::COLOUR, pool::BLACK),
-        Rule::Pass => {
+    match purpose {
+        Purpose::ForInsert => pool::set_word(pool, root, pool::COLOUR, pool::BLACK),
+        Purpose::RedSibling => {
             let copy = pool::child(pool, pool::other(s), b);
             under_copy(pool, s, copy);
         }
-        Rule::Borrow => {
+        Purpose::BlackSibling => {
             let outer = pool::child(pool, s, b);
             pool::set_word(pool, outer, pool::COLOUR, pool::BLACK);
         }
@@ -162,34 +162,41 @@ fn end_diag(pool: &mut [u32], root: u32, rule: Rule, s: Side, b: u32)
 }
 
 // whether the nodes that this colour work names are there
-fn end_diag_finds(pool: &[u32], rule: Rule, s: Side, b: u32) -> bool
-    ensures { λ r. ⌜ ((q : Register) → r ≡ endDiagFinds rule (state (now (pool .entry)) q) s b) ⌝ }
+fn end_diag_finds(pool: &[u32], purpose: Purpose, s: Side, b: u32) -> bool
+    ensures { λ r. ⌜ ((q : Register) → r ≡ endDiagFinds purpose (state (now (pool .entry)) q) s b) ⌝ }
 {
-    match rule {
-        Rule::Grow => true,
-        Rule::Pass => pool::child(pool, s, pool::child(pool, pool::other(s), b)) != 0,
-        Rule::Borrow => pool::child(pool, s, b) != 0,
+    match purpose {
+        Purpose::ForInsert => true,
+        Purpose::RedSibling => pool::child(pool, s, pool::child(pool, pool::other(s), b)) != 0,
+        Purpose::BlackSibling => pool::child(pool, s, b) != 0,
     }
 }
 
 // The link from above := B; C retired.
-pub fn diag_raise(pool: &mut [u32], h: Head, reading: u32, l: Link, s: Side, rule: Rule) -> Turned
+pub fn diag_raise(
+    pool: &mut [u32],
+    h: Head,
+    reading: u32,
+    l: Link,
+    s: Side,
+    purpose: Purpose,
+) -> StepResult
     requires { ⌜ length (now pool) < 8192 ⌝ }
-    ensures { λ r. ⌜ TriesReading reading l (DiagRaise s rule) (now (pool .entry)) h (now (pool .exit)) r ⌝ }
+    ensures { λ r. ⌜ TriesReading reading l (DiagRaise s purpose) (now (pool .entry)) h (now (pool .exit)) r ⌝ }
 {
     let c = register::node_at(pool, h.root, l);
     let b = pool::child(pool, s, c);
     if b == 0 {
         return heads::missed(h);
     }
-    if end_diag_finds(pool, rule, s, b) {} else {
+    if end_diag_finds(pool, purpose, s, b) {} else {
         return heads::missed(h);
     }
-    let colour = risen_colour(pool, rule, c);
+    let colour = risen_colour(pool, purpose, c);
     let risen = raise(pool, h, l, b, colour);
-    end_diag(pool, risen.root, rule, s, b);
+    end_diag(pool, risen.root, purpose, s, b);
     let head = queue::retire(pool, risen, reading, c);
-    Turned {
+    StepResult {
         found: true,
         link: l,
         node: b,
@@ -198,20 +205,27 @@ pub fn diag_raise(pool: &mut [u32], h: Head, reading: u32, l: Link, s: Side, rul
 }
 
 // the colour work after a zig's last store
-fn end_zig(pool: &mut [u32], root: u32, rule: Rule)
-    ensures { λ _. ⌜ ((q : Register) → q .root ≡ root → now (pool .exit) ≡ endZig rule (state (now (pool .entry)) q) .pool) ⌝ }
+fn end_zig(pool: &mut [u32], root: u32, purpose: Purpose)
+    ensures { λ _. ⌜ ((q : Register) → q .root ≡ root → now (pool .exit) ≡ endZig purpose (state (now (pool .entry)) q) .pool) ⌝ }
 {
-    match rule {
-        Rule::Grow => pool::set_word(pool, root, pool::COLOUR, pool::BLACK),
-        Rule::Pass => {}
-        Rule::Borrow => {}
+    match purpose {
+        Purpose::ForInsert => pool::set_word(pool, root, pool::COLOUR, pool::BLACK),
+        Purpose::RedSibling => {}
+        Purpose::BlackSibling => {}
     }
 }
 
 // The link from above := B; A and C retired.
-pub fn zig_raise(pool: &mut [u32], h: Head, reading: u32, l: Link, s: Side, rule: Rule) -> Turned
+pub fn zig_raise(
+    pool: &mut [u32],
+    h: Head,
+    reading: u32,
+    l: Link,
+    s: Side,
+    purpose: Purpose,
+) -> StepResult
     requires { ⌜ length (now pool) < 8192 ⌝ }
-    ensures { λ r. ⌜ TriesReading reading l (ZigRaise s rule) (now (pool .entry)) h (now (pool .exit)) r ⌝ }
+    ensures { λ r. ⌜ TriesReading reading l (ZigRaise s purpose) (now (pool .entry)) h (now (pool .exit)) r ⌝ }
 {
     let c = register::node_at(pool, h.root, l);
     let a = pool::child(pool, s, c);
@@ -219,11 +233,11 @@ pub fn zig_raise(pool: &mut [u32], h: Head, reading: u32, l: Link, s: Side, rule
     if b == 0 {
         return heads::missed(h);
     }
-    let colour = risen_colour(pool, rule, c);
+    let colour = risen_colour(pool, purpose, c);
     let risen = raise(pool, h, l, b, colour);
-    end_zig(pool, risen.root, rule);
+    end_zig(pool, risen.root, purpose);
     let head = queue::retire_two(pool, risen, reading, a, c);
-    Turned {
+    StepResult {
         found: true,
         link: l,
         node: b,

@@ -8,7 +8,7 @@ use mathlib.Core.Logic.{_≢_, _⊎_, inl, inr}
 use native.Mathlib.Omega.{arith}
 use native.Mathlib.Decide.{ℕ-discrete}
 use lib.ListN.{length, getD}
-use Rattle.types.specs.declared.Write.{Write}
+use Rattle.datatypes.specs.declared.Write.{Write}
 use Rattle.spec.specs.Pool.{word, child, keyWord, recordWord, slots}
 use Rattle.spec.specs.Register.{State, state, noReader, readerOf, withReader, withWrite}
 use Rattle.spec.specs.Free.{endReading}
@@ -19,7 +19,7 @@ use Rattle.tree.specs.Linked.{Linked, nil, cell, find}
 use Rattle.heap.specs.Rep.{Rep}
 use Rattle.readers.specs.Marks.{reader-same, reader-other}
 use Rattle.readers.specs.Descends.{turn-found, turn-finds, turn-absent}
-use Rattle.readers.specs.Does.{Does, refuses, plansInsert, plansDelete, waits, stores, begins, loads, misses, finds, leaves, Loads, atRoot, atNode, testsOf}
+use Rattle.readers.specs.CallCase.{CallCase, refuses, plansInsert, plansDelete, waits, stores, begins, loads, misses, finds, leaves, Loads, atRoot, atNode, testsOf}
 use Rattle.readers.specs.Safe.{Safe, end-reader, end-own}
 use Rattle.runs.specs.Writer.{Writer, afterStore}
 use Rattle.runs.specs.Sound.{Sound}
@@ -85,7 +85,7 @@ begun-stand st A s k t j e f u =
     (sym (reader-same (st .register) t (record { reading = true; key = j; node = 0 }) u)) (stand-begin _ _ _ A t j)))
 
 -- an accepted begin
-pub begun-right : (st : State) (c : Call) (o : Outcome) (A : Option ℕ → Type 0) (s k : ℕ) → Does st c o → Safe st → c ≡ beginning s k → o .answer ≡ ok → (s < slots) × StandAt (o .after) A s k
+pub begun-right : (st : State) (c : Call) (o : Outcome) (A : Option ℕ → Type 0) (s k : ℕ) → CallCase st c o → Safe st → c ≡ beginning s k → o .answer ≡ ok → (s < slots) × StandAt (o .after) A s k
 begun-right st c o A s k (refuses d n) safe e a = absurd (let z = ap toldOf a in omega arith)
 begun-right st c o A s k (plansInsert j v f) safe e a = absurd (let z = ap kindOf e in omega arith)
 begun-right st c o A s k (plansDelete j f) safe e a = absurd (let z = ap kindOf e in omega arith)
@@ -125,7 +125,7 @@ ended-not st t s u h i e = false≢true (sym (ap (λ y. y .reading) (end-own st 
 
 module _ (W : State → Plain → Linked → Type 0) (writer : Writer W) where
   -- found
-  pub found-right : (st : State) (x : Plain) (c : Call) (o : Outcome) (A : Option ℕ → Type 0) (s k v : ℕ) → Does st c o → Sound W writer st x → c ≡ turning s → o .answer ≡ found v → StandAt st A s k → A (some v)
+  pub found-right : (st : State) (x : Plain) (c : Call) (o : Outcome) (A : Option ℕ → Type 0) (s k v : ℕ) → CallCase st c o → Sound W writer st x → c ≡ turning s → o .answer ≡ found v → StandAt st A s k → A (some v)
   found-right st x c o A s k v (refuses d n) h e a g = absurd (let z = ap toldOf a in omega arith)
   found-right st x c o A s k v (plansInsert j w f) h e a g = absurd (let z = ap kindOf e in omega arith)
   found-right st x c o A s k v (plansDelete j f) h e a g = absurd (let z = ap kindOf e in omega arith)
@@ -144,7 +144,7 @@ module _ (W : State → Plain → Linked → Type 0) (writer : Writer W) where
   found-right st x c o A s k v (leaves t p) h e a g = absurd (let z = ap toldOf a in omega arith)
 
   -- absent
-  pub absent-right : (st : State) (x : Plain) (c : Call) (o : Outcome) (A : Option ℕ → Type 0) (s k : ℕ) → Does st c o → Sound W writer st x → c ≡ turning s → o .answer ≡ absent
+  pub absent-right : (st : State) (x : Plain) (c : Call) (o : Outcome) (A : Option ℕ → Type 0) (s k : ℕ) → CallCase st c o → Sound W writer st x → c ≡ turning s → o .answer ≡ absent
       → A (recordFor k (x .tickets)) → StandAt st A s k → A none
   absent-right st x c o A s k (refuses d n) h e a was g = absurd (let z = ap toldOf a in omega arith)
   absent-right st x c o A s k (plansInsert j w f) h e a was g = absurd (let z = ap kindOf e in omega arith)
@@ -167,7 +167,7 @@ module _ (W : State → Plain → Linked → Type 0) (writer : Writer W) where
   absent-right st x c o A s k (leaves t p) h e a was g = absurd (let z = ap toldOf a in omega arith)
 
   -- a slot that reads after a call read before it and the call did not end that, or the call begins its lookup
-  pub read-before : (st : State) (x : Plain) (c : Call) (o : Outcome) → Does st c o → Sound W writer st x → (s : ℕ) → s < slots → reading (o .after) s ≡ true
+  pub read-before : (st : State) (x : Plain) (c : Call) (o : Outcome) → CallCase st c o → Sound W writer st x → (s : ℕ) → s < slots → reading (o .after) s ≡ true
       → ((reading st s ≡ true) × (¬ (EndsBy c (o .answer) s))) ⊎ ((k : ℕ) × (c ≡ beginning s k) × (o .answer ≡ ok))
   read-before st x c o (refuses d n) h s u e = inl (e, not-told d (refused (firstOf (testsOf st d))) s (omega arith) (omega arith) (omega arith))
   read-before st x c o (plansInsert j v f) h s u e = inl (sym (write-reading st _ s) ∙ e, not-kind (inserting j v) ok s (omega arith) (omega arith))

@@ -15,7 +15,7 @@ use Rattle.laws.specs.Words.{word-at, word-none}
 use Rattle.laws.specs.Queue.{NotIn, Distinct, Chain, lastOf}
 use Rattle.readers.specs.Marks.{no-bit}
 use Rattle.readers.specs.Words.{node-in, node-high, past-end}
-use Rattle.readers.specs.Stock.{Stock}
+use Rattle.readers.specs.QueueExact.{QueueExact}
 use Rattle.readers.specs.Owned.{Owned}
 use Rattle.readers.specs.Safe.{Safe}
 use Rattle.ranges.specs.Fits.{Fit, Fits, fit-zero, fit-next}
@@ -125,9 +125,9 @@ module _ (N : ℕ) (lo : 8 ≤ N) where
   chain-run zero n a e = (refl, node-in p n a (let z = size in omega arith), (let i : n ≡ N = omega arith in rw i word-last))
   chain-run (suc k) n a e = (refl, node-in p n a (let z = size in omega arith), rw (word-next n a (omega arith)) (chain-run k (n + 1) (omega arith) (omega arith)))
 
-  stock : Stock (fresh N) (run N 1)
+  exact : QueueExact (fresh N) (run N 1)
   unfolding fresh freshRegister
-  stock =
+  exact =
       let z = size in
       let i : suc (N - 1) ≡ N = omega arith in
       record {
@@ -157,7 +157,7 @@ module _ (N : ℕ) (lo : 8 ≤ N) where
   owned : Owned (fresh N) (run N 1)
   unfolding fresh freshRegister
   owned = record {
-    stock = stock;
+    exact = exact;
     good = λ n h. rw (word-low n standingWord (omega arith), word-low n holdersWord (omega arith))
         (record { rank = omega arith; mask = omega arith; holder = λ e. absurd (omega arith); reads = λ e. absurd (omega arith) });
     awaited = record { below = omega arith; reads = λ s u e. absurd (false≢true (sym (no-bit s) ∙ e)) };

@@ -7,25 +7,25 @@ use mathlib.Core.Logic.{_≢_, _⊎_, inl, inr, ⊎-elim}
 use native.Mathlib.Omega.{arith}
 use native.Mathlib.Decide.{ℕ-discrete}
 use lib.ListN.{getD}
-use Rattle.types.specs.declared.Reader.{Reader}
-use Rattle.types.specs.declared.Write.{Write}
+use Rattle.datatypes.specs.declared.Reader.{Reader}
+use Rattle.datatypes.specs.declared.Write.{Write}
 use Rattle.spec.specs.Pool.{slots, standingLinked}
 use Rattle.spec.specs.Register.{State, state, noReader, readerOf, storeOf, withReader, withAwaited, withWrite, hasSlot, dropSlot}
 use Rattle.spec.specs.Free.{endReading}
 use Rattle.spec.specs.Turn.{stepMade}
 use Rattle.spec.specs.Calls.{Answer, ok, go, absent, found, Outcome, reading, Call, turning, givingUp}
-use Rattle.spec.specs.PlainList.{Plain, recordFor, heard, feed, storeMade}
+use Rattle.spec.specs.PlainList.{Plain, recordFor, noticeOf, feed, storeMade}
 use Rattle.laws.specs.Slots.{drop-other}
 use Rattle.tree.specs.Distinct.{_∈_}
 use Rattle.tree.specs.Linked.{Linked, find, nodes}
 use Rattle.readers.specs.Marks.{no-bit, reading-bit, reader-same, reader-other}
 use Rattle.readers.specs.Release.{ended, end-released}
-use Rattle.readers.specs.Reach.{Stands, Kept, kept-end, linked-end, kept-store}
-use Rattle.readers.specs.Fates.{Reading}
-use Rattle.readers.specs.Does.{Does, refuses, plansInsert, plansDelete, waits, stores, begins, loads, misses, finds, leaves, Loads, atRoot, atNode, Passed}
+use Rattle.readers.specs.Reach.{HasStanding, Kept, kept-end, linked-end, kept-store}
+use Rattle.readers.specs.NodeChanges.{Reading}
+use Rattle.readers.specs.CallCase.{CallCase, refuses, plansInsert, plansDelete, waits, stores, begins, loads, misses, finds, leaves, Loads, atRoot, atNode, Passed}
 use Rattle.readers.specs.Safe.{Safe, end-reader}
 use Rattle.runs.specs.Writer.{Stores, Writer, afterStore}
-use Rattle.runs.specs.Sound.{Sound, store-went}
+use Rattle.runs.specs.Sound.{Sound, store-carriedOut}
 use Rattle.runs.specs.Slot.{Route, Stand, stand-more, stand-root, stand-child, stand-alike, finds-store, route-store}
 
 -- the call c with this answer ends the reading of slot s
@@ -59,15 +59,15 @@ ended-awaited st t = (refl, refl)
 stand-end : (st : State) (A : Option ℕ → Type 0) (s t k : ℕ) → t ≢ s → Safe st → StandAt st A s k → StandAt (endReading st t) A s k
 stand-end st A s t k d h g =
     let q = h .queue in
-    let stock = h .owned .stock in
-    let r = end-released st t q stock in
+    let exact = h .owned .exact in
+    let r = end-released st t q exact in
     let e = ended-awaited st t in
     let root : endReading st t .register .root ≡ st .register .root = r .else .root ∙ e .1 in
     let bit : hasSlot (endReading st t .register .awaited) s ≡ hasSlot (st .register .awaited) s = ap (λ m. hasSlot m s) (r .else .awaited ∙ e .0) ∙ drop-other (st .register .awaited) t s d in
     rw (root, end-reader st t s h d)
     (stand-alike (st .pool) (endReading st t .pool) (st .register .root) (st .register .awaited) (endReading st t .register .awaited) (readerOf (st .register) s) A s k
     (record { size = r .size; words = λ n f v. r .words n f (omega arith) })
-    (linked-end st t q (h .whole) stock) (λ n. kept-end st t q (h .whole) stock s n d) bit g)
+    (linked-end st t q (h .whole) exact) (λ n. kept-end st t q (h .whole) exact s n d) bit g)
 
 module _ (W : State → Plain → Linked → Type 0) (writer : Writer W) where
   -- a store
@@ -81,7 +81,7 @@ module _ (W : State → Plain → Linked → Type 0) (writer : Writer W) where
       let same : readerOf (after .register) s ≡ readerOf (st .register) s = ap (λ xs. getD xs s noReader) (z .turn .readers) in
       let rep = writer .unfolds st x T (h .holds) in
       let rep′ = writer .unfolds after x′ T′ (z .kept) in
-      let lk : (m : ℕ) → m ∈ nodes T → Stands (st .pool) m standingLinked = λ m. writer .linked st x T (h .holds) m .1 in
+      let lk : (m : ℕ) → m ∈ nodes T → HasStanding (st .pool) m standingLinked = λ m. writer .linked st x T (h .holds) m .1 in
       let here : n ≢ 0 → Kept (st .pool) s n = h .safe .at s u (g .reads) in
       let answer : A′ (find T′ k) = rw (writer .finds after x′ T′ (z .kept) k) now in
       let route : n ≢ 0 → Route (st .pool) (st .register .root) s n k =
@@ -114,16 +114,16 @@ module _ (W : State → Plain → Linked → Type 0) (writer : Writer W) where
           subst (λ m. Stand (st .pool) (st .register .root) (st .register .awaited) (record { reading = true; key = readerOf (st .register) s .key; node = m }) A s k) (sym e)
           (stand-child (st .pool) (st .register .root) (st .register .awaited) (readerOf (st .register) s) A s k a b (h .safe .at s u (g .reads) a) g)
 
-  pub stand-next : (st : State) (x : Plain) (c : Call) (o : Outcome) → Does st c o → (h : Sound W writer st x) → (A A′ : Option ℕ → Type 0) (s k : ℕ) → s < slots → ((y : Option ℕ) → A y → A′ y)
-      → A (recordFor k (x .tickets)) → A′ (recordFor k (feed x c (heard (o .answer)) .tickets)) → ¬ (EndsBy c (o .answer) s) → StandAt st A s k → StandAt (o .after) A′ s k
+  pub stand-next : (st : State) (x : Plain) (c : Call) (o : Outcome) → CallCase st c o → (h : Sound W writer st x) → (A A′ : Option ℕ → Type 0) (s k : ℕ) → s < slots → ((y : Option ℕ) → A y → A′ y)
+      → A (recordFor k (x .tickets)) → A′ (recordFor k (feed x c (noticeOf (o .answer)) .tickets)) → ¬ (EndsBy c (o .answer) s) → StandAt st A s k → StandAt (o .after) A′ s k
   stand-next st x c o (refuses d n) h A A′ s k u more was now lasts g = stand-more _ _ _ _ A A′ s k more g
   stand-next st x c o (plansInsert j v e) h A A′ s k u more was now lasts g = stand-write st A′ s k _ (stand-more _ _ _ _ A A′ s k more g)
   stand-next st x c o (plansDelete j e) h A A′ s k u more was now lasts g = stand-write st A′ s k _ (stand-more _ _ _ _ A A′ s k more g)
   stand-next st x c o (waits d) h A A′ s k u more was now lasts g = stand-more _ _ _ _ A A′ s k more g
   stand-next st x c o (stores a w f) h A A′ s k u more was now lasts g =
       let z = writer .store st x (h .tree) (h .safe) (h .holds) a w f in
-      let went = store-went (stepMade st (storeOf (st .register) 0 .link) (storeOf (st .register) 0 .step)) in
-      stand-stored st x A A′ s k h (storeMade x (x .inHand)) u more (rw went at now) a z g
+      let carriedOut = store-carriedOut (stepMade st (storeOf (st .register) 0 .link) (storeOf (st .register) 0 .step)) in
+      stand-stored st x A A′ s k h (storeMade x (x .inHand)) u more (rw carriedOut at now) a z g
   stand-next st x c o (begins t j v e) h A A′ s k u more was now lasts g =
       stand-other st A′ s t k _ (λ i. false≢true (sym e ∙ subst (λ m. reading st m ≡ true) (sym i) (g .reads))) (stand-more _ _ _ _ A A′ s k more g)
   stand-next st x c o (loads t n p l d) h A A′ s k u more was now lasts g = stand-loads st x h A A′ s k u more was g t n p l d (ℕ-discrete t s)
@@ -135,7 +135,7 @@ module _ (W : State → Plain → Linked → Type 0) (writer : Writer W) where
       stand-end st A′ s t k (λ i. lasts (inr (inr (ap givingUp i, refl)))) (h .safe) (stand-more _ _ _ _ A A′ s k more g)
 
   -- and every kept node stays kept
-  pub kept-next : (st : State) (x : Plain) (c : Call) (o : Outcome) → Does st c o → (h : Sound W writer st x) → (s m : ℕ) → s < slots → reading st s ≡ true → ¬ (EndsBy c (o .answer) s)
+  pub kept-next : (st : State) (x : Plain) (c : Call) (o : Outcome) → CallCase st c o → (h : Sound W writer st x) → (s m : ℕ) → s < slots → reading st s ≡ true → ¬ (EndsBy c (o .answer) s)
       → Kept (st .pool) s m → Kept (o .after .pool) s m
   kept-next st x c o (refuses d n) h s m u r lasts k = k
   kept-next st x c o (plansInsert j v e) h s m u r lasts k = k
@@ -143,9 +143,9 @@ module _ (W : State → Plain → Linked → Type 0) (writer : Writer W) where
   kept-next st x c o (waits d) h s m u r lasts k = k
   kept-next st x c o (stores a w f) h s m u r lasts k =
       let z = writer .store st x (h .tree) (h .safe) (h .holds) a w f in
-      kept-store (st .pool) (afterStore st .pool) (Reading (st .register)) (z .turn .fate) s m u r k
+      kept-store (st .pool) (afterStore st .pool) (Reading (st .register)) (z .turn .change) s m u r k
   kept-next st x c o (begins t j v e) h s m u r lasts k = k
   kept-next st x c o (loads t n p l d) h s m u r lasts k = k
-  kept-next st x c o (misses t n p l e) h s m u r lasts k = kept-end st t (h .safe .queue) (h .safe .whole) (h .safe .owned .stock) s m (λ i. lasts (inl (ap turning i, refl))) k
-  kept-next st x c o (finds t p d e) h s m u r lasts k = kept-end st t (h .safe .queue) (h .safe .whole) (h .safe .owned .stock) s m (λ i. lasts (inr (inl (_, ap turning i, refl)))) k
-  kept-next st x c o (leaves t p) h s m u r lasts k = kept-end st t (h .safe .queue) (h .safe .whole) (h .safe .owned .stock) s m (λ i. lasts (inr (inr (ap givingUp i, refl)))) k
+  kept-next st x c o (misses t n p l e) h s m u r lasts k = kept-end st t (h .safe .queue) (h .safe .whole) (h .safe .owned .exact) s m (λ i. lasts (inl (ap turning i, refl))) k
+  kept-next st x c o (finds t p d e) h s m u r lasts k = kept-end st t (h .safe .queue) (h .safe .whole) (h .safe .owned .exact) s m (λ i. lasts (inr (inl (_, ap turning i, refl)))) k
+  kept-next st x c o (leaves t p) h s m u r lasts k = kept-end st t (h .safe .queue) (h .safe .whole) (h .safe .owned .exact) s m (λ i. lasts (inr (inr (ap givingUp i, refl)))) k

@@ -11,27 +11,27 @@ use native.Mathlib.Decide.{ℕ-discrete}
 use lib.Dec.{eqb}
 use lib.ListN.{length}
 use borrow.Author.Tests.{eqb-true, eqb-false, eq-eqb, le-leb}
-use Rattle.types.specs.declared.Link.{Link}
+use Rattle.datatypes.specs.declared.Link.{Link}
 use Rattle.sequential.specs.Tree.{leaf}
 use Rattle.sequential.specs.Delete.{changedBy}
 use Rattle.spec.specs.Pool.{word, colourWord, nodes, nodeWords, leastNodes, mostNodes, slots, lengthRight}
 use Rattle.spec.specs.Register.{State, mostStores, storeOf, hasSlot, withWrite, lessFirst}
 use Rattle.spec.specs.Turn.{Made, stepFinds, stepMade}
 use Rattle.spec.specs.Calls.{Answer, ok, go, absent, wait, found, more, done, refused, Outcome, stored, Test, _gives_, firstOf, wrongLength, outOfRange, reading, writeInHand, placeOf, tooDeep, isHeld, fewerFree, insertAt, deleteAt, readerTests, Call, inserting, deleting, writing, beginning, turning, givingUp}
-use Rattle.spec.specs.PlainList.{Plain, went, heard, accepted}
+use Rattle.spec.specs.PlainList.{Plain, carriedOut, noticeOf, acceptedWrites}
 use Rattle.laws.specs.Slots.{no-slot}
 use Rattle.tree.specs.Linked.{Linked}
 use Rattle.promise.specs.Run.{after}
 use Rattle.promise.specs.Demands.{Stands, FreeRight}
 use Rattle.readers.specs.Words.{Whole, node-high, node-in}
-use Rattle.readers.specs.Does.{Does, refuses, plansInsert, plansDelete, waits, stores, begins, loads, misses, finds, leaves, testsOf, insertTests, deleteTests, turnTests, beginTests, own, waiting, Clear, not-false}
+use Rattle.readers.specs.CallCase.{CallCase, refuses, plansInsert, plansDelete, waits, stores, begins, loads, misses, finds, leaves, testsOf, insertTests, deleteTests, turnTests, beginTests, own, waiting, Clear, not-false}
 use Rattle.readers.specs.Safe.{Safe}
-use Rattle.runs.specs.Sound.{store-went}
+use Rattle.runs.specs.Sound.{store-carriedOut}
 
 -- the free queue
 pub safe-free : (st : State) → Safe st → FreeRight st
 safe-free st h =
-    let z = h .owned .stock in
+    let z = h .owned .exact in
     record {
       queue = h .queue;
       queued = z .queued;
@@ -85,7 +85,7 @@ stored-not : (m : Made) → ¬ (stored m .answer ≡ wait)
 stored-not m e = ⊎-elim (λ a. let z = ap toldOf e in omega arith) (λ a. let z = ap toldOf e in let b = a .0 in omega arith) (stored-told m)
 
 -- a turn answers wait only while an awaited slot is reading
-pub wait-right : (st : State) (c : Call) (o : Outcome) → Does st c o → Safe st → o .answer ≡ wait → (s : ℕ) × (s < slots) × (hasSlot (st .register .awaited) s ≡ true) × (reading st s ≡ true)
+pub wait-right : (st : State) (c : Call) (o : Outcome) → CallCase st c o → Safe st → o .answer ≡ wait → (s : ℕ) × (s < slots) × (hasSlot (st .register .awaited) s ≡ true) × (reading st s ≡ true)
 wait-right st c o (refuses d n) h e = absurd (let z = ap toldOf e in omega arith)
 wait-right st c o (plansInsert j v f) h e = absurd (let z = ap toldOf e in omega arith)
 wait-right st c o (plansDelete j f) h e = absurd (let z = ap toldOf e in omega arith)
@@ -133,7 +133,7 @@ stored-number m = go (eqb (lessFirst (m .after .register .write) .count) 0)
     go false = refl
 
 -- a refusal is its tests'
-pub refused-by : (st : State) (c : Call) (o : Outcome) (n : ℕ) → n ≢ 0 → Does st c o → o .answer ≡ refused n → firstOf (testsOf st c) ≡ n
+pub refused-by : (st : State) (c : Call) (o : Outcome) (n : ℕ) → n ≢ 0 → CallCase st c o → o .answer ≡ refused n → firstOf (testsOf st c) ≡ n
 refused-by st c o n z (refuses d x) e = ap numberOf e
 refused-by st c o n z (plansInsert j v f) e = absurd (z (sym (ap numberOf e)))
 refused-by st c o n z (plansDelete j f) e = absurd (z (sym (ap numberOf e)))
@@ -173,7 +173,7 @@ length-right st N lo hi w e =
 
 -- What the writer's side gives of these.
 pub record Completes (W : State → Plain → Linked → Type 0) : Type 0 where
-  pub rest : (st : State) (x : Plain) (T : Linked) → W st x T → ((n : ℕ) → word (st .pool) n colourWord ≤ 1) → writeInHand st ≡ false → Stands (st .pool) (st .register .root) (changedBy leaf (accepted x))
+  pub rest : (st : State) (x : Plain) (T : Linked) → W st x T → ((n : ℕ) → word (st .pool) n colourWord ≤ 1) → writeInHand st ≡ false → Stands (st .pool) (st .register .root) (changedBy leaf (acceptedWrites x))
   pub few : (st : State) (x : Plain) (T : Linked) → W st x T → writeInHand st ≡ true → x .made + st .register .write .count ≤ mostStores
   pub insertGoes : (st : State) (x : Plain) (T : Linked) (k v : ℕ) → Safe st → W st x T → writeInHand st ≡ false
       → (tooDeep (placeOf st k) ≡ false) × (isHeld (placeOf st k) ≡ false → fewerFree st 3 ≡ false → insertAt st k v (placeOf st k) .possible ≡ true)
@@ -247,12 +247,12 @@ none-awaited st h f =
 pub turn-clear : (st : State) → wrongLength st ≡ false → outOfRange st ≡ false → writeInHand st ≡ true → own st ≡ true → firstOf (turnTests st) ≡ 0
 turn-clear st a b w f = all-clear (turnTests st) (a, (b, (not-true (writeInHand st) w, (and-false (not (waiting st)) (not (own st)) (not-true (own st) f), tt))))
 
-pub turn-goes : (st : State) (c : Call) (o : Outcome) → Does st c o → firstOf (testsOf st c) ≡ 0 → st .register .awaited ≡ 0 → heard (o .answer) ≡ went
+pub turn-goes : (st : State) (c : Call) (o : Outcome) → CallCase st c o → firstOf (testsOf st c) ≡ 0 → st .register .awaited ≡ 0 → noticeOf (o .answer) ≡ carriedOut
 turn-goes st c o (refuses d x) e z = absurd (x e)
 turn-goes st c o (plansInsert j v f) e z = refl
 turn-goes st c o (plansDelete j f) e z = refl
 turn-goes st c o (waits d) e z = absurd (d z)
-turn-goes st c o (stores a w f) e z = store-went (stepMade st (storeOf (st .register) 0 .link) (storeOf (st .register) 0 .step))
+turn-goes st c o (stores a w f) e z = store-carriedOut (stepMade st (storeOf (st .register) 0 .link) (storeOf (st .register) 0 .step))
 turn-goes st c o (begins t j u f) e z = refl
 turn-goes st c o (loads t n p l f) e z = refl
 turn-goes st c o (misses t n p l f) e z = refl
@@ -269,7 +269,7 @@ stored-done m = go (eqb (lessFirst (m .after .register .write) .count) 0) refl
     go true e t = eqb-true _ 0 e
     go false e t = absurd (omega arith)
 
-pub done-left : (st : State) (c : Call) (o : Outcome) (l : Link) (n : ℕ) → Does st c o → o .answer ≡ done l n → o .after .register .write .count ≡ 0
+pub done-left : (st : State) (c : Call) (o : Outcome) (l : Link) (n : ℕ) → CallCase st c o → o .answer ≡ done l n → o .after .register .write .count ≡ 0
 done-left st c o l n (refuses d x) e = absurd (let z = ap toldOf e in omega arith)
 done-left st c o l n (plansInsert j v f) e = absurd (let z = ap toldOf e in omega arith)
 done-left st c o l n (plansDelete j f) e = absurd (let z = ap toldOf e in omega arith)

@@ -7,11 +7,11 @@ use mathlib.Core.Option.{Option, none}
 use mathlib.Core.Logic.{_≢_, _⊎_, inl, inr, ⊎-elim, ⊎-map}
 use native.Mathlib.Omega.{arith}
 use borrow.Author.Tests.{ne-eqb}
-use Rattle.types.specs.declared.Side.{Side}
-use Rattle.types.specs.declared.Side.the-variants.{L, R}
-use Rattle.types.specs.declared.Link.{Link}
-use Rattle.types.specs.declared.Link.the-variants.{Root, Left, Right}
-use Rattle.types.specs.declared.Reader.{Reader}
+use Rattle.datatypes.specs.declared.Side.{Side}
+use Rattle.datatypes.specs.declared.Side.the-variants.{L, R}
+use Rattle.datatypes.specs.declared.Link.{Link}
+use Rattle.datatypes.specs.declared.Link.the-variants.{Root, Left, Right}
+use Rattle.datatypes.specs.declared.Reader.{Reader}
 use Rattle.spec.specs.Pool.{word, child, keyWord, slots, standingWord, standingFree, standingLinked}
 use Rattle.spec.specs.Register.{State, hasSlot}
 use Rattle.spec.specs.Search.{towards}
@@ -20,8 +20,8 @@ use Rattle.tree.specs.Distinct.{_∈_, in-append}
 use Rattle.tree.specs.Thin.{Thin, thin-weaken}
 use Rattle.tree.specs.Linked.{Linked, nil, cell, find, path, nodes}
 use Rattle.heap.specs.Rep.{Rep, Alike, rep-alike}
-use Rattle.readers.specs.Reach.{Stands, Kept, Closed, kept-stands, kept-child, kept-store, not-again}
-use Rattle.readers.specs.Fates.{Reading}
+use Rattle.readers.specs.Reach.{HasStanding, Kept, Closed, kept-stands, kept-child, kept-store, not-again}
+use Rattle.readers.specs.NodeChanges.{Reading}
 use Rattle.readers.specs.Graft.{All, all-map, Redirects, hits}
 use Rattle.readers.specs.Lookups.{Unlinked, Finds, OnWay, Store, store-finds, store-way, Anew, anew-finds, anew-way, root-way}
 use Rattle.readers.specs.Descends.{turn-finds, turn-way}
@@ -82,7 +82,7 @@ stand-child p root awaited x A s k d e kp h =
 
 -- Another slot ends: links, keys and records stay, the same nodes are linked, and what is kept for this slot stays kept.
 pub stand-alike : (p q : List ℕ) (root awaited awaited′ : ℕ) (x : Reader) (A : Option ℕ → Type 0) (s k : ℕ) → Alike 4 p q
-    → ((n : ℕ) → Stands q n standingLinked → Stands p n standingLinked) → ((n : ℕ) → Kept p s n → Kept q s n) → hasSlot awaited′ s ≡ hasSlot awaited s
+    → ((n : ℕ) → HasStanding q n standingLinked → HasStanding p n standingLinked) → ((n : ℕ) → Kept p s n → Kept q s n) → hasSlot awaited′ s ≡ hasSlot awaited s
     → Stand p root awaited x A s k → Stand q root awaited′ x A s k
 stand-alike p q root awaited awaited′ x A s k a linked kept e h = record {
   reads = h .reads;
@@ -108,8 +108,8 @@ pub all-kept : (p : List ℕ) (s : ℕ) → s < slots → Closed p → (t : Link
 all-kept p s u c nil a h k = tt
 all-kept p s u c (cell N l r) a h k =
     let d : a ≢ 0 = (let i = h .0 .is in let j = h .0 .within .low in omega arith) in
-    let top : Kept p s (N .num) = subst (λ n. Kept p s n) (h .0 .is) (k d) in
-    (top, all-kept p s u c l _ (h .1) (λ z. kept-child p s (N .num) L u c top z), all-kept p s u c r _ (h .2) (λ z. kept-child p s (N .num) R u c top z))
+    let capacity : Kept p s (N .num) = subst (λ n. Kept p s n) (h .0 .is) (k d) in
+    (capacity, all-kept p s u c l _ (h .1) (λ z. kept-child p s (N .num) L u c capacity z), all-kept p s u c r _ (h .2) (λ z. kept-child p s (N .num) R u c capacity z))
 
 abbrev pub NotFree : List ℕ → ℕ → Type 0
 NotFree p n = word p n standingWord ≢ standingFree
@@ -152,7 +152,7 @@ module _ (st after : State) (came gone : List ℕ) (v : ℕ) where
       none n R u = refl
 
 module _ (st after : State) (came gone : List ℕ) (v : ℕ) (T T′ below : Linked) (before : Rep (st .pool) (st .register .root) T)
-    (linked : (n : ℕ) → n ∈ nodes T → Stands (st .pool) n standingLinked) (unfolds : Rep (after .pool) v below) (then : Rep (after .pool) (after .register .root) T′)
+    (linked : (n : ℕ) → n ∈ nodes T → HasStanding (st .pool) n standingLinked) (unfolds : Rep (after .pool) v below) (then : Rep (after .pool) (after .register .root) T′)
     (n k : ℕ) (A A′ : Option ℕ → Type 0) (more : (o : Option ℕ) → A o → A′ o) (now : A′ (find T′ k)) (s : ℕ) (u : s < slots) (closed : Closed (st .pool)) (here : Kept (st .pool) s n) where
   abbrev p : List ℕ
   p = st .pool
@@ -170,12 +170,12 @@ module _ (st after : State) (came gone : List ℕ) (v : ℕ) (T T′ below : Lin
   all-tree = all-nodes U T (λ m i. let e = linked m i in λ z. omega arith)
 
   again : (l : Link) → Turn st after came gone l v → (m : ℕ) → U m → Unlinked p m → Unlinked q m
-  again l t m a b = not-again p q (Reading (st .register)) (t .fate) m a b
+  again l t m a b = not-again p q (Reading (st .register)) (t .change) m a b
 
-  store-left : (d : ℕ) → Turn st after came gone (Left d) v → Stands p d standingLinked → Store p q U d L v (st .register .root) T T′
+  store-left : (d : ℕ) → Turn st after came gone (Left d) v → HasStanding p d standingLinked → Store p q U d L v (st .register .root) T T′
   store-left d t o = record { words = redirects-left st after came gone v d t; linked = o; below = below; unfolds = unfolds; before = before; after = rw (t .root) at then; all = all-tree }
 
-  store-right : (d : ℕ) → Turn st after came gone (Right d) v → Stands p d standingLinked → Store p q U d R v (st .register .root) T T′
+  store-right : (d : ℕ) → Turn st after came gone (Right d) v → HasStanding p d standingLinked → Store p q U d R v (st .register .root) T T′
   store-right d t o = record { words = redirects-right st after came gone v d t; linked = o; below = below; unfolds = unfolds; before = before; after = rw (t .root) at then; all = all-tree }
 
   store-root : Turn st after came gone Root v → Anew p q U (st .register .root) (after .register .root) T T′
@@ -189,7 +189,7 @@ module _ (st after : State) (came gone : List ℕ) (v : ℕ) (T T′ below : Lin
 
   -- R2
   pub route-store : (l : Link) → Turn st after came gone l v → OwnerLinked p l → Reading (st .register) s → Thin (Unlinked q) (path T k) (path T′ k) → Route p (st .register .root) s n k → Route q (after .register .root) s n k
-  route-store l t o reads thins r = record { seen = r .seen; kept = λ m i. kept-store p q (Reading (st .register)) (t .fate) s m u reads (r .kept m i); way = go l t o }
+  route-store l t o reads thins r = record { seen = r .seen; kept = λ m i. kept-store p q (Reading (st .register)) (t .change) s m u reads (r .kept m i); way = go l t o }
     where
       usable : (m : ℕ) → m ∈ r .seen → U m
       usable m i = kept-stands p s m (r .kept m i)

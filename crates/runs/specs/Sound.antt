@@ -7,24 +7,24 @@ use mathlib.Core.Logic.{_≢_, _⊎_, inl, inr, ⊎-elim, _↔_}
 use native.Mathlib.Omega.{arith}
 use lib.ListN.{length-append}
 use lib.Dec.{eqb}
-use Rattle.types.specs.declared.Side.{Side}
-use Rattle.types.specs.declared.Side.the-variants.{L, R}
-use Rattle.types.specs.declared.Reader.{Reader}
+use Rattle.datatypes.specs.declared.Side.{Side}
+use Rattle.datatypes.specs.declared.Side.the-variants.{L, R}
+use Rattle.datatypes.specs.declared.Reader.{Reader}
 use Rattle.spec.specs.Pool.{child, slots, standingLinked, nodes as poolNodes}
 use Rattle.spec.specs.Register.{State, state, storeOf, readerOf, withReader, withAwaited, lessFirst}
 use Rattle.spec.specs.Free.{endReading}
 use Rattle.spec.specs.Search.{towards}
 use Rattle.spec.specs.Turn.{Made, stepMade}
 use Rattle.spec.specs.Calls.{more, done, Outcome, stored, Call, call}
-use Rattle.spec.specs.PlainList.{Plain, went, heard, feed}
+use Rattle.spec.specs.PlainList.{Plain, carriedOut, noticeOf, feed}
 use Rattle.tree.specs.Distinct.{_∈_, in-append}
 use Rattle.tree.specs.Linked.{Linked, nil, cell, nodes}
 use Rattle.heap.specs.Rep.{Rep, alike-refl}
 use Rattle.readers.specs.Release.{ended, freedBelow, end-released}
-use Rattle.readers.specs.Reach.{Stands, Kept, LinkedClosed, kept-child, end-linked, linked-end}
-use Rattle.readers.specs.Does.{Does, refuses, plansInsert, plansDelete, waits, stores, begins, loads, misses, finds, leaves, Loads, atRoot, atNode, Passed}
+use Rattle.readers.specs.Reach.{HasStanding, Kept, LinkedClosed, kept-child, end-linked, linked-end}
+use Rattle.readers.specs.CallCase.{CallCase, refuses, plansInsert, plansDelete, waits, stores, begins, loads, misses, finds, leaves, Loads, atRoot, atNode, Passed}
 use Rattle.readers.specs.Safe.{Safe, safe-write, safe-reader, safe-end, safe-turn}
-use Rattle.runs.specs.Writer.{Still, Stores, Writer, afterStore}
+use Rattle.runs.specs.Writer.{LeavesTree, Stores, Writer, afterStore}
 
 -- the children of a tree's nodes are its nodes
 rep-top : (p : List ℕ) (a : ℕ) (t : Linked) → Rep p a t → a ≢ 0 → a ∈ nodes t
@@ -39,34 +39,34 @@ rep-child p (cell N l r) a n z h (inr i) d =
     inr (in-append _ (nodes l) (nodes r) .1
     (⊎-elim (λ j. inl (rep-child p l _ n z (h .1) j d)) (λ j. inr (rep-child p r _ n z (h .2) j d)) (in-append n (nodes l) (nodes r) .0 i)))
 
-module _ (p : List ℕ) (root : ℕ) (T : Linked) (h : Rep p root T) (l : (n : ℕ) → Stands p n standingLinked ↔ (n ∈ nodes T)) where
+module _ (p : List ℕ) (root : ℕ) (T : Linked) (h : Rep p root T) (l : (n : ℕ) → HasStanding p n standingLinked ↔ (n ∈ nodes T)) where
   pub tree-closed : LinkedClosed p
   tree-closed n z e d = l (child p z n) .1 (rep-child p T root n z h (l n .0 e) d)
 
-  pub root-linked : root ≢ 0 → Stands p root standingLinked
+  pub root-linked : root ≢ 0 → HasStanding p root standingLinked
   root-linked d = l root .1 (rep-top p root T h d)
 
 -- What the calls of readers leave alone.
-still-reader : (st : State) (s : ℕ) (x : Reader) → Still st (state (st .pool) (withReader (st .register) s x))
+leavesTree-reader : (st : State) (s : ℕ) (x : Reader) → LeavesTree st (state (st .pool) (withReader (st .register) s x))
 unfolding withReader
-still-reader st s x = record { words = alike-refl 5 (st .pool); linked = λ n. (λ e. e, λ e. e); root = refl; held = refl; write = refl; free = omega arith }
+leavesTree-reader st s x = record { words = alike-refl 5 (st .pool); linked = λ n. (λ e. e, λ e. e); root = refl; held = refl; write = refl; free = omega arith }
 
 ended-fields : (st : State) (s : ℕ) → (ended st s .register .root ≡ st .register .root) × (ended st s .register .held ≡ st .register .held) × (ended st s .register .write ≡ st .register .write)
 unfolding withReader withAwaited
 ended-fields st s = (refl, refl, refl)
 
-still-end : (st : State) (s : ℕ) → s < slots → Safe st → Still st (endReading st s)
-still-end st s u h =
+leavesTree-end : (st : State) (s : ℕ) → s < slots → Safe st → LeavesTree st (endReading st s)
+leavesTree-end st s u h =
     let q = h .queue in
-    let stock = h .owned .stock in
-    let d = end-released st s q stock in
+    let exact = h .owned .exact in
+    let d = end-released st s q exact in
     let f = ended-fields st s in
-    let e = stock .counted in
-    let i = d .stock .counted in
+    let e = exact .counted in
+    let i = d .exact .counted in
     let j = length-append q (freedBelow (st .pool) s (poolNodes (st .pool) + 1)) in
     record {
       words = record { size = d .size; words = λ n g v. d .words n g (omega arith) };
-      linked = λ n. (linked-end st s q (h .whole) stock n, end-linked st s q (h .whole) stock n);
+      linked = λ n. (linked-end st s q (h .whole) exact n, end-linked st s q (h .whole) exact n);
       root = d .else .root ∙ f .0;
       held = d .else .held ∙ f .1;
       write = d .else .write ∙ f .2;
@@ -74,11 +74,11 @@ still-end st s u h =
     }
 
 -- a store is heard as a store
-pub store-went : (m : Made) → heard (stored m .answer) ≡ went
+pub store-carriedOut : (m : Made) → noticeOf (stored m .answer) ≡ carriedOut
 unfolding stored
-store-went m = go (eqb (lessFirst (m .after .register .write) .count) 0)
+store-carriedOut m = go (eqb (lessFirst (m .after .register .write) .count) 0)
   where
-    go : (b : Bool) → heard (cond b (done (m .link) (m .node)) (more (m .link) (m .node))) ≡ went
+    go : (b : Bool) → noticeOf (cond b (done (m .link) (m .node)) (more (m .link) (m .node))) ≡ carriedOut
     go true = refl
     go false = refl
 
@@ -99,22 +99,22 @@ module _ (W : State → Plain → Linked → Type 0) (writer : Writer W) where
       let l = writer .linked after x (s .tree) (s .kept) in
       safe-turn st after (s .came) (s .gone) (s .link) (s .value) h (s .turn) (tree-closed (after .pool) (after .register .root) (s .tree) r l) (root-linked (after .pool) (after .register .root) (s .tree) r l)
 
-  pub sound-next : (st : State) (x : Plain) (c : Call) (o : Outcome) → Does st c o → Sound st x → Sound (o .after) (feed x c (heard (o .answer)))
+  pub sound-next : (st : State) (x : Plain) (c : Call) (o : Outcome) → CallCase st c o → Sound st x → Sound (o .after) (feed x c (noticeOf (o .answer)))
   sound-next st x c o (refuses d n) h = h
   sound-next st x c o (plansInsert k v e) h = record { safe = safe-write st _ (h .safe); tree = h .tree; holds = writer .insert st x (h .tree) k v (h .safe) (h .holds) e }
   sound-next st x c o (plansDelete k e) h = record { safe = safe-write st _ (h .safe); tree = h .tree; holds = writer .delete st x (h .tree) k (h .safe) (h .holds) e }
   sound-next st x c o (waits d) h = h
   sound-next st x c o (stores a w f) h =
       let s = writer .store st x (h .tree) (h .safe) (h .holds) a w f in
-      rw (store-went (stepMade st (storeOf (st .register) 0 .link) (storeOf (st .register) 0 .step)))
+      rw (store-carriedOut (stepMade st (storeOf (st .register) 0 .link) (storeOf (st .register) 0 .step)))
       (record { safe = safe-store st (afterStore st) _ (h .tree) (h .safe) s; tree = s .tree; holds = s .kept })
   sound-next st x c o (begins s k u e) h =
-      record { safe = safe-reader st s _ u refl (λ d. absurd (d refl)) (h .safe); tree = h .tree; holds = writer .still st _ x (h .tree) (h .holds) (still-reader st s _) }
+      record { safe = safe-reader st s _ u refl (λ d. absurd (d refl)) (h .safe); tree = h .tree; holds = writer .leavesTree st _ x (h .tree) (h .holds) (leavesTree-reader st s _) }
   sound-next st x c o (loads s n p l d) h =
-      record { safe = safe-reader st s _ (p .low) refl (λ _. kept-load st s n (h .safe) p l d) (h .safe); tree = h .tree; holds = writer .still st _ x (h .tree) (h .holds) (still-reader st s _) }
+      record { safe = safe-reader st s _ (p .low) refl (λ _. kept-load st s n (h .safe) p l d) (h .safe); tree = h .tree; holds = writer .leavesTree st _ x (h .tree) (h .holds) (leavesTree-reader st s _) }
   sound-next st x c o (misses s n p l e) h =
-      record { safe = safe-end st s (p .low) (h .safe); tree = h .tree; holds = writer .still st _ x (h .tree) (h .holds) (still-end st s (p .low) (h .safe)) }
+      record { safe = safe-end st s (p .low) (h .safe); tree = h .tree; holds = writer .leavesTree st _ x (h .tree) (h .holds) (leavesTree-end st s (p .low) (h .safe)) }
   sound-next st x c o (finds s p d e) h =
-      record { safe = safe-end st s (p .low) (h .safe); tree = h .tree; holds = writer .still st _ x (h .tree) (h .holds) (still-end st s (p .low) (h .safe)) }
+      record { safe = safe-end st s (p .low) (h .safe); tree = h .tree; holds = writer .leavesTree st _ x (h .tree) (h .holds) (leavesTree-end st s (p .low) (h .safe)) }
   sound-next st x c o (leaves s p) h =
-      record { safe = safe-end st s (p .low) (h .safe); tree = h .tree; holds = writer .still st _ x (h .tree) (h .holds) (still-end st s (p .low) (h .safe)) }
+      record { safe = safe-end st s (p .low) (h .safe); tree = h .tree; holds = writer .leavesTree st _ x (h .tree) (h .holds) (leavesTree-end st s (p .low) (h .safe)) }

@@ -8,16 +8,16 @@ use mathlib.Core.Logic.{_≢_, ⊎-elim}
 use native.Mathlib.Omega.{arith}
 use native.Mathlib.Numerals.{add-one}
 use borrow.Author.Tests.{eq-eqb, ne-eqb}
-use Rattle.types.specs.declared.Link.{Link}
+use Rattle.datatypes.specs.declared.Link.{Link}
 use Rattle.spec.specs.Pool.{slots}
 use Rattle.spec.specs.Register.{State, mostStores, storeOf, hasSlot}
 use Rattle.spec.specs.Turn.{stepMade}
 use Rattle.spec.specs.Calls.{more, done, Outcome, wrongLength, reading, writeInHand, Call, writing, call}
-use Rattle.spec.specs.PlainList.{Plain, went, heard}
+use Rattle.spec.specs.PlainList.{Plain, carriedOut, noticeOf}
 use Rattle.tree.specs.Linked.{Linked}
 use Rattle.promise.specs.Run.{Moment, thenPerhaps, callAt, after, indexAfter, plainAfter, Gives}
 use Rattle.promise.specs.Demands.{Demand2, NeverMet, Promise}
-use Rattle.readers.specs.Does.{Does, does, refuses, plansInsert, plansDelete, waits, stores, begins, loads, misses, finds, leaves}
+use Rattle.readers.specs.CallCase.{CallCase, callCase, refuses, plansInsert, plansDelete, waits, stores, begins, loads, misses, finds, leaves}
 use Rattle.ranges.specs.Fits.{colour-fits}
 use Rattle.ranges.specs.Calls.{Ranged, ranged-in, ranged-next}
 use Rattle.runs.specs.Writer.{Writer}
@@ -27,7 +27,7 @@ use Rattle.runs.specs.Theorem.{sound-at, demand3}
 use Rattle.runs.specs.Rest.{Completes, safe-free, wait-right, toldOf, stored-told, refused-by, not-one, not-two, not-twelve, length-right, none-awaited, turn-clear, turn-goes, done-left}
 
 -- a turn that answers more leaves stores to come
-more-left : (st : State) (c : Call) (o : Outcome) (l : Link) (n : ℕ) → Does st c o → o .answer ≡ more l n → o .after .register .write .count ≢ 0
+more-left : (st : State) (c : Call) (o : Outcome) (l : Link) (n : ℕ) → CallCase st c o → o .answer ≡ more l n → o .after .register .write .count ≢ 0
 more-left st c o l n (refuses d x) e = absurd (let z = ap toldOf e in omega arith)
 more-left st c o l n (plansInsert j v f) e = absurd (let z = ap toldOf e in omega arith)
 more-left st c o l n (plansDelete j f) e = absurd (let z = ap toldOf e in omega arith)
@@ -55,7 +55,7 @@ module _ (W : State → Plain → Linked → Type 0) (writer : Writer W) (comple
   soon j l n g =
       let h = sound (suc j) in
       let left : at (suc j) .register .write .count ≢ 0 =
-      subst (λ st. st .register .write .count ≢ 0) (sym (next-is j writing (g .0))) (more-left (at j) writing (call (at j) writing) l n (does (at j) writing) (g .1)) in
+      subst (λ st. st .register .write .count ≢ 0) (sym (next-is j writing (g .0))) (more-left (at j) writing (call (at j) writing) l n (callCase (at j) writing) (g .1)) in
       let hand : writeInHand (at (suc j)) ≡ true = rw (ne-eqb (at (suc j) .register .write .count) 0 left) in
       let few = completes .few (at (suc j)) (plainAfter N cs (suc j)) (h .tree) (h .holds) hand in
       rw (add-one j) (omega arith)
@@ -63,7 +63,7 @@ module _ (W : State → Plain → Linked → Type 0) (writer : Writer W) (comple
   -- the ranges hold at each moment
   ranged-perhaps : (x : Moment) (c : Option Call) → Ranged N (x .index) → Ranged N (thenPerhaps x c .index)
   ranged-perhaps x none h = h
-  ranged-perhaps x (some c) h = ranged-next N (x .index) c (call (x .index) c) (does (x .index) c) h
+  ranged-perhaps x (some c) h = ranged-next N (x .index) c (call (x .index) c) (callCase (x .index) c) h
 
   ranged : (j : ℕ) → Ranged N (at j)
   unfolding after
@@ -75,17 +75,17 @@ module _ (W : State → Plain → Linked → Type 0) (writer : Writer W) (comple
   lent j = length-right (at j) N lo hi (sound j .safe .whole) (ranged j .within .size)
 
   goesOn : (j : ℕ) → writeInHand (at j) ≡ true → ((s : ℕ) → s < slots → hasSlot (at j .register .awaited) s ≡ true → reading (at j) s ≡ false)
-      → heard (call (at j) writing .answer) ≡ went
+      → noticeOf (call (at j) writing .answer) ≡ carriedOut
   goesOn j w f =
       let h = sound j in
       let z = none-awaited (at j) (h .safe) f in
-      turn-goes (at j) writing (call (at j) writing) (does (at j) writing)
+      turn-goes (at j) writing (call (at j) writing) (callCase (at j) writing)
       (turn-clear (at j) (lent j) (ranged-in N (at j) (ranged j)) w (completes .stepGoes (at j) (plainAfter N cs j) (h .tree) (h .safe) (h .holds) z w)) z
 
   finished : (j : ℕ) (l : Link) (n : ℕ) → Gives N cs j writing (done l n) → writeInHand (at (j + 1)) ≡ false
   finished j l n g =
       let none-left : at (suc j) .register .write .count ≡ 0 =
-      subst (λ st. st .register .write .count ≡ 0) (sym (next-is j writing (g .0))) (done-left (at j) writing (call (at j) writing) l n (does (at j) writing) (g .1)) in
+      subst (λ st. st .register .write .count ≡ 0) (sym (next-is j writing (g .0))) (done-left (at j) writing (call (at j) writing) l n (callCase (at j) writing) (g .1)) in
       rw (add-one j, eq-eqb (at (suc j) .register .write .count) 0 none-left)
 
   pub demand2 : Demand2 N cs
@@ -93,7 +93,7 @@ module _ (W : State → Plain → Linked → Type 0) (writer : Writer W) (comple
     atRest = λ j e. (let h = sound j in completes .rest (at j) (plainAfter N cs j) (h .tree) (h .holds) (λ n. colour-fits N (at j .pool) n (ranged j .within .fits)) e);
     free = λ j. safe-free (at j) (sound j .safe);
     soon = soon;
-    waits = λ j g. wait-right (at j) writing (call (at j) writing) (does (at j) writing) (sound j .safe) (g .1);
+    waits = λ j g. wait-right (at j) writing (call (at j) writing) (callCase (at j) writing) (sound j .safe) (g .1);
     goesOn = goesOn;
     finished = finished;
     size = λ j. ranged j .within .size;
@@ -101,10 +101,10 @@ module _ (W : State → Plain → Linked → Type 0) (writer : Writer W) (comple
 
   pub never : NeverMet N cs
   never = record {
-    range = λ j c g. not-two (at j) c (ranged-in N (at j) (ranged j)) (refused-by (at j) c (call (at j) c) 2 (omega arith) (does (at j) c) (g .1));
+    range = λ j c g. not-two (at j) c (ranged-in N (at j) (ranged j)) (refused-by (at j) c (call (at j) c) 2 (omega arith) (callCase (at j) c) (g .1));
     steps = λ j c g. (let h = sound j in
-        not-twelve W completes (at j) (plainAfter N cs j) (h .tree) (h .safe) (h .holds) c (refused-by (at j) c (call (at j) c) 12 (omega arith) (does (at j) c) (g .1)));
-    lent = λ j c g. not-one (at j) c (lent j) (refused-by (at j) c (call (at j) c) 1 (omega arith) (does (at j) c) (g .1));
+        not-twelve W completes (at j) (plainAfter N cs j) (h .tree) (h .safe) (h .holds) c (refused-by (at j) c (call (at j) c) 12 (omega arith) (callCase (at j) c) (g .1)));
+    lent = λ j c g. not-one (at j) c (lent j) (refused-by (at j) c (call (at j) c) 1 (omega arith) (callCase (at j) c) (g .1));
   }
 
   pub promise : Promise N cs

@@ -6,8 +6,8 @@ use mathlib.Core.Logic.{_⊎_, _↔_}
 use mathlib.Core.Bool.{true}
 use mathlib.Core.List.{List}
 use lib.ListN.{length}
-use Rattle.types.specs.declared.Link.{Link}
-use Rattle.types.specs.declared.Store.{Store}
+use Rattle.datatypes.specs.declared.Link.{Link}
+use Rattle.datatypes.specs.declared.Store.{Store}
 use Rattle.sequential.specs.Delete.{insertion, deletion}
 use Rattle.spec.specs.Pool.{standingLinked}
 use Rattle.spec.specs.Register.{State, state, fresh, storeOf, withWrite, writeOf, readingSlots}
@@ -18,18 +18,18 @@ use Rattle.tree.specs.Distinct.{_∈_}
 use Rattle.tree.specs.Thin.{Thin}
 use Rattle.tree.specs.Linked.{Linked, nil, find, path, nodes}
 use Rattle.heap.specs.Rep.{Rep, Alike}
-use Rattle.readers.specs.Reach.{Stands}
+use Rattle.readers.specs.Reach.{HasStanding}
 use Rattle.readers.specs.Lookups.{Unlinked}
 use Rattle.readers.specs.Stored.{OwnerLinked}
 use Rattle.readers.specs.Turns.{Turn}
-use Rattle.readers.specs.Does.{insertTests, deleteTests}
+use Rattle.readers.specs.CallCase.{insertTests, deleteTests}
 use Rattle.readers.specs.Safe.{Safe}
 
 -- What a reader's call leaves alone: keys, records, links, colours, which nodes are linked, and of the register root, keys held and the write
 -- in hand. Nodes may be freed.
-pub record Still (st after : State) : Type 0 where
+pub record LeavesTree (st after : State) : Type 0 where
   pub words : Alike 5 (st .pool) (after .pool)
-  pub linked : (n : ℕ) → Stands (after .pool) n standingLinked ↔ Stands (st .pool) n standingLinked
+  pub linked : (n : ℕ) → HasStanding (after .pool) n standingLinked ↔ HasStanding (st .pool) n standingLinked
   pub root : after .register .root ≡ st .register .root
   pub held : after .register .held ≡ st .register .held
   pub write : after .register .write ≡ st .register .write
@@ -60,10 +60,10 @@ planned st l = state (st .pool) (withWrite (st .register) (writeOf l))
 pub record Writer (W : State → Plain → Linked → Type 0) : Type 0 where
   pub starts : (N : ℕ) → 8 ≤ N → N ≤ 1023 → W (fresh N) noTicket nil
   pub unfolds : (st : State) (x : Plain) (T : Linked) → W st x T → Rep (st .pool) (st .register .root) T
-  pub linked : (st : State) (x : Plain) (T : Linked) → W st x T → (n : ℕ) → Stands (st .pool) n standingLinked ↔ (n ∈ nodes T)
+  pub linked : (st : State) (x : Plain) (T : Linked) → W st x T → (n : ℕ) → HasStanding (st .pool) n standingLinked ↔ (n ∈ nodes T)
   pub finds : (st : State) (x : Plain) (T : Linked) → W st x T → (k : ℕ) → find T k ≡ recordFor k (x .tickets)
   pub held : (st : State) (x : Plain) (T : Linked) → W st x T → st .register .held ≡ length (x .tickets)
-  pub still : (st after : State) (x : Plain) (T : Linked) → W st x T → Still st after → W after x T
+  pub leavesTree : (st after : State) (x : Plain) (T : Linked) → W st x T → LeavesTree st after → W after x T
   pub insert : (st : State) (x : Plain) (T : Linked) (k v : ℕ) → Safe st → W st x T → firstOf (insertTests st k v) ≡ 0
       → W (planned st (insertAt st k v (placeOf st k) .stores)) (begun x (insertion k v)) T
   pub delete : (st : State) (x : Plain) (T : Linked) (k : ℕ) → Safe st → W st x T → firstOf (deleteTests st k) ≡ 0

@@ -1,10 +1,10 @@
 // The search for a key.
-use types::Link;
-use types::Place;
-use types::Side;
+use datatypes::Link;
+use datatypes::Place;
+use datatypes::Side;
 ghost use mathlib.Core.Path.{_≡_};
 ghost use Prim.Native.Nat.{ℕ, _<_, _≤_, _+_, _*_};
-ghost use Rattle.types.specs.Side.{linkAt};
+ghost use Rattle.datatypes.specs.Side.{linkAt};
 ghost use Rattle.spec.specs.Pool.{child};
 ghost use Rattle.spec.specs.Search.{towards, seek};
 

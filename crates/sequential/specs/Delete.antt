@@ -1,9 +1,9 @@
 -- Sequential delete after Cormen, Leiserson, Rivest and Stein (third edition), with the successor moved up; and a list of writes.
 use Prim.Native.Nat.{ℕ}
 use mathlib.Core.List.{List, [], _∷_}
-use Rattle.types.specs.declared.Side.{Side}
-use Rattle.types.specs.declared.Side.the-variants.{L, R}
-use Rattle.types.specs.Side.{other}
+use Rattle.datatypes.specs.declared.Side.{Side}
+use Rattle.datatypes.specs.declared.Side.the-variants.{L, R}
+use Rattle.datatypes.specs.Side.{other}
 use Rattle.sequential.specs.Tree.{Colour, red, black, Tree, leaf, node, ifRed, mk, child, keyOf, recordOf, colourOf, paint, redChild, Frame, frame, plug, descend, diag, zig}
 use Rattle.sequential.specs.Insert.{insert}
 
@@ -13,14 +13,14 @@ blackOuter z w = mk z (colourOf w) (keyOf w) (recordOf w) (paint black (child z 
 
 -- x lacks a black node and is on the side s of its parent (c, k, v); its sibling w is black and has a red child.
 -- The outer child red: case 4, a diag. Only the inner one: cases 3 and 4, a zig.
-abbrev pub borrow : Side → Colour → ℕ → ℕ → Tree → Tree → Tree
-borrow s c k v x w =
+abbrev pub blackSibling : Side → Colour → ℕ → ℕ → Tree → Tree → Tree
+blackSibling s c k v x w =
     let z = other s in
     ifRed (colourOf (child z w)) (diag z c black k v (blackOuter z w) x) (zig z c black k v w x)
 
 -- Under the red parent that case 1 leaves: cases 2 to 4, without another test of the sibling's own colour.
 abbrev pub underRed : Side → ℕ → ℕ → Tree → Tree → Tree
-underRed s k v x w = ifRed (redChild w) (borrow s red k v x w) (mk s black k v x (paint red w))
+underRed s k v x w = ifRed (redChild w) (blackSibling s red k v x w) (mk s black k v x (paint red w))
 
 -- RB-DELETE-FIXUP. x came to a place that lost a black node.
 abbrev pub fixup : List Frame → Tree → Tree
@@ -31,7 +31,7 @@ fixup (frame s c k v w ∷ fs) x =
     (ifRed (colourOf w)
     (plug fs (mk s black (keyOf w) (recordOf w) (underRed s k v x (child s w)) (child (other s) w)))
     (ifRed (redChild w)
-    (plug fs (borrow s c k v x w))
+    (plug fs (blackSibling s c k v x w))
     (fixup fs (mk s c k v x (paint red w)))))
 
 -- a node of the colour c was taken out, and x came to its place

@@ -4,8 +4,8 @@
 use Prim.Native.Nat.{ℕ}
 use mathlib.Core.Bool.{Bool, true, false}
 use mathlib.Core.List.{List, [], _∷_}
-use Rattle.types.specs.declared.Side.{Side}
-use Rattle.types.specs.Side.{sameSide}
+use Rattle.datatypes.specs.declared.Side.{Side}
+use Rattle.datatypes.specs.Side.{sameSide}
 use Rattle.sequential.specs.Tree.{red, black, Tree, leaf, node, ifRed, mk, colourOf, paint, Frame, frame, plug, descend, diag, zig}
 
 -- Parent p and its child are red, the aunt is not. z is p's side of the grandparent (k, v); the child is an outer one, or an inner one.
@@ -14,18 +14,18 @@ turnUp true z k v p aunt = diag z black red k v p aunt
 turnUp false z k v p aunt = zig z black red k v p aunt
 
 -- The loop of 000, lines 27 to 188. x is red.
-abbrev pub climb : List Frame → Tree → Tree
-climb [] x = x
-climb (frame s black k v y ∷ fs) x = plug fs (mk s black k v x y)
-climb (frame s red k v y ∷ []) x = mk s red k v x y
-climb (frame s red k v y ∷ frame z c j w aunt ∷ fs) x =
+abbrev pub fixupResult : List Frame → Tree → Tree
+fixupResult [] x = x
+fixupResult (frame s black k v y ∷ fs) x = plug fs (mk s black k v x y)
+fixupResult (frame s red k v y ∷ []) x = mk s red k v x y
+fixupResult (frame s red k v y ∷ frame z c j w aunt ∷ fs) x =
     ifRed (colourOf aunt)
-    (climb fs (mk z red j w (mk s black k v x y) (paint black aunt)))
+    (fixupResult fs (mk z red j w (mk s black k v x y) (paint black aunt)))
     (plug fs (turnUp (sameSide s z) z j w (mk s red k v x y) aunt))
 
 -- A new red node at the empty place; line 189: the root ends black. A key that is held changes nothing.
 abbrev pub placed : ℕ → ℕ → List Frame → Tree → Tree
-placed q w fs leaf = paint black (climb fs (node red q w leaf leaf))
+placed q w fs leaf = paint black (fixupResult fs (node red q w leaf leaf))
 placed q w fs (node c k v l r) = plug fs (node c k v l r)
 
 abbrev pub insert : Tree → ℕ → ℕ → Tree

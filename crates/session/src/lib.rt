@@ -1,9 +1,9 @@
 // A run of the program trace: lines read from bytes, their commands run on the lent words, and the answers' lines written to a buffer.
+use datatypes::Register;
 use lines::Command;
 use lines::Piece;
 use lines::Reading;
 use lines::Said;
-use types::Register;
 ghost use mathlib.Core.Path.{_≡_};
 ghost use Prim.Native.Nat.{_≤_, _<_, _+_, _-_, _*_};
 ghost use lib.ListN.{length};

@@ -3,16 +3,16 @@ use Prim.Native.Nat.{ℕ, _-_}
 use mathlib.Core.Bool.{Bool, true, false, cond, not, _&&_}
 use mathlib.Core.List.{List, [], _∷_}
 use lib.Dec.{eqb, leb, ltb}
-use Rattle.types.specs.declared.Link.{Link}
-use Rattle.types.specs.declared.Link.the-variants.{Root}
-use Rattle.types.specs.declared.Place.{Place}
-use Rattle.types.specs.declared.Place.the-variants.{Held, Empty, TooDeep}
-use Rattle.types.specs.declared.Acceptance.{Acceptance}
-use Rattle.types.specs.declared.Acceptance.the-variants as acceptance
-use Rattle.types.specs.declared.WriterAnswer.{WriterAnswer}
-use Rattle.types.specs.declared.WriterAnswer.the-variants as writer
-use Rattle.types.specs.declared.ReaderAnswer.{ReaderAnswer}
-use Rattle.types.specs.declared.ReaderAnswer.the-variants as reader
+use Rattle.datatypes.specs.declared.Link.{Link}
+use Rattle.datatypes.specs.declared.Link.the-variants.{Root}
+use Rattle.datatypes.specs.declared.Place.{Place}
+use Rattle.datatypes.specs.declared.Place.the-variants.{Held, Empty, TooDeep}
+use Rattle.datatypes.specs.declared.Acceptance.{Acceptance}
+use Rattle.datatypes.specs.declared.Acceptance.the-variants as acceptance
+use Rattle.datatypes.specs.declared.WriterAnswer.{WriterAnswer}
+use Rattle.datatypes.specs.declared.WriterAnswer.the-variants as writer
+use Rattle.datatypes.specs.declared.ReaderAnswer.{ReaderAnswer}
+use Rattle.datatypes.specs.declared.ReaderAnswer.the-variants as reader
 use Rattle.spec.specs.Pool.{word, child, keyWord, recordWord, nodes, slots, poolInRange, lengthRight}
 use Rattle.spec.specs.Register.{State, state, fresh, withReader, withWrite, readerOf, storeOf, registerInRange, writeOf, lessFirst}
 use Rattle.spec.specs.Free.{endReading}
@@ -108,8 +108,8 @@ unfoldable pub setUp : State → Outcome
 setUp st = unless (wrongLength st gives 1 ∷ []) st (outcome ok (fresh (nodes (st .pool))))
 
 -- Insert and delete only accept or refuse: an accepted one is the write in hand, with its stores planned.
-abbrev pub accepted : State → Plan → Outcome
-accepted st w = outcome ok (state (st .pool) (withWrite (st .register) (writeOf (w .stores))))
+abbrev pub acceptedPlan : State → Plan → Outcome
+acceptedPlan st w = outcome ok (state (st .pool) (withWrite (st .register) (writeOf (w .stores))))
 
 abbrev pub insertAt : State → ℕ → ℕ → Place → Plan
 insertAt st k v (Held l n) = record { possible = false; stores = [] }
@@ -130,7 +130,7 @@ insert st k v =
     ∷ not (w .possible) gives 12
     ∷ [])
     st
-    (accepted st w)
+    (acceptedPlan st w)
 
 abbrev pub deleteAt : State → Place → Plan
 deleteAt st (Held l n) = deletePlan st l n
@@ -150,7 +150,7 @@ delete st k =
     ∷ not (w .possible) gives 12
     ∷ [])
     st
-    (accepted st w)
+    (acceptedPlan st w)
 
 -- A writer's turn makes the first store still to come. It answers done if no store is left after it, more otherwise.
 unfoldable pub stored : Made → Outcome

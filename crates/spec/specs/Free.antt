@@ -4,8 +4,8 @@ use mathlib.Core.Bool.{Bool, cond}
 use mathlib.Core.List.{List}
 use lib.Dec.{eqb, ltb}
 use Rattle.base.specs.Walk.{foldIn}
-use Rattle.types.specs.declared.Side.{Side}
-use Rattle.types.specs.Side.{other}
+use Rattle.datatypes.specs.declared.Side.{Side}
+use Rattle.datatypes.specs.Side.{other}
 use Rattle.spec.specs.Pool.{word, setWord, keyWord, recordWord, linkWord, colourWord, standingWord, holdersWord, nextWord, standingFree, standingLinked, standingRetired, nodes}
 use Rattle.spec.specs.Register.{State, state, noReader, withQueue, withReader, withAwaited, countUp, countDown, dropSlot, readingSlots}
 

@@ -24,9 +24,9 @@ recordFor k [] = none
 recordFor k (t ∷ ts) = cond (eqb (t .key) k) (some (t .value)) (recordFor k ts)
 
 -- At its list store an insert puts in its key with its record, in place of any there, and a delete takes its key out.
-abbrev pub listed : Change → List Ticket → List Ticket
-listed (insertion k v) ts = record { key = k; value = v } ∷ without k ts
-listed (deletion k) ts = without k ts
+abbrev pub updated : Change → List Ticket → List Ticket
+updated (insertion k v) ts = record { key = k; value = v } ∷ without k ts
+updated (deletion k) ts = without k ts
 
 -- The list store is the first store; the second in a delete of a key with two children whose right child has no left child.
 abbrev pub adopts : Tree → Bool
@@ -52,30 +52,30 @@ abbrev pub noTicket : Plain
 noTicket = record { tickets = []; before = []; inHand = none; made = 0 }
 
 -- the writes accepted so far
-abbrev pub lastly : List Change → Option Change → List Change
-lastly cs none = cs
-lastly cs (some c) = cs ++ c ∷ []
+abbrev pub withInHand : List Change → Option Change → List Change
+withInHand cs none = cs
+withInHand cs (some c) = cs ++ c ∷ []
 
-abbrev pub accepted : Plain → List Change
-accepted x = lastly (x .before) (x .inHand)
+abbrev pub acceptedWrites : Plain → List Change
+acceptedWrites x = withInHand (x .before) (x .inHand)
 
 -- what the plain list hears of a call's answer
-pub data Heard : Type 0 where
-  refusal waited went : Heard
+pub data Notice : Type 0 where
+  turnedDown waited carriedOut : Notice
 
-abbrev pub heard : Answer → Heard
-heard ok = went
-heard go = went
-heard absent = went
-heard wait = waited
-heard (found v) = went
-heard (more l n) = went
-heard (done l n) = went
-heard (refused n) = refusal
+abbrev pub noticeOf : Answer → Notice
+noticeOf ok = carriedOut
+noticeOf go = carriedOut
+noticeOf absent = carriedOut
+noticeOf wait = waited
+noticeOf (found v) = carriedOut
+noticeOf (more l n) = carriedOut
+noticeOf (done l n) = carriedOut
+noticeOf (refused n) = turnedDown
 
 -- An accepted insert or delete becomes the write in hand, no store made.
 abbrev pub begun : Plain → Change → Plain
-begun x c = record { tickets = x .tickets; before = accepted x; inHand = some c; made = 0 }
+begun x c = record { tickets = x .tickets; before = acceptedWrites x; inHand = some c; made = 0 }
 
 -- a store of the write in hand; the sequential tree is that of the writes accepted before
 abbrev pub storeMade : Plain → Option Change → Plain
@@ -83,15 +83,15 @@ storeMade x none = x
 storeMade x (some c) =
     let m = x .made + 1 in
     let atList = eqb m (listStore (changedBy leaf (x .before)) c) in
-    record { tickets = cond atList (listed c (x .tickets)) (x .tickets); before = x .before; inHand = some c; made = m }
+    record { tickets = cond atList (updated c (x .tickets)) (x .tickets); before = x .before; inHand = some c; made = m }
 
 -- All else changes nothing: wait, any refused call, begin, reader's turn, give up.
-abbrev pub feed : Plain → Call → Heard → Plain
-feed x c refusal = x
+abbrev pub feed : Plain → Call → Notice → Plain
+feed x c turnedDown = x
 feed x c waited = x
-feed x (inserting k v) went = begun x (insertion k v)
-feed x (deleting k) went = begun x (deletion k)
-feed x writing went = storeMade x (x .inHand)
-feed x (beginning s k) went = x
-feed x (turning s) went = x
-feed x (givingUp s) went = x
+feed x (inserting k v) carriedOut = begun x (insertion k v)
+feed x (deleting k) carriedOut = begun x (deletion k)
+feed x writing carriedOut = storeMade x (x .inHand)
+feed x (beginning s k) carriedOut = x
+feed x (turning s) carriedOut = x
+feed x (givingUp s) carriedOut = x

@@ -4,69 +4,69 @@ use mathlib.Core.Bool.{Bool, true, false, cond, not, _&&_, _||_}
 use mathlib.Core.List.{List, [], _∷_, _++_}
 use lib.ListN.{length, getD}
 use lib.Dec.{eqb}
-use Rattle.types.specs.declared.Side.{Side}
-use Rattle.types.specs.declared.Side.the-variants.{L, R}
-use Rattle.types.specs.declared.Link.{Link}
-use Rattle.types.specs.declared.Link.the-variants.{Root, Right}
-use Rattle.types.specs.declared.Form.{Form}
-use Rattle.types.specs.declared.Form.the-variants.{Diag, Zig}
-use Rattle.types.specs.declared.Rule.{Rule}
-use Rattle.types.specs.declared.Rule.the-variants.{Grow, Pass, Borrow}
-use Rattle.types.specs.declared.Rotation.{Rotation}
-use Rattle.types.specs.declared.Step.{Step}
-use Rattle.types.specs.declared.Step.the-variants.{Insert, DiagLower, DiagRaise, ZigLowerA, ZigLowerC, ZigRaise, Unlink, Adopt, Replace, Publish, Detach}
-use Rattle.types.specs.declared.Store.{Store}
-use Rattle.types.specs.declared.Climb.{Climb}
-use Rattle.types.specs.declared.Ending.{Ending}
-use Rattle.types.specs.declared.Ending.the-variants.{Calm, Blacken, Rotate, RotateTwice, Missing}
-use Rattle.types.specs.Side.{other, sameSide, linkAt, owner, sideOf}
+use Rattle.datatypes.specs.declared.Side.{Side}
+use Rattle.datatypes.specs.declared.Side.the-variants.{L, R}
+use Rattle.datatypes.specs.declared.Link.{Link}
+use Rattle.datatypes.specs.declared.Link.the-variants.{Root, Right}
+use Rattle.datatypes.specs.declared.Form.{Form}
+use Rattle.datatypes.specs.declared.Form.the-variants.{Diag, Zig}
+use Rattle.datatypes.specs.declared.Purpose.{Purpose}
+use Rattle.datatypes.specs.declared.Purpose.the-variants.{ForInsert, RedSibling, BlackSibling}
+use Rattle.datatypes.specs.declared.Rotation.{Rotation}
+use Rattle.datatypes.specs.declared.Step.{Step}
+use Rattle.datatypes.specs.declared.Step.the-variants.{Insert, DiagLower, DiagRaise, ZigLowerA, ZigLowerC, ZigRaise, Unlink, Adopt, Replace, Publish, Detach}
+use Rattle.datatypes.specs.declared.Store.{Store}
+use Rattle.datatypes.specs.declared.Fixup.{Fixup}
+use Rattle.datatypes.specs.declared.Ending.{Ending}
+use Rattle.datatypes.specs.declared.Ending.the-variants.{Balanced, Blacken, Rotate, RotateTwice, Missing}
+use Rattle.datatypes.specs.Side.{other, sameSide, linkAt, owner, sideOf}
 use Rattle.spec.specs.Pool.{word, child, isRed, paint, keyWord, blackColour, redColour}
 use Rattle.spec.specs.Register.{State, state, linkNode}
 use Rattle.spec.specs.Search.{pathBound, pathTo, leftmost}
 
 -- A climb goes up a path (Search), which names each node by its link: the owner of a node's link is its parent.
-abbrev pub climb : ℕ → Ending → Climb
-climb m e = record { levels = m; ending = e }
+abbrev pub fixupResult : ℕ → Ending → Fixup
+fixupResult m e = record { levels = m; ending = e }
 
-abbrev pub rotation : Link → Form → Side → Rule → Rotation
-rotation l f s c = record { link = l; form = f; side = s; rule = c }
+abbrev pub rotation : Link → Form → Side → Purpose → Rotation
+rotation l f s c = record { link = l; form = f; side = s; purpose = c }
 
 -- 'Insert', after the new red node is linked. x, y and z are the links of the red node, its parent and its grandparent; m levels are
 -- passed. Red parent, red aunt: go on from the grandparent. Red parent, black or no aunt: on the outer side a diag with the parent
 -- rising, on the inner side a zig with the node rising. A red parent that is the root has no grandparent to name.
-unfoldable pub rise : List ℕ → ℕ → List Link → Climb
-rise p m [] = climb m Missing
-rise p m (x ∷ []) = climb m Calm
-rise p m (x ∷ y ∷ []) = climb m (cond (isRed p (owner x)) Missing Calm)
-rise p m (x ∷ y ∷ z ∷ up) =
+unfoldable pub insertFixup : List ℕ → ℕ → List Link → Fixup
+insertFixup p m [] = fixupResult m Missing
+insertFixup p m (x ∷ []) = fixupResult m Balanced
+insertFixup p m (x ∷ y ∷ []) = fixupResult m (cond (isRed p (owner x)) Missing Balanced)
+insertFixup p m (x ∷ y ∷ z ∷ up) =
     let s = sideOf y in
     let aunt = child p (other s) (owner y) in
     let form = cond (sameSide (sideOf x) s) Diag Zig in
-    let further = rise p (m + 1) (z ∷ up) in
-    cond (isRed p (owner x)) (cond (isRed p aunt) further (climb m (Rotate (rotation z form s Grow)))) (climb m Calm)
+    let further = insertFixup p (m + 1) (z ∷ up) in
+    cond (isRed p (owner x)) (cond (isRed p aunt) further (fixupResult m (Rotate (rotation z form s ForInsert)))) (fixupResult m Balanced)
 
 -- the climb after an insert of the key k at the link l; under a black parent, or at the root, there is none
-unfoldable pub insertClimb : State → ℕ → Link → Climb
-insertClimb st k l =
+unfoldable pub fixupAfterInsert : State → ℕ → Link → Fixup
+fixupAfterInsert st k l =
     let p = st .pool in
-    cond (isRed p (owner l)) (rise p 0 (pathTo p (st .register .root) k l)) (climb 0 Calm)
+    cond (isRed p (owner l)) (insertFixup p 0 (pathTo p (st .register .root) k l)) (fixupResult 0 Balanced)
 
 -- The colours of the levels that the climb passed: parent and aunt black, grandparent red.
-unfoldable pub paintRise : ℕ → List Link → List ℕ → List ℕ
-paintRise zero path p = p
-paintRise (suc m) [] p = p
-paintRise (suc m) (x ∷ []) p = p
-paintRise (suc m) (x ∷ y ∷ up) p =
+unfoldable pub paintInsertFixup : ℕ → List Link → List ℕ → List ℕ
+paintInsertFixup zero path p = p
+paintInsertFixup (suc m) [] p = p
+paintInsertFixup (suc m) (x ∷ []) p = p
+paintInsertFixup (suc m) (x ∷ y ∷ up) p =
     let aunt = child p (other (sideOf y)) (owner y) in
-    paintRise m up (paint (paint (paint p (owner x) blackColour) aunt blackColour) (owner y) redColour)
+    paintInsertFixup m up (paint (paint (paint p (owner x) blackColour) aunt blackColour) (owner y) redColour)
 
 -- 'After a black place is lost'. w is a sibling on the side z, l the link of its parent.
 abbrev pub redChild : List ℕ → ℕ → Bool
 redChild p w = isRed p (child p L w) || isRed p (child p R w)
 
 -- Black w, outer child red: diag. Only inner child red: zig.
-abbrev pub borrow : List ℕ → Link → Side → ℕ → Rotation
-borrow p l z w = rotation l (cond (isRed p (child p z w)) Diag Zig) z Borrow
+abbrev pub blackSibling : List ℕ → Link → Side → ℕ → Rotation
+blackSibling p l z w = rotation l (cond (isRed p (child p z w)) Diag Zig) z BlackSibling
 
 -- Red w: diag, and go on under the copy of the parent, whose link is w's inner one. Its sibling is w's inner child, whose own colour
 -- is not tested again (docs/DECISIONS.md).
@@ -74,71 +74,71 @@ unfoldable pub redSibling : List ℕ → Link → Side → ℕ → Ending
 redSibling p l z w =
     let s = other z in
     let inner = child p s w in
-    let first = rotation l Diag z Pass in
-    cond (eqb inner 0) Missing (cond (redChild p inner) (RotateTwice first (borrow p (linkAt s w) z inner)) (Rotate first))
+    let first = rotation l Diag z RedSibling in
+    cond (eqb inner 0) Missing (cond (redChild p inner) (RotateTwice first (blackSibling p (linkAt s w) z inner)) (Rotate first))
 
 -- x is the node that came to the place at the head of the path. A red x turns black. Otherwise, until x is the root, with parent and
 -- sibling w: red w; black w with a red child; black w with none: x is the parent.
-unfoldable pub sink : List ℕ → ℕ → ℕ → List Link → Climb
-sink p m x [] = climb m (cond (isRed p x) Blacken Missing)
-sink p m x (l ∷ []) = climb m (cond (isRed p x) Blacken Calm)
-sink p m x (l ∷ above ∷ up) =
+unfoldable pub deleteFixup : List ℕ → ℕ → ℕ → List Link → Fixup
+deleteFixup p m x [] = fixupResult m (cond (isRed p x) Blacken Missing)
+deleteFixup p m x (l ∷ []) = fixupResult m (cond (isRed p x) Blacken Balanced)
+deleteFixup p m x (l ∷ above ∷ up) =
     let z = other (sideOf l) in
     let w = child p z (owner l) in
-    let further = sink p (m + 1) (owner l) (above ∷ up) in
+    let further = deleteFixup p (m + 1) (owner l) (above ∷ up) in
     cond (isRed p x)
-    (climb m Blacken)
+    (fixupResult m Blacken)
     (cond (eqb w 0)
-    (climb m Missing)
+    (fixupResult m Missing)
     (cond (isRed p w)
-    (climb m (redSibling p above z w))
-    (cond (redChild p w) (climb m (Rotate (borrow p above z w))) further)))
+    (fixupResult m (redSibling p above z w))
+    (cond (redChild p w) (fixupResult m (Rotate (blackSibling p above z w))) further)))
 
 -- the climb after the colour of node n is lost at the head of a path, where x came; a red place is no loss
-unfoldable pub lossClimb : List ℕ → ℕ → ℕ → List Link → Climb
-lossClimb p n x path = cond (isRed p n) (climb 0 Calm) (sink p 0 x path)
+unfoldable pub fixupAfterRemoval : List ℕ → ℕ → ℕ → List Link → Fixup
+fixupAfterRemoval p n x path = cond (isRed p n) (fixupResult 0 Balanced) (deleteFixup p 0 x path)
 
 -- The colours of the levels that the climb passed: w red.
-unfoldable pub paintSink : ℕ → List Link → List ℕ → List ℕ
-paintSink zero path p = p
-paintSink (suc m) [] p = p
-paintSink (suc m) (l ∷ up) p = paintSink m up (paint p (child p (other (sideOf l)) (owner l)) redColour)
+unfoldable pub paintDeleteLevels : ℕ → List Link → List ℕ → List ℕ
+paintDeleteLevels zero path p = p
+paintDeleteLevels (suc m) [] p = p
+paintDeleteLevels (suc m) (l ∷ up) p = paintDeleteLevels m up (paint p (child p (other (sideOf l)) (owner l)) redColour)
 
 -- Then the node that the climb ended at turns black: x itself, or what stands at that level's link now.
 abbrev pub paintEnd : Ending → State → ℕ → List ℕ
-paintEnd Calm st n = st .pool
+paintEnd Balanced st n = st .pool
 paintEnd Blacken st n = paint (st .pool) n blackColour
 paintEnd (Rotate t) st n = st .pool
 paintEnd (RotateTwice t u) st n = st .pool
 paintEnd Missing st n = st .pool
 
-unfoldable pub paintLoss : State → Climb → ℕ → List Link → State
-paintLoss st c x path =
+unfoldable pub paintDeleteFixup : State → Fixup → ℕ → List Link → State
+paintDeleteFixup st c x path =
     let m = c .levels in
     let end = cond (eqb m 0) x (linkNode st (getD path m Root)) in
-    let after = state (paintSink m path (st .pool)) (st .register) in
+    let after = state (paintDeleteLevels m path (st .pool)) (st .register) in
     state (paintEnd (c .ending) after end) (st .register)
 
 -- The planned stores.
 abbrev pub store : Link → Step → Store
 store l s = record { link = l; step = s }
 
-abbrev pub turnStores : Form → Link → Side → Rule → List Store
+abbrev pub turnStores : Form → Link → Side → Purpose → List Store
 turnStores Diag l s c = store l (DiagLower s c) ∷ store l (DiagRaise s c) ∷ []
 turnStores Zig l s c = store l (ZigLowerA s c) ∷ store l (ZigLowerC s c) ∷ store l (ZigRaise s c) ∷ []
 
 abbrev pub rotationStores : Rotation → List Store
-rotationStores t = turnStores (t .form) (t .link) (t .side) (t .rule)
+rotationStores t = turnStores (t .form) (t .link) (t .side) (t .purpose)
 
 abbrev pub endingStores : Ending → List Store
-endingStores Calm = []
+endingStores Balanced = []
 endingStores Blacken = []
 endingStores (Rotate t) = rotationStores t
 endingStores (RotateTwice t u) = rotationStores t ++ rotationStores u
 endingStores Missing = []
 
 abbrev pub missing : Ending → Bool
-missing Calm = false
+missing Balanced = false
 missing Blacken = false
 missing (Rotate t) = false
 missing (RotateTwice t u) = false
@@ -154,7 +154,7 @@ plan l e = record { possible = not (missing e); stores = l ++ endingStores e }
 
 -- insert of the key k with its record v at the empty link l
 unfoldable pub insertPlan : State → ℕ → ℕ → Link → Plan
-insertPlan st k v l = plan (store l (Insert k v) ∷ []) (insertClimb st k l .ending)
+insertPlan st k v l = plan (store l (Insert k v) ∷ []) (fixupAfterInsert st k l .ending)
 
 -- 'Delete B'. The form goes by B's links alone. At most one child: the child that there is, or 0.
 abbrev pub twoChildren : List ℕ → ℕ → Bool
@@ -181,7 +181,7 @@ successorPath p b (l ∷ up) = leftmost p (pathBound - length (l ∷ up)) (child
 unfoldable pub unlinkPlan : State → Link → ℕ → List Link → Plan
 unlinkPlan st l b path =
     let p = st .pool in
-    plan (store l Unlink ∷ []) (lossClimb p b (onlyChild p b) path .ending)
+    plan (store l Unlink ∷ []) (fixupAfterRemoval p b (onlyChild p b) path .ending)
 
 -- Two children. C's right comes to C's place, at the end of the path, and C's colour is lost there.
 -- Right child C without left child: C's left := B's left, B's link := C. Other: B's link := C', and F's left := C's right.
@@ -190,7 +190,7 @@ successorPlan st l b [] = record { possible = false; stores = [] }
 successorPlan st l b (above ∷ up) =
     let p = st .pool in
     let c = linkNode st above in
-    let e = lossClimb p c (child p R c) (above ∷ up) .ending in
+    let e = fixupAfterRemoval p c (child p R c) (above ∷ up) .ending in
     cond (eqb (child p L (child p R b)) 0)
     (plan (store l Adopt ∷ store l Replace ∷ []) e)
     (plan (store l (Publish c) ∷ store l (Detach (word p b keyWord)) ∷ []) e)

@@ -6,8 +6,8 @@ use mathlib.Core.List.{List, [], _∷_}
 use lib.ListN.{length, getD, set}
 use lib.Dec.{eqb, leb}
 use Rattle.base.specs.Walk.{allIn}
-use Rattle.types.specs.declared.Side.{Side}
-use Rattle.types.specs.declared.Side.the-variants.{L, R}
+use Rattle.datatypes.specs.declared.Side.{Side}
+use Rattle.datatypes.specs.declared.Side.the-variants.{L, R}
 
 -- the words of a node, and the least and the largest number of nodes
 abbrev pub nodeWords : ℕ
@@ -102,10 +102,10 @@ paint p n c = setWord p n colourWord c
 
 -- Key and record are any 32-bit numbers. Links are 0 to N; colour 0 or 1; standing 0 to 2; holders 0 to 255; next free a link.
 unfoldable pub nodeInRange : List ℕ → ℕ → ℕ → Bool
-nodeInRange p top n =
-    leb (word p n leftWord) top && leb (word p n rightWord) top
+nodeInRange p capacity n =
+    leb (word p n leftWord) capacity && leb (word p n rightWord) capacity
     && (leb (word p n colourWord) 1 && leb (word p n standingWord) 2)
-    && (leb (word p n holdersWord) allSlots && leb (word p n nextWord) top)
+    && (leb (word p n holdersWord) allSlots && leb (word p n nextWord) capacity)
 
 unfoldable pub poolInRange : List ℕ → Bool
 poolInRange p = allIn (nodeInRange p (nodes p)) 1 (nodes p + 1)
@@ -121,4 +121,4 @@ freshNodes (suc zero) n = 0 ∷ 0 ∷ 0 ∷ 0 ∷ 0 ∷ 0 ∷ 0 ∷ 0 ∷ []
 freshNodes (suc (suc k)) n = 0 ∷ 0 ∷ 0 ∷ 0 ∷ 0 ∷ 0 ∷ 0 ∷ (n + 1) ∷ freshNodes (suc k) (n + 1)
 
 unfoldable pub freshPool : ℕ → List ℕ
-freshPool top = freshNodes top 1
+freshPool capacity = freshNodes capacity 1

@@ -5,14 +5,14 @@ use mathlib.Core.List.{List, [], _∷_, _++_}
 use lib.ListN.{length, getD, set, take, drop, replicate}
 use lib.Dec.{eqb, leb, ltb}
 use Rattle.base.specs.Walk.{allIn, foldIn}
-use Rattle.types.specs.declared.Link.{Link}
-use Rattle.types.specs.declared.Link.the-variants.{Root, Left, Right}
-use Rattle.types.specs.declared.Step.{Step}
-use Rattle.types.specs.declared.Step.the-variants.{Vacant, Insert, DiagLower, DiagRaise, ZigLowerA, ZigLowerC, ZigRaise, Unlink, Adopt, Replace, Publish, Detach}
-use Rattle.types.specs.declared.Store.{Store}
-use Rattle.types.specs.declared.Write.{Write}
-use Rattle.types.specs.declared.Reader.{Reader}
-use Rattle.types.specs.declared.Register.{Register}
+use Rattle.datatypes.specs.declared.Link.{Link}
+use Rattle.datatypes.specs.declared.Link.the-variants.{Root, Left, Right}
+use Rattle.datatypes.specs.declared.Step.{Step}
+use Rattle.datatypes.specs.declared.Step.the-variants.{Vacant, Insert, DiagLower, DiagRaise, ZigLowerA, ZigLowerC, ZigRaise, Unlink, Adopt, Replace, Publish, Detach}
+use Rattle.datatypes.specs.declared.Store.{Store}
+use Rattle.datatypes.specs.declared.Write.{Write}
+use Rattle.datatypes.specs.declared.Reader.{Reader}
+use Rattle.datatypes.specs.declared.Register.{Register}
 use Rattle.spec.specs.Pool.{word, setWord, leftWord, rightWord, nodes, slots, allSlots, freshPool}
 
 -- a pool with its register
@@ -67,7 +67,7 @@ storeOf r i = getD (r .write .stores) i vacant
 
 -- A count at an end of its range goes no further; at 0 the difference stays 0.
 abbrev pub countUp : ℕ → ℕ → ℕ
-countUp top n = cond (ltb n top) (n + 1) n
+countUp capacity n = cond (ltb n capacity) (n + 1) n
 
 abbrev pub countDown : ℕ → ℕ
 countDown n = n - 1
@@ -105,27 +105,27 @@ readingSlots r = foldIn (addReading r) 0 slots 0
 
 -- The ranges. A node number of the register is 0 to N; a store to come names nodes from 1 to N.
 abbrev pub nodeNumber : ℕ → ℕ → Bool
-nodeNumber top n = leb 1 n && leb n top
+nodeNumber capacity n = leb 1 n && leb n capacity
 
 abbrev pub linkInRange : ℕ → Link → Bool
-linkInRange top Root = true
-linkInRange top (Left n) = nodeNumber top n
-linkInRange top (Right n) = nodeNumber top n
+linkInRange capacity Root = true
+linkInRange capacity (Left n) = nodeNumber capacity n
+linkInRange capacity (Right n) = nodeNumber capacity n
 
 -- a step to come
 abbrev pub stepInRange : ℕ → Step → Bool
-stepInRange top Vacant = false
-stepInRange top (Insert k v) = true
-stepInRange top (DiagLower s c) = true
-stepInRange top (DiagRaise s c) = true
-stepInRange top (ZigLowerA s c) = true
-stepInRange top (ZigLowerC s c) = true
-stepInRange top (ZigRaise s c) = true
-stepInRange top Unlink = true
-stepInRange top Adopt = true
-stepInRange top Replace = true
-stepInRange top (Publish n) = nodeNumber top n
-stepInRange top (Detach k) = true
+stepInRange capacity Vacant = false
+stepInRange capacity (Insert k v) = true
+stepInRange capacity (DiagLower s c) = true
+stepInRange capacity (DiagRaise s c) = true
+stepInRange capacity (ZigLowerA s c) = true
+stepInRange capacity (ZigLowerC s c) = true
+stepInRange capacity (ZigRaise s c) = true
+stepInRange capacity Unlink = true
+stepInRange capacity Adopt = true
+stepInRange capacity Replace = true
+stepInRange capacity (Publish n) = nodeNumber capacity n
+stepInRange capacity (Detach k) = true
 
 abbrev pub isRoot : Link → Bool
 isRoot Root = true
@@ -148,29 +148,29 @@ isVacant (Detach k) = false
 
 -- the i-th store of a write: to come if i is below the count, else vacant
 unfoldable pub storeInRange : ℕ → Write → ℕ → Bool
-storeInRange top w i =
+storeInRange capacity w i =
     let x = getD (w .stores) i vacant in
-    cond (ltb i (w .count)) (linkInRange top (x .link) && stepInRange top (x .step)) (isRoot (x .link) && isVacant (x .step))
+    cond (ltb i (w .count)) (linkInRange capacity (x .link) && stepInRange capacity (x .step)) (isRoot (x .link) && isVacant (x .step))
 
 abbrev pub readerInRange : ℕ → Register → ℕ → Bool
-readerInRange top r s = leb (readerOf r s .node) top
+readerInRange capacity r s = leb (readerOf r s .node) capacity
 
 unfoldable pub registerInRange : ℕ → Register → Bool
-registerInRange top r =
-    leb (r .root) top && leb (r .first) top && leb (r .last) top
-    && (leb (r .free) top && leb (r .held) top && leb (r .awaited) allSlots)
-    && (leb (r .write .count) mostStores && allIn (readerInRange top r) 0 slots && allIn (storeInRange top (r .write)) 0 mostStores)
+registerInRange capacity r =
+    leb (r .root) capacity && leb (r .first) capacity && leb (r .last) capacity
+    && (leb (r .free) capacity && leb (r .held) capacity && leb (r .awaited) allSlots)
+    && (leb (r .write .count) mostStores && allIn (readerInRange capacity r) 0 slots && allIn (storeInRange capacity (r .write)) 0 mostStores)
 
 -- Fresh: root 0, no slot reading, the nodes queued free, every other field 0.
 abbrev pub noWrite : Write
 noWrite = record { stores = replicate mostStores vacant; count = 0 }
 
 unfoldable pub freshRegister : ℕ → Register
-freshRegister top =
-    record { root = 0; first = 1; last = top; free = top; held = 0; readers = replicate slots noReader; awaited = 0; write = noWrite }
+freshRegister capacity =
+    record { root = 0; first = 1; last = capacity; free = capacity; held = 0; readers = replicate slots noReader; awaited = 0; write = noWrite }
 
 unfoldable pub fresh : ℕ → State
-fresh top = state (freshPool top) (freshRegister top)
+fresh capacity = state (freshPool capacity) (freshRegister capacity)
 
 -- The write in hand made of a list of stores to come, and what is left of it after its first store.
 unfoldable pub writeOf : List Store → Write

@@ -4,25 +4,25 @@ use Prim.Native.Nat.{ℕ}
 use mathlib.Core.Bool.{Bool, true, false, cond, not, _&&_}
 use mathlib.Core.List.{List, [], _∷_, map}
 use lib.Dec.{eqb}
-use Rattle.types.specs.declared.Side.{Side}
-use Rattle.types.specs.declared.Side.the-variants.{L, R}
-use Rattle.types.specs.declared.Link.{Link}
-use Rattle.types.specs.declared.Link.the-variants.{Root, Left, Right}
-use Rattle.types.specs.declared.Rule.{Rule}
-use Rattle.types.specs.declared.Rule.the-variants.{Grow, Pass, Borrow}
-use Rattle.types.specs.declared.Ending.{Ending}
-use Rattle.types.specs.declared.Ending.the-variants.{Calm, Blacken, Rotate, RotateTwice, Missing}
-use Rattle.types.specs.declared.Climb.{Climb}
-use Rattle.types.specs.declared.Step.{Step}
-use Rattle.types.specs.declared.Step.the-variants.{Vacant, Insert, DiagLower, DiagRaise, ZigLowerA, ZigLowerC, ZigRaise, Unlink, Adopt, Replace, Publish, Detach}
-use Rattle.types.specs.declared.Store.{Store}
-use Rattle.types.specs.declared.Write.{Write}
-use Rattle.types.specs.Side.{other, linkAt}
+use Rattle.datatypes.specs.declared.Side.{Side}
+use Rattle.datatypes.specs.declared.Side.the-variants.{L, R}
+use Rattle.datatypes.specs.declared.Link.{Link}
+use Rattle.datatypes.specs.declared.Link.the-variants.{Root, Left, Right}
+use Rattle.datatypes.specs.declared.Purpose.{Purpose}
+use Rattle.datatypes.specs.declared.Purpose.the-variants.{ForInsert, RedSibling, BlackSibling}
+use Rattle.datatypes.specs.declared.Ending.{Ending}
+use Rattle.datatypes.specs.declared.Ending.the-variants.{Balanced, Blacken, Rotate, RotateTwice, Missing}
+use Rattle.datatypes.specs.declared.Fixup.{Fixup}
+use Rattle.datatypes.specs.declared.Step.{Step}
+use Rattle.datatypes.specs.declared.Step.the-variants.{Vacant, Insert, DiagLower, DiagRaise, ZigLowerA, ZigLowerC, ZigRaise, Unlink, Adopt, Replace, Publish, Detach}
+use Rattle.datatypes.specs.declared.Store.{Store}
+use Rattle.datatypes.specs.declared.Write.{Write}
+use Rattle.datatypes.specs.Side.{other, linkAt}
 use Rattle.spec.specs.Pool.{word, child, paint, keyWord, recordWord, colourWord, blackColour, redColour, nodes}
 use Rattle.spec.specs.Register.{State, state, withHeld, withAwaited, withWrite, countUp, countDown, linkNode, setLink, readingSlots}
 use Rattle.spec.specs.Free.{queueEmpty, takeNode, retire, retireTwo}
 use Rattle.spec.specs.Search.{pathTo}
-use Rattle.spec.specs.Plan.{insertClimb, paintRise, lossClimb, paintLoss, missing, redChild, onlyChild, belowRight, successorPath, nearest, store}
+use Rattle.spec.specs.Plan.{fixupAfterInsert, paintInsertFixup, fixupAfterRemoval, paintDeleteFixup, missing, redChild, onlyChild, belowRight, successorPath, nearest, store}
 
 -- What a turn leaves, and the link that it stored with its new node.
 pub record Made : Type 0 where
@@ -52,7 +52,7 @@ oneLess st = state (st .pool) (withHeld (st .register) (countDown (st .register 
 
 -- Insert. Link a red node at the empty place (list store), then the climb's colours; without a rotation to come the root ends black.
 abbrev pub endInsert : Ending → State → State
-endInsert Calm st = blackRoot st
+endInsert Balanced st = blackRoot st
 endInsert Blacken st = st
 endInsert (Rotate t) st = st
 endInsert (RotateTwice t u) st = st
@@ -60,38 +60,38 @@ endInsert Missing st = st
 
 unfoldable pub insertStore : State → Link → ℕ → ℕ → Made
 insertStore st l k v =
-    let c = insertClimb st k l in
+    let c = fixupAfterInsert st k l in
     let path = pathTo (st .pool) (st .register .root) k l in
     let n = st .register .first in
     let linked = oneMore (setLink (takeNode st k v L 0 0 redColour) l n) in
-    let coloured = state (paintRise (c .levels) path (linked .pool)) (linked .register) in
+    let coloured = state (paintInsertFixup (c .levels) path (linked .pool)) (linked .register) in
     made (endInsert (c .ending) coloured) l n
 
 -- The colours that a rotation ends with. Copies get theirs when made, other nodes at its last store.
-abbrev pub copyColour : Rule → ℕ
-copyColour Grow = redColour
-copyColour Pass = redColour
-copyColour Borrow = blackColour
+abbrev pub copyColour : Purpose → ℕ
+copyColour ForInsert = redColour
+copyColour RedSibling = redColour
+copyColour BlackSibling = blackColour
 
 -- the risen node's, c being the top
-abbrev pub risenColour : Rule → State → ℕ → ℕ
-risenColour Grow st c = blackColour
-risenColour Pass st c = blackColour
-risenColour Borrow st c = colourOf st c
+abbrev pub risenColour : Purpose → State → ℕ → ℕ
+risenColour ForInsert st c = blackColour
+risenColour RedSibling st c = blackColour
+risenColour BlackSibling st c = colourOf st c
 
 -- a copy of node n, with x on the side s and y on the other side
 abbrev pub copyNode : State → ℕ → Side → ℕ → ℕ → ℕ → State
 copyNode st n s x y colour = takeNode st (word (st .pool) n keyWord) (word (st .pool) n recordWord) s x y colour
 
 -- Diag (top C, rising child B on the side s, D above): copy C' takes B's inner child on B's side; B's inner link := C'.
-unfoldable pub diagLower : State → Link → Side → Rule → Made
-diagLower st l s rule =
+unfoldable pub diagLower : State → Link → Side → Purpose → Made
+diagLower st l s purpose =
     let p = st .pool in
     let c = linkNode st l in
     let b = child p s c in
     let z = other s in
     let n = st .register .first in
-    made (setLink (copyNode st c s (child p z b) (child p z c) (copyColour rule)) (linkAt z b) n) (linkAt z b) n
+    made (setLink (copyNode st c s (child p z b) (child p z c) (copyColour purpose)) (linkAt z b) n) (linkAt z b) n
 
 -- Under the copy that a red sibling's diag leaves, with the black sibling w on the side s. No red child: w red, and the red copy turns
 -- black. Otherwise a rotation is still to come.
@@ -101,66 +101,66 @@ underCopy st s copy =
     cond (redChild (st .pool) w) st (painted (painted st w redColour) copy blackColour)
 
 -- the colour work after a diag's last store, B being risen
-abbrev pub endDiag : Rule → State → Side → ℕ → State
-endDiag Grow st s b = blackRoot st
-endDiag Pass st s b = underCopy st s (child (st .pool) (other s) b)
-endDiag Borrow st s b = painted st (child (st .pool) s b) blackColour
+abbrev pub endDiag : Purpose → State → Side → ℕ → State
+endDiag ForInsert st s b = blackRoot st
+endDiag RedSibling st s b = underCopy st s (child (st .pool) (other s) b)
+endDiag BlackSibling st s b = painted st (child (st .pool) s b) blackColour
 
 -- D's link, or root, := B; C retired.
-unfoldable pub diagRaise : State → Link → Side → Rule → Made
-diagRaise st l s rule =
+unfoldable pub diagRaise : State → Link → Side → Purpose → Made
+diagRaise st l s purpose =
     let c = linkNode st l in
     let b = child (st .pool) s c in
-    let risen = painted (setLink st l b) b (risenColour rule st c) in
-    made (retire (endDiag rule risen s b) c) l b
+    let risen = painted (setLink st l b) b (risenColour purpose st c) in
+    made (retire (endDiag purpose risen s b) c) l b
 
 -- Zig (top C, its child A on the side s, A's inner child B): A' takes B's child on A's side; B's link on that side := A'.
-unfoldable pub zigLowerA : State → Link → Side → Rule → Made
-zigLowerA st l s rule =
+unfoldable pub zigLowerA : State → Link → Side → Purpose → Made
+zigLowerA st l s purpose =
     let p = st .pool in
     let a = child p s (linkNode st l) in
     let b = child p (other s) a in
     let n = st .register .first in
-    made (setLink (copyNode st a s (child p s a) (child p s b) (copyColour rule)) (linkAt s b) n) (linkAt s b) n
+    made (setLink (copyNode st a s (child p s a) (child p s b) (copyColour purpose)) (linkAt s b) n) (linkAt s b) n
 
 -- C' likewise on the other side.
-unfoldable pub zigLowerC : State → Link → Side → Rule → Made
-zigLowerC st l s rule =
+unfoldable pub zigLowerC : State → Link → Side → Purpose → Made
+zigLowerC st l s purpose =
     let p = st .pool in
     let z = other s in
     let c = linkNode st l in
     let b = child p z (child p s c) in
     let n = st .register .first in
-    made (setLink (copyNode st c s (child p z b) (child p z c) (copyColour rule)) (linkAt z b) n) (linkAt z b) n
+    made (setLink (copyNode st c s (child p z b) (child p z c) (copyColour purpose)) (linkAt z b) n) (linkAt z b) n
 
-abbrev pub endZig : Rule → State → State
-endZig Grow st = blackRoot st
-endZig Pass st = st
-endZig Borrow st = st
+abbrev pub endZig : Purpose → State → State
+endZig ForInsert st = blackRoot st
+endZig RedSibling st = st
+endZig BlackSibling st = st
 
 -- D's link := B; A and C retired.
-unfoldable pub zigRaise : State → Link → Side → Rule → Made
-zigRaise st l s rule =
+unfoldable pub zigRaise : State → Link → Side → Purpose → Made
+zigRaise st l s purpose =
     let c = linkNode st l in
     let a = child (st .pool) s c in
     let b = child (st .pool) (other s) a in
-    let risen = painted (setLink st l b) b (risenColour rule st c) in
-    made (retireTwo (endZig rule risen) a c) l b
+    let risen = painted (setLink st l b) b (risenColour purpose st c) in
+    made (retireTwo (endZig purpose risen) a c) l b
 
 -- Delete B, at most one child: B's link from above := that child (list store); B retired. B's own colour is lost.
 abbrev pub unlinkPath : State → Link → List Link
 unlinkPath st l = pathTo (st .pool) (st .register .root) (word (st .pool) (linkNode st l) keyWord) l
 
-abbrev pub unlinkClimb : State → Link → Climb
-unlinkClimb st l =
+abbrev pub unlinkFixup : State → Link → Fixup
+unlinkFixup st l =
     let b = linkNode st l in
-    lossClimb (st .pool) b (onlyChild (st .pool) b) (unlinkPath st l)
+    fixupAfterRemoval (st .pool) b (onlyChild (st .pool) b) (unlinkPath st l)
 
 unfoldable pub unlinkStore : State → Link → Made
 unlinkStore st l =
     let b = linkNode st l in
     let x = onlyChild (st .pool) b in
-    let coloured = paintLoss (oneLess (setLink st l x)) (unlinkClimb st l) x (unlinkPath st l) in
+    let coloured = paintDeleteFixup (oneLess (setLink st l x)) (unlinkFixup st l) x (unlinkPath st l) in
     made (retire coloured b) l x
 
 -- Delete B, right child C without left child: C's left := B's left.
@@ -175,10 +175,10 @@ adoptStore st l =
 abbrev pub replacePath : State → Link → List Link
 replacePath st l = belowRight (linkNode st l) (unlinkPath st l)
 
-abbrev pub replaceClimb : State → Link → Climb
-replaceClimb st l =
+abbrev pub replaceFixup : State → Link → Fixup
+replaceFixup st l =
     let c = child (st .pool) R (linkNode st l) in
-    lossClimb (st .pool) c (child (st .pool) R c) (replacePath st l)
+    fixupAfterRemoval (st .pool) c (child (st .pool) R c) (replacePath st l)
 
 unfoldable pub replaceStore : State → Link → Made
 replaceStore st l =
@@ -186,7 +186,7 @@ replaceStore st l =
     let c = child (st .pool) R b in
     let x = child (st .pool) R c in
     let replaced = painted (oneLess (setLink st l c)) c (colourOf st b) in
-    made (retire (paintLoss replaced (replaceClimb st l) x (replacePath st l)) b) l c
+    made (retire (paintDeleteFixup replaced (replaceFixup st l) x (replacePath st l)) b) l c
 
 -- Delete B, other: C' copies C with B's colour and links. B's link from above := C' (list store); B retired; all reading slots are
 -- awaited. The stores still to come that hang on B's right hang on C' now.
@@ -219,10 +219,10 @@ detachPath st l k = successorPath (st .pool) (linkNode st l) (pathTo (st .pool) 
 abbrev pub detachNode : State → Link → ℕ → ℕ
 detachNode st l k = linkNode st (nearest (detachPath st l k))
 
-abbrev pub detachClimb : State → Link → ℕ → Climb
-detachClimb st l k =
+abbrev pub detachFixup : State → Link → ℕ → Fixup
+detachFixup st l k =
     let c = detachNode st l k in
-    lossClimb (st .pool) c (child (st .pool) R c) (detachPath st l k)
+    fixupAfterRemoval (st .pool) c (child (st .pool) R c) (detachPath st l k)
 
 unfoldable pub detachStore : State → Link → ℕ → Made
 detachStore st l k =
@@ -230,7 +230,7 @@ detachStore st l k =
     let above = nearest path in
     let c = linkNode st above in
     let x = child (st .pool) R c in
-    made (retire (paintLoss (setLink st above x) (detachClimb st l k) x path) c) above x
+    made (retire (paintDeleteFixup (setLink st above x) (detachFixup st l k) x path) c) above x
 
 -- Whether a turn's own step finds every node that it names, and a free node if it takes one. Of no node each word is 0, so a node that
 -- is there has the nodes above it there as well.
@@ -241,8 +241,8 @@ abbrev pub reached : List Link → Bool
 reached [] = false
 reached (l ∷ up) = true
 
-abbrev pub calmly : Climb → Bool
-calmly c = not (missing (c .ending))
+abbrev pub nodesFound : Fixup → Bool
+nodesFound c = not (missing (c .ending))
 
 -- B of a diag and of a zig
 abbrev pub diagChild : State → Link → Side → ℕ
@@ -252,24 +252,24 @@ abbrev pub zigChild : State → Link → Side → ℕ
 zigChild st l s = child (st .pool) (other s) (diagChild st l s)
 
 -- what a diag's last store names besides B: the copy's child on the side s, or B's outer child
-abbrev pub endDiagFinds : Rule → State → Side → ℕ → Bool
-endDiagFinds Grow st s b = true
-endDiagFinds Pass st s b = isNode (child (st .pool) s (child (st .pool) (other s) b))
-endDiagFinds Borrow st s b = isNode (child (st .pool) s b)
+abbrev pub endDiagFinds : Purpose → State → Side → ℕ → Bool
+endDiagFinds ForInsert st s b = true
+endDiagFinds RedSibling st s b = isNode (child (st .pool) s (child (st .pool) (other s) b))
+endDiagFinds BlackSibling st s b = isNode (child (st .pool) s b)
 
 unfoldable pub stepFinds : State → Link → Step → Bool
 stepFinds st l Vacant = false
-stepFinds st l (Insert k v) = calmly (insertClimb st k l) && not (queueEmpty st)
+stepFinds st l (Insert k v) = nodesFound (fixupAfterInsert st k l) && not (queueEmpty st)
 stepFinds st l (DiagLower s c) = isNode (diagChild st l s) && not (queueEmpty st)
 stepFinds st l (DiagRaise s c) = isNode (diagChild st l s) && endDiagFinds c st s (diagChild st l s)
 stepFinds st l (ZigLowerA s c) = isNode (zigChild st l s) && not (queueEmpty st)
 stepFinds st l (ZigLowerC s c) = isNode (zigChild st l s) && not (queueEmpty st)
 stepFinds st l (ZigRaise s c) = isNode (zigChild st l s)
-stepFinds st l Unlink = isNode (linkNode st l) && calmly (unlinkClimb st l)
+stepFinds st l Unlink = isNode (linkNode st l) && nodesFound (unlinkFixup st l)
 stepFinds st l Adopt = isNode (child (st .pool) R (linkNode st l))
-stepFinds st l Replace = isNode (child (st .pool) R (linkNode st l)) && calmly (replaceClimb st l)
+stepFinds st l Replace = isNode (child (st .pool) R (linkNode st l)) && nodesFound (replaceFixup st l)
 stepFinds st l (Publish c) = isNode (linkNode st l) && not (queueEmpty st)
-stepFinds st l (Detach k) = reached (detachPath st l k) && isNode (detachNode st l k) && calmly (detachClimb st l k)
+stepFinds st l (Detach k) = reached (detachPath st l k) && isNode (detachNode st l k) && nodesFound (detachFixup st l k)
 
 unfoldable pub stepMade : State → Link → Step → Made
 stepMade st l Vacant = made st l 0

@@ -4,24 +4,24 @@ use mathlib.Core.List.{List}
 use mathlib.Core.Bool.{true, false, not, _&&_}
 use borrow.Author.Tests.{ne-eqb}
 use Prim.Native.Nat.{ℕ}
-use Rattle.types.specs.declared.Side.the-variants.{L}
-use Rattle.types.specs.declared.Link.{Link}
-use Rattle.types.specs.declared.Register.{Register}
-use Rattle.types.specs.declared.Climb.{Climb}
-use Rattle.types.specs.declared.Ending.{Ending}
-use Rattle.types.specs.declared.Ending.the-variants.{Calm, Blacken, Rotate, RotateTwice, Missing}
-use Rattle.types.specs.declared.Step.the-variants.{Insert}
-use Rattle.types.specs.Side.{owner}
+use Rattle.datatypes.specs.declared.Side.the-variants.{L}
+use Rattle.datatypes.specs.declared.Link.{Link}
+use Rattle.datatypes.specs.declared.Register.{Register}
+use Rattle.datatypes.specs.declared.Fixup.{Fixup}
+use Rattle.datatypes.specs.declared.Ending.{Ending}
+use Rattle.datatypes.specs.declared.Ending.the-variants.{Balanced, Blacken, Rotate, RotateTwice, Missing}
+use Rattle.datatypes.specs.declared.Step.the-variants.{Insert}
+use Rattle.datatypes.specs.Side.{owner}
 use Rattle.spec.specs.Pool.{isRed, paint, redColour, blackColour}
 use Rattle.spec.specs.Register.{State, state, setLink}
 use Rattle.spec.specs.Free.{takeNode, queueEmpty}
 use Rattle.spec.specs.Search.{pathTo}
-use Rattle.spec.specs.Plan.{rise, paintRise, insertClimb, missing}
-use Rattle.spec.specs.Turn.{Made, made, oneMore, endInsert, insertStore, calmly, stepFinds, stepMade}
+use Rattle.spec.specs.Plan.{insertFixup, paintInsertFixup, fixupAfterInsert, missing}
+use Rattle.spec.specs.Turn.{Made, made, oneMore, endInsert, insertStore, nodesFound, stepFinds, stepMade}
 use Rattle.laws.specs.Turns.{and-false}
 
 end-insert-register : (e : Ending) (st : State) → endInsert e st .register ≡ st .register
-end-insert-register Calm st = refl
+end-insert-register Balanced st = refl
 end-insert-register Blacken st = refl
 end-insert-register (Rotate t) st = refl
 end-insert-register (RotateTwice t u) st = refl
@@ -36,35 +36,35 @@ module _ (st : State) (l : Link) (k v : ℕ) where
 
   pub insert-empty : st .register .first ≡ 0 → stepFinds st l (Insert k v) ≡ false
   unfolding stepFinds
-  insert-empty e = and-false (calmly (insertClimb st k l)) (not (queueEmpty st)) (rw e)
+  insert-empty e = and-false (nodesFound (fixupAfterInsert st k l)) (not (queueEmpty st)) (rw e)
 
   module _ (black : isRed (st .pool) (owner l) ≡ false) where
-    pub calm-found : (st .register .first ≡ 0 → ⊥) → stepFinds st l (Insert k v) ≡ true
-    unfolding stepFinds insertClimb
-    calm-found d = rw (black, ne-eqb (st .register .first) 0 d)
+    pub balanced-found : (st .register .first ≡ 0 → ⊥) → stepFinds st l (Insert k v) ≡ true
+    unfolding stepFinds fixupAfterInsert
+    balanced-found d = rw (black, ne-eqb (st .register .first) 0 d)
 
-    pub calm-made : (p : List ℕ) (r : Register) → state p r ≡ linked → made (state (paint p (r .root) blackColour) r) l (st .register .first) ≡ stepMade st l (Insert k v)
-    unfolding stepMade insertStore insertClimb paintRise
-    calm-made p r e = ap (λ (x : State). made (state (paint (x .pool) (x .register .root) blackColour) (x .register)) l (st .register .first)) e ∙ rw black
+    pub balanced-made : (p : List ℕ) (r : Register) → state p r ≡ linked → made (state (paint p (r .root) blackColour) r) l (st .register .first) ≡ stepMade st l (Insert k v)
+    unfolding stepMade insertStore fixupAfterInsert paintInsertFixup
+    balanced-made p r e = ap (λ (x : State). made (state (paint (x .pool) (x .register .root) blackColour) (x .register)) l (st .register .first)) e ∙ rw black
 
-  module _ (red : isRed (st .pool) (owner l) ≡ true) (c : Climb) (climbs : c ≡ rise (st .pool) 0 path) where
-    climb : c ≡ insertClimb st k l
-    unfolding insertClimb
-    climb = climbs ∙ rw red
+  module _ (red : isRed (st .pool) (owner l) ≡ true) (c : Fixup) (climbs : c ≡ insertFixup (st .pool) 0 path) where
+    fixupResult : c ≡ fixupAfterInsert st k l
+    unfolding fixupAfterInsert
+    fixupResult = climbs ∙ rw red
 
-    pub climb-missing : missing (c .ending) ≡ true → stepFinds st l (Insert k v) ≡ false
+    pub fixup-missing : missing (c .ending) ≡ true → stepFinds st l (Insert k v) ≡ false
     unfolding stepFinds
-    climb-missing m = rw (← climb, m)
+    fixup-missing m = rw (← fixupResult, m)
 
-    pub climb-found : missing (c .ending) ≡ false → (st .register .first ≡ 0 → ⊥) → stepFinds st l (Insert k v) ≡ true
+    pub fixup-found : missing (c .ending) ≡ false → (st .register .first ≡ 0 → ⊥) → stepFinds st l (Insert k v) ≡ true
     unfolding stepFinds
-    climb-found m d = rw (← climb, m, ne-eqb (st .register .first) 0 d)
+    fixup-found m d = rw (← fixupResult, m, ne-eqb (st .register .first) 0 d)
 
-    pub climb-made : (p q s : List ℕ) (r : Register) → state p r ≡ linked → q ≡ paintRise (c .levels) path p → s ≡ endInsert (c .ending) (state q r) .pool
+    pub fixup-made : (p q s : List ℕ) (r : Register) → state p r ≡ linked → q ≡ paintInsertFixup (c .levels) path p → s ≡ endInsert (c .ending) (state q r) .pool
         → made (state s r) l (st .register .first) ≡ stepMade st l (Insert k v)
     unfolding stepMade insertStore
-    climb-made p q s r e f g =
+    fixup-made p q s r e f g =
         let pools : state s r ≡ endInsert (c .ending) (state q r) = ap (λ (x : List ℕ). state x r) g ∙ ap (state (endInsert (c .ending) (state q r) .pool)) (sym (end-insert-register (c .ending) (state q r))) in
         ap (λ (x : State). made x l (st .register .first))
-        (pools ∙ (ap (λ (x : List ℕ). endInsert (c .ending) (state x r)) f ∙ ap (λ (x : State). endInsert (c .ending) (state (paintRise (c .levels) path (x .pool)) (x .register))) e))
-        ∙ rw climb
+        (pools ∙ (ap (λ (x : List ℕ). endInsert (c .ending) (state x r)) f ∙ ap (λ (x : State). endInsert (c .ending) (state (paintInsertFixup (c .levels) path (x .pool)) (x .register))) e))
+        ∙ rw fixupResult

@@ -4,7 +4,7 @@ use mathlib.Core.List.{List, [], _∷_, map}
 use lib.ListN.{length, getD, set}
 use native.Mathlib.Omega.{arith}
 use Prim.Native.Nat.{ℕ, zero, suc, _+_, _≤_}
-use Rattle.types.specs.declared.Store.{Store}
+use Rattle.datatypes.specs.declared.Store.{Store}
 use Rattle.spec.specs.Register.{vacant}
 
 module _ (f : Store → Store) where

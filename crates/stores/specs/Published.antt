@@ -3,12 +3,12 @@ use mathlib.Core.Path.{_≡_, refl, sym, ap, _∙_}
 use mathlib.Core.List.{List}
 use mathlib.Core.Bool.{false, false≢true}
 use Prim.Native.Nat.{ℕ}
-use Rattle.types.specs.declared.Side.the-variants.{L, R}
-use Rattle.types.specs.declared.Link.{Link}
-use Rattle.types.specs.declared.Head.{Head}
-use Rattle.types.specs.declared.Register.{Register}
-use Rattle.types.specs.declared.Turned.{Turned}
-use Rattle.types.specs.declared.Step.the-variants.{Publish}
+use Rattle.datatypes.specs.declared.Side.the-variants.{L, R}
+use Rattle.datatypes.specs.declared.Link.{Link}
+use Rattle.datatypes.specs.declared.Head.{Head}
+use Rattle.datatypes.specs.declared.Register.{Register}
+use Rattle.datatypes.specs.declared.StepResult.{StepResult}
+use Rattle.datatypes.specs.declared.Step.the-variants.{Publish}
 use Rattle.spec.specs.Pool.{child}
 use Rattle.spec.specs.Register.{State, state, nodeAt, setLink, withHeld, withAwaited, withWrite, countDown, readingSlots}
 use Rattle.spec.specs.Free.{retire}
@@ -19,7 +19,7 @@ use Rattle.heads.specs.Head.{at, withHead, same-reading, Follows, FollowsReadin
 abbrev pub movedRest : ℕ → ℕ → Register → Register
 movedRest b n q = withWrite q (movedWrite b n (q .write))
 
-abbrev pub Publishes : ℕ → Link → ℕ → List ℕ → Head → List ℕ → Turned → Type 0
+abbrev pub Publishes : ℕ → Link → ℕ → List ℕ → Head → List ℕ → StepResult → Type 0
 Publishes m l c p h p′ t =
     (q : Register) → readingSlots q ≡ m → Tells (at p h q) l (Publish c) p′ t (movedRest (nodeAt p (h .root) l) (h .first) q)
 
@@ -31,7 +31,7 @@ rest-reading : (b n : ℕ) (q : Register) → readingSlots (movedRest b n q) ≡
 unfolding withWrite readingSlots
 rest-reading b n q = refl
 
-pub publishes-missed : (m : ℕ) (l : Link) (c : ℕ) (p : List ℕ) (h : Head) (t : Turned) → ((q : Register) → stepFinds (at p h q) l (Publish c) ≡ false)
+pub publishes-missed : (m : ℕ) (l : Link) (c : ℕ) (p : List ℕ) (h : Head) (t : StepResult) → ((q : Register) → stepFinds (at p h q) l (Publish c) ≡ false)
     → t ≡ missedBy h → Publishes m l c p h p t
 publishes-missed m l c p h t f e q r = rw e (sym (f q), λ g. absurd (false≢true g), λ g. refl)
 

@@ -1,20 +1,20 @@
 // The stores that link a new node, let a node adopt, and publish a copy. Each function tries one store: it tests that the nodes are
 // there, and the free node that it takes, before it changes anything.
-use types::Ending;
-use types::Head;
-use types::Link;
-use types::Side;
-use types::Store;
-use types::Turned;
-use types::Write;
+use datatypes::Ending;
+use datatypes::Head;
+use datatypes::Link;
+use datatypes::Side;
+use datatypes::StepResult;
+use datatypes::Store;
+use datatypes::Write;
 ghost use mathlib.Core.Path.{_≡_};
 ghost use mathlib.Core.Bool.{true, false};
 ghost use Prim.Native.Nat.{ℕ, _<_};
 ghost use lib.ListN.{length};
-ghost use Rattle.types.specs.declared.Register.{Register};
-ghost use Rattle.types.specs.declared.Side.the-variants.{L};
-ghost use Rattle.types.specs.declared.Step.the-variants.{Insert, Adopt};
-ghost use Rattle.types.specs.Side.{owner};
+ghost use Rattle.datatypes.specs.declared.Register.{Register};
+ghost use Rattle.datatypes.specs.declared.Side.the-variants.{L};
+ghost use Rattle.datatypes.specs.declared.Step.the-variants.{Insert, Adopt};
+ghost use Rattle.datatypes.specs.Side.{owner};
 ghost use Rattle.spec.specs.Pool.{isRed, redColour};
 ghost use Rattle.spec.specs.Register.{state, setLink};
 ghost use Rattle.spec.specs.Free.{takeNode};
@@ -30,8 +30,8 @@ fn link_new(pool: &mut [u32], h: Head, l: Link, k: u32, v: u32) -> Head
     let first = h.first;
     let taken = queue::take_node(pool, h, k, v, Side::L, 0, 0, pool::RED);
     let mut r = heads::set_link(pool, taken, l, first);
-    let top = pool::nodes(pool);
-    r.held = register::count_up(top, r.held);
+    let capacity = pool::nodes(pool);
+    r.held = register::count_up(capacity, r.held);
     r
 }
 
@@ -40,7 +40,7 @@ fn end_insert(pool: &mut [u32], root: u32, e: Ending)
     ensures { λ _. ⌜ ((q : Register) → q .root ≡ root → now (pool .exit) ≡ endInsert e (state (now (pool .entry)) q) .pool) ⌝ }
 {
     match e {
-        Ending::Calm => pool::set_word(pool, root, pool::COLOUR, pool::BLACK),
+        Ending::Balanced => pool::set_word(pool, root, pool::COLOUR, pool::BLACK),
         Ending::Blacken => {}
         Ending::Rotate(_) => {}
         Ending::RotateTwice(_, _) => {}
@@ -49,14 +49,14 @@ fn end_insert(pool: &mut [u32], root: u32, e: Ending)
 }
 
 // an insert under a black parent, or at the root
-fn insert_calm(pool: &mut [u32], h: Head, l: Link, k: u32, v: u32) -> Turned
+fn insert_under_black(pool: &mut [u32], h: Head, l: Link, k: u32, v: u32) -> StepResult
     requires { ⌜ (length (now pool) < 8192) × (isRed (now pool) (owner l) ≡ false) × (h .first ≡ 0 → ⊥) ⌝ }
     ensures { λ r. ⌜ Tries l (Insert k v) (now (pool .entry)) h (now (pool .exit)) r ⌝ }
 {
     let first = h.first;
     let head = link_new(pool, h, l, k, v);
     pool::set_word(pool, head.root, pool::COLOUR, pool::BLACK);
-    Turned {
+    StepResult {
         found: true,
         link: l,
         node: first,
@@ -65,22 +65,22 @@ fn insert_calm(pool: &mut [u32], h: Head, l: Link, k: u32, v: u32) -> Turned
 }
 
 // an insert under a red parent
-fn insert_climbing(pool: &mut [u32], h: Head, l: Link, k: u32, v: u32) -> Turned
+fn insert_under_red(pool: &mut [u32], h: Head, l: Link, k: u32, v: u32) -> StepResult
     requires { ⌜ (length (now pool) < 8192) × (isRed (now pool) (owner l) ≡ true) × (h .first ≡ 0 → ⊥) ⌝ }
     ensures { λ r. ⌜ Tries l (Insert k v) (now (pool .entry)) h (now (pool .exit)) r ⌝ }
 {
     let mut path: [u64; paths::MOST_LINKS] = [0; paths::MOST_LINKS];
     let c = paths::path_to(pool, h.root, k, l, &mut path);
-    let climb = climbs::rise(pool, &path, c, 0);
-    let ending = climb.ending;
-    if climbs::missing(ending) {
+    let fixup_result = fixups::insert_fixup(pool, &path, c, 0);
+    let ending = fixup_result.ending;
+    if fixups::missing(ending) {
         return heads::missed(h);
     }
     let first = h.first;
     let head = link_new(pool, h, l, k, v);
-    climbs::paint_rise(pool, &path, c, climb.levels);
+    fixups::paint_insert_fixup(pool, &path, c, fixup_result.levels);
     end_insert(pool, head.root, ending);
-    Turned {
+    StepResult {
         found: true,
         link: l,
         node: first,
@@ -89,7 +89,7 @@ fn insert_climbing(pool: &mut [u32], h: Head, l: Link, k: u32, v: u32) -> Turned
 }
 
 // Links a new red node at the link l, then the climb's colours.
-pub fn insert(pool: &mut [u32], h: Head, l: Link, k: u32, v: u32) -> Turned
+pub fn insert(pool: &mut [u32], h: Head, l: Link, k: u32, v: u32) -> StepResult
     requires { ⌜ length (now pool) < 8192 ⌝ }
     ensures { λ r. ⌜ Tries l (Insert k v) (now (pool .entry)) h (now (pool .exit)) r ⌝ }
 {
@@ -97,13 +97,13 @@ pub fn insert(pool: &mut [u32], h: Head, l: Link, k: u32, v: u32) -> Turned
         return heads::missed(h);
     }
     if pool::is_red(pool, register::owner(l)) {
-        return insert_climbing(pool, h, l, k, v);
+        return insert_under_red(pool, h, l, k, v);
     }
-    insert_calm(pool, h, l, k, v)
+    insert_under_black(pool, h, l, k, v)
 }
 
 // C's left := B's left.
-pub fn adopt(pool: &mut [u32], h: Head, l: Link) -> Turned
+pub fn adopt(pool: &mut [u32], h: Head, l: Link) -> StepResult
     ensures { λ r. ⌜ Tries l Adopt (now (pool .entry)) h (now (pool .exit)) r ⌝ }
 {
     let b = register::node_at(pool, h.root, l);
@@ -114,7 +114,7 @@ pub fn adopt(pool: &mut [u32], h: Head, l: Link) -> Turned
     let x = pool::child(pool, Side::L, b);
     let link = Link::Left(c);
     let head = heads::set_link(pool, h, link, x);
-    Turned {
+    StepResult {
         found: true,
         link,
         node: x,
@@ -168,7 +168,7 @@ fn await_readers(h: Head, reading: u32) -> Head
 
 // B's link from above := a copy of C with B's colour and links; B retired; all reading slots are awaited. The write in hand is to be
 // moved to the copy by moved_write.
-pub fn publish(pool: &mut [u32], h: Head, reading: u32, l: Link, c: u32) -> Turned
+pub fn publish(pool: &mut [u32], h: Head, reading: u32, l: Link, c: u32) -> StepResult
     requires { ⌜ length (now pool) < 8192 ⌝ }
     ensures { λ r. ⌜ Publishes reading l c (now (pool .entry)) h (now (pool .exit)) r ⌝ }
 {
@@ -187,7 +187,7 @@ pub fn publish(pool: &mut [u32], h: Head, reading: u32, l: Link, c: u32) -> Turn
     let linked = heads::set_link(pool, taken, l, first);
     let awaiting = await_readers(linked, reading);
     let head = queue::retire(pool, awaiting, reading, b);
-    Turned {
+    StepResult {
         found: true,
         link: l,
         node: first,

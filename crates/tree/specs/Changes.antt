@@ -6,7 +6,7 @@ use mathlib.Core.Logic.{_≢_}
 use mathlib.Core.List.{List, [], _∷_}
 use mathlib.Core.Option.{Option, none, some}
 use native.Mathlib.Omega.{arith}
-use Rattle.types.specs.declared.Side.the-variants.{L}
+use Rattle.datatypes.specs.declared.Side.the-variants.{L}
 use Rattle.sequential.specs.Tree.{Tree, leaf, rel, pick, find}
 use Rattle.sequential.specs.Insert.{insert}
 use Rattle.sequential.specs.Delete.{delete, Change, insertion, deletion, changed, changedBy}

@@ -6,11 +6,11 @@ use mathlib.Core.Logic.{_≢_}
 use mathlib.Core.List.{List, [], _∷_}
 use mathlib.Core.Option.{none, some}
 use native.Mathlib.Omega.{arith}
-use Rattle.types.specs.declared.Side.{Side}
-use Rattle.types.specs.declared.Side.the-variants.{L, R}
-use Rattle.types.specs.Side.{other}
+use Rattle.datatypes.specs.declared.Side.{Side}
+use Rattle.datatypes.specs.declared.Side.the-variants.{L, R}
+use Rattle.datatypes.specs.Side.{other}
 use Rattle.sequential.specs.Tree.{Colour, red, black, Tree, leaf, node, ifRed, mk, child, keyOf, recordOf, colourOf, redChild, find, Frame, frame, plug, descend, diag, zig}
-use Rattle.sequential.specs.Delete.{blackOuter, borrow, underRed, fixup, lose, leastKey, leastRecord, removeLeast, remove, delete}
+use Rattle.sequential.specs.Delete.{blackOuter, blackSibling, underRed, fixup, lose, leastKey, leastRecord, removeLeast, remove, delete}
 use Rattle.tree.specs.Order.{Ord, ord-trans, ord-anti, ord-apart, near-of, here-of, tri-case}
 use Rattle.tree.specs.Sorted.{ifRed-case, Below, Ordered, size, NotLeaf, mk-other, mk-there, whole, below-mk, ordered-mk, find-mk, size-mk, below-trans, find-none}
 use Rattle.tree.specs.Keeps.{Keeps, keeps-refl, keeps-trans, keeps-mk, keeps-plug, keeps-paint, keeps-diag, keeps-zig}
@@ -32,12 +32,12 @@ lent-keeps z c k v x w e =
     (λ f. keeps-trans (keeps-mk z c c k v (blackOuter-keeps z w (redChild-there w e)) (keeps-refl x)) (keeps-diag z c c black k v (blackOuter z w) x (mk-there z _ _ _ _ _)))
     (λ f. keeps-zig z c c black k v w x (redChild-there w e) (red-there (child (other z) w) (redChild-inner z w e f)))
 
-borrow-keeps : (s : Side) (c : Colour) (k v : ℕ) (x w : Tree) → redChild w ≡ red → Keeps (mk s c k v x w) (borrow s c k v x w)
-borrow-keeps s c k v x w e = subst (λ t. Keeps t (borrow s c k v x w)) (mk-other s c k v x w) (lent-keeps (other s) c k v x w e)
+blackSibling-keeps : (s : Side) (c : Colour) (k v : ℕ) (x w : Tree) → redChild w ≡ red → Keeps (mk s c k v x w) (blackSibling s c k v x w)
+blackSibling-keeps s c k v x w e = subst (λ t. Keeps t (blackSibling s c k v x w)) (mk-other s c k v x w) (lent-keeps (other s) c k v x w e)
 
 underRed-keeps : (s : Side) (c : Colour) (k v : ℕ) (x w : Tree) → Keeps (mk s red k v x w) (underRed s k v x w)
 underRed-keeps s c k v x w =
-    ifRed-case (Keeps (mk s red k v x w)) (redChild w) (λ e. borrow-keeps s red k v x w e) (λ e. keeps-mk s red black k v (keeps-refl x) (keeps-paint red w))
+    ifRed-case (Keeps (mk s red k v x w)) (redChild w) (λ e. blackSibling-keeps s red k v x w e) (λ e. keeps-mk s red black k v (keeps-refl x) (keeps-paint red w))
 
 -- fixup's case 1 is a diag, whose lower node has x and the sibling's inner child
 pub pass-diag : (s : Side) (k v : ℕ) (x w : Tree)
@@ -59,7 +59,7 @@ fixup-keeps (frame s c k v w ∷ fs) x =
     ifRed-case K (colourOf x)
     (λ _. keeps-plug fs (keeps-mk s c c k v (keeps-paint black x) (keeps-refl w)))
     (λ _. ifRed-case K (colourOf w) (λ e. keeps-plug fs (pass-keeps s c k v x w e))
-    (λ _. ifRed-case K (redChild w) (λ e. keeps-plug fs (borrow-keeps s c k v x w e))
+    (λ _. ifRed-case K (redChild w) (λ e. keeps-plug fs (blackSibling-keeps s c k v x w e))
     (λ _. keeps-trans (keeps-plug fs (keeps-mk s c c k v (keeps-refl x) (keeps-paint red w))) (fixup-keeps fs _))))
 
 pub lose-keeps : (c : Colour) (fs : List Frame) (x : Tree) → Keeps (plug fs x) (lose c fs x)

@@ -3,13 +3,13 @@ use Prim.Native.Nat.{ℕ, suc}
 use mathlib.Core.Path.{_≡_, refl, sym, ap, _∙_}
 use mathlib.Core.List.{List, [], _∷_}
 use native.Mathlib.Omega.{arith}
-use Rattle.types.specs.declared.Side.{Side}
-use Rattle.types.specs.declared.Side.the-variants.{L, R}
-use Rattle.types.specs.Side.{other}
+use Rattle.datatypes.specs.declared.Side.{Side}
+use Rattle.datatypes.specs.declared.Side.the-variants.{L, R}
+use Rattle.datatypes.specs.Side.{other}
 use Rattle.sequential.specs.Tree.{Colour, red, black, Tree, leaf, node, ifRed, mk, child, keyOf, recordOf, colourOf, paint, redChild, Frame, frame, plug, diag, zig}
-use Rattle.sequential.specs.Delete.{blackOuter, borrow, underRed, fixup, lose, removeLeast, remove, delete}
+use Rattle.sequential.specs.Delete.{blackOuter, blackSibling, underRed, fixup, lose, removeLeast, remove, delete}
 use Rattle.tree.specs.Sorted.{ifRed-case, NotLeaf, parts, colourOf-mk, paint-mk}
-use Rattle.tree.specs.RedBlack.{RB, rb-leaf, rb-red, rb-black, RedBlack, Fit, fit-top, fit-red, fit-black, above, mk-black, mk-any, red-child, black-child, blacken, root-is, red-there, still-black, fit-either, fit-plug}
+use Rattle.tree.specs.RedBlack.{RB, rb-leaf, rb-red, rb-black, RedBlack, Fit, fit-top, fit-red, fit-black, above, mk-black, mk-any, red-child, black-child, blacken, root-is, red-there, leavesTree-black, fit-either, fit-plug}
 use Rattle.tree.specs.Descent.{descend-fit}
 
 -- the test for a red child, from each side
@@ -36,11 +36,11 @@ redChild-there leaf e = red-there leaf e
 redChild-there (node c k v l r) e = tt
 
 -- a borrow is a diag if the sibling's outer child is red, else a zig
-pub borrow-outer : (s : Side) (c : Colour) (k v : ℕ) (x w : Tree) → colourOf (child (other s) w) ≡ red → borrow s c k v x w ≡ diag (other s) c black k v (blackOuter (other s) w) x
-borrow-outer s c k v x w e = ap (λ d. ifRed d (diag (other s) c black k v (blackOuter (other s) w) x) (zig (other s) c black k v w x)) e
+pub blackSibling-outer : (s : Side) (c : Colour) (k v : ℕ) (x w : Tree) → colourOf (child (other s) w) ≡ red → blackSibling s c k v x w ≡ diag (other s) c black k v (blackOuter (other s) w) x
+blackSibling-outer s c k v x w e = ap (λ d. ifRed d (diag (other s) c black k v (blackOuter (other s) w) x) (zig (other s) c black k v w x)) e
 
-pub borrow-inner : (s : Side) (c : Colour) (k v : ℕ) (x w : Tree) → colourOf (child (other s) w) ≡ black → borrow s c k v x w ≡ zig (other s) c black k v w x
-borrow-inner s c k v x w e = ap (λ d. ifRed d (diag (other s) c black k v (blackOuter (other s) w) x) (zig (other s) c black k v w x)) e
+pub blackSibling-inner : (s : Side) (c : Colour) (k v : ℕ) (x w : Tree) → colourOf (child (other s) w) ≡ black → blackSibling s c k v x w ≡ zig (other s) c black k v w x
+blackSibling-inner s c k v x w e = ap (λ d. ifRed d (diag (other s) c black k v (blackOuter (other s) w) x) (zig (other s) c black k v w x)) e
 
 -- the sibling w, on the side z of a parent of the colour c, lends a black node to x
 lent : (z : Side) (c : Colour) (k v : ℕ) {h : ℕ} {x w : Tree} → RB black h x → RB black (suc h) w → redChild w ≡ red
@@ -53,8 +53,8 @@ lent z c k v {h} {x} {w} rx rw′ e = go (black-child z rw′ .0) (black-child (
     go black red o i = rw (root-is o) (mk-any z c _ _ (mk-black z _ _ o (red-child z i)) (mk-black z k v (red-child (other z) i) rx))
     go black black o i = absurd (not-both (redChild-inner z w e (root-is o)) (root-is i))
 
-pub borrow-good : (s : Side) (c : Colour) (k v : ℕ) {h : ℕ} {x w : Tree} → RB black h x → RB black (suc h) w → redChild w ≡ red → RB c (above c (suc h)) (borrow s c k v x w)
-borrow-good s c k v rx rw′ e = lent (other s) c k v rx rw′ e
+pub blackSibling-good : (s : Side) (c : Colour) (k v : ℕ) {h : ℕ} {x w : Tree} → RB black h x → RB black (suc h) w → redChild w ≡ red → RB c (above c (suc h)) (blackSibling s c k v x w)
+blackSibling-good s c k v rx rw′ e = lent (other s) c k v rx rw′ e
 
 -- a sibling without a red child turns red
 pub paint-good : {h : ℕ} {w : Tree} → RB black (suc h) w → redChild w ≡ black → RB red h (paint red w)
@@ -66,7 +66,7 @@ underRed-good : (s : Side) (k v : ℕ) {h : ℕ} {x w : Tree} → RB black h x �
 underRed-good s k v {h} {x} {w} rx q = go (redChild w) refl
   where
     go : (d : Colour) → redChild w ≡ d → (c : Colour) × RB c (suc h) (underRed s k v x w)
-    go red e = (red, rw e (borrow-good s red k v rx q e))
+    go red e = (red, rw e (blackSibling-good s red k v rx q e))
     go black e = (black, rw e (mk-black s k v rx (paint-good q e)))
 
 -- a red x ends it
@@ -77,12 +77,12 @@ fixup-red (frame s c k v w ∷ fs) x e = rw e
 -- x lacks a black node
 pub fixup-good : {fs : List Frame} {c : Colour} {h : ℕ} {x : Tree} → Fit fs black (suc h) → RB c h x → RedBlack (fixup fs x)
 fixup-good {fs} {c = red} {x = x} f r = rw (fixup-red fs x (root-is r)) (fit-plug f (blacken r))
-fixup-good {c = black} fit-top r = still-black (_, r)
+fixup-good {c = black} fit-top r = leavesTree-black (_, r)
 fixup-good {c = black} {x = x} (fit-red {s} {k} {v} {y = w} {fs} f q) r =
     rw (root-is r)
     (ifRed-case RedBlack (colourOf w) (λ e. absurd (not-both e (root-is q)))
     (λ _. ifRed-case RedBlack (redChild w)
-    (λ e. fit-plug f (borrow-good s red k v r q e))
+    (λ e. fit-plug f (blackSibling-good s red k v r q e))
     (λ e. rw (fixup-red fs (mk s red k v x (paint red w)) (colourOf-mk s red k v x (paint red w)), paint-mk) (fit-plug (fit-either f) (mk-black s k v r (paint-good q e))))))
 fixup-good {c = black} (fit-black {s} {k} {v} f (rb-red {k = j} {v = u} a b)) r =
     let q = rb-red {k = j} {v = u} a b in
@@ -90,7 +90,7 @@ fixup-good {c = black} (fit-black {s} {k} {v} f (rb-red {k = j} {v = u} a b)) r 
 fixup-good {c = black} {x = x} (fit-black {s} {k} {v} {y = w} f (rb-black {k = j} {v = u} a b)) r =
     let q = rb-black {k = j} {v = u} a b in
     rw (root-is r)
-    (ifRed-case RedBlack (redChild w) (λ e. fit-plug f (borrow-good s black k v r q e)) (λ e. fixup-good f (mk-black s k v r (paint-good q e))))
+    (ifRed-case RedBlack (redChild w) (λ e. fit-plug f (blackSibling-good s black k v r q e)) (λ e. fixup-good f (mk-black s k v r (paint-good q e))))
 
 lose-red : {fs : List Frame} {x : Tree} {h : ℕ} → Fit fs red h → RB black h x → RedBlack (lose red fs x)
 lose-red f r = fit-plug (fit-either f) r

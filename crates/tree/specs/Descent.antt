@@ -2,8 +2,8 @@
 use Prim.Native.Nat.{ℕ}
 use mathlib.Core.Path.{_≡_, refl, _∙_}
 use mathlib.Core.List.{List, [], _∷_, _++_, append-nil}
-use Rattle.types.specs.declared.Side.{Side}
-use Rattle.types.specs.declared.Side.the-variants.{L, R}
+use Rattle.datatypes.specs.declared.Side.{Side}
+use Rattle.datatypes.specs.declared.Side.the-variants.{L, R}
 use Rattle.sequential.specs.Tree.{Colour, Tree, leaf, node, mk, find, Frame, frame, plug, descend}
 use Rattle.tree.specs.Order.{Ord, tri-case, near-of, far-of, here-of}
 use Rattle.tree.specs.RedBlack.{RB, rb-leaf, rb-red, rb-black, Fit, fit-red, fit-black}

@@ -3,13 +3,13 @@
 use Prim.Native.Nat.{ℕ}
 use mathlib.Core.Path.{_≡_, sym, _∙_}
 use mathlib.Core.Bool.{true, false}
-use Rattle.types.specs.declared.Side.{Side}
-use Rattle.types.specs.Side.{other}
+use Rattle.datatypes.specs.declared.Side.{Side}
+use Rattle.datatypes.specs.Side.{other}
 use Rattle.sequential.specs.Tree.{Colour, red, black, Tree, mk, child, keyOf, recordOf, colourOf, paint, diag, zig}
 use Rattle.sequential.specs.Insert.{turnUp}
-use Rattle.sequential.specs.Delete.{blackOuter, borrow}
+use Rattle.sequential.specs.Delete.{blackOuter, blackSibling}
 use Rattle.tree.specs.Sorted.{parts}
-use Rattle.tree.specs.DeleteShape.{borrow-outer, borrow-inner}
+use Rattle.tree.specs.DeleteShape.{blackSibling-outer, blackSibling-inner}
 use Rattle.tree.specs.Delete.{pass-diag}
 use Rattle.tree.specs.Distinct.{_∈_}
 use Rattle.tree.specs.Linked.{Node, Linked, cell, at, nodes}
@@ -42,14 +42,14 @@ module _ (f g : ℕ → Colour) (s : Side) (A B C : Node) (m n : ℕ) (a x y r :
       simp (erase-at, parts, eb, ea, ec, erase-agree g f a ha, erase-agree g f x hx, erase-agree g f y hy, erase-agree g f r hr)
 
 -- The rules of 01. Insert: the risen node black, copies red.
-pub grow-diag : (f g : ℕ → Colour) (s : Side) (B C : Node) (n : ℕ) (o x r : Linked) → g (B .num) ≡ black → g n ≡ red → Stays f g o → Stays f g x → Stays f g r
+pub forInsert-diag : (f g : ℕ → Colour) (s : Side) (B C : Node) (n : ℕ) (o x r : Linked) → g (B .num) ≡ black → g n ≡ red → Stays f g o → Stays f g x → Stays f g r
     → erase g (diag₂ s B C n o x r) ≡ turnUp true s (C .key) (C .val) (erase f (at s B o x)) (erase f r)
-grow-diag f g s B C n o x r eb ec ho hx hr = diag-end f g s B C n o x r black red eb ec hx hr ho
+forInsert-diag f g s B C n o x r eb ec ho hx hr = diag-end f g s B C n o x r black red eb ec hx hr ho
 
-pub grow-zig : (f g : ℕ → Colour) (s : Side) (A B C : Node) (m n : ℕ) (a x y r : Linked) → g (B .num) ≡ black → g m ≡ red → g n ≡ red
+pub forInsert-zig : (f g : ℕ → Colour) (s : Side) (A B C : Node) (m n : ℕ) (a x y r : Linked) → g (B .num) ≡ black → g m ≡ red → g n ≡ red
     → Stays f g a → Stays f g x → Stays f g y → Stays f g r
     → erase g (zig₃ s A B C m n a x y r) ≡ turnUp false s (C .key) (C .val) (erase f (at s A a (at s B x y))) (erase f r)
-grow-zig f g s A B C m n a x y r eb ea ec ha hx hy hr = zig-end f g s A B C m n a x y r ha hx hy hr black red eb ea ec
+forInsert-zig f g s A B C m n a x y r eb ea ec ha hx hy hr = zig-end f g s A B C m n a x y r ha hx hy hr black red eb ea ec
 
 -- Delete: the subtree r on the side s lacks a black node, its sibling is on the other side.
 module _ (f g : ℕ → Colour) (s : Side) (B C : Node) (n : ℕ) (o x r : Linked) (hx : Stays f g x) (hr : Stays f g r) where
@@ -62,15 +62,15 @@ module _ (f g : ℕ → Colour) (s : Side) (B C : Node) (n : ℕ) (o x r : Linke
   pass-end eb ec ho = diag-end f g (other s) B C n o x r black red eb ec hx hr ho ∙ pass-diag s (C .key) (C .val) (erase f r) sibling
 
   -- a red outer child of the sibling B: B takes the parent's colour, the copy and the outer child are black
-  pub borrow-diag : g (B .num) ≡ f (C .num) → g n ≡ black → erase g o ≡ paint black (erase f o) → colourOf (erase f o) ≡ red
-      → erase g (diag₂ (other s) B C n o x r) ≡ borrow s (f (C .num)) (C .key) (C .val) (erase f r) sibling
-  borrow-diag eb ec ho e =
-      diag-end-outer f g (other s) B C n o x r (f (C .num)) black eb ec hx hr ho ∙ sym (borrow-outer s (f (C .num)) (C .key) (C .val) (erase f r) sibling (simp (erase-at, parts) e))
+  pub blackSibling-diag : g (B .num) ≡ f (C .num) → g n ≡ black → erase g o ≡ paint black (erase f o) → colourOf (erase f o) ≡ red
+      → erase g (diag₂ (other s) B C n o x r) ≡ blackSibling s (f (C .num)) (C .key) (C .val) (erase f r) sibling
+  blackSibling-diag eb ec ho e =
+      diag-end-outer f g (other s) B C n o x r (f (C .num)) black eb ec hx hr ho ∙ sym (blackSibling-outer s (f (C .num)) (C .key) (C .val) (erase f r) sibling (simp (erase-at, parts) e))
 
 -- only the inner child B of the sibling A red: B takes the parent's colour, the copies are black
-pub borrow-zig : (f g : ℕ → Colour) (s : Side) (A B C : Node) (m n : ℕ) (a x y r : Linked) → g (B .num) ≡ f (C .num) → g m ≡ black → g n ≡ black
+pub blackSibling-zig : (f g : ℕ → Colour) (s : Side) (A B C : Node) (m n : ℕ) (a x y r : Linked) → g (B .num) ≡ f (C .num) → g m ≡ black → g n ≡ black
     → Stays f g a → Stays f g x → Stays f g y → Stays f g r → colourOf (erase f a) ≡ black
-    → erase g (zig₃ (other s) A B C m n a x y r) ≡ borrow s (f (C .num)) (C .key) (C .val) (erase f r) (erase f (at (other s) A a (at (other s) B x y)))
-borrow-zig f g s A B C m n a x y r eb ea ec ha hx hy hr e =
+    → erase g (zig₃ (other s) A B C m n a x y r) ≡ blackSibling s (f (C .num)) (C .key) (C .val) (erase f r) (erase f (at (other s) A a (at (other s) B x y)))
+blackSibling-zig f g s A B C m n a x y r eb ea ec ha hx hy hr e =
     zig-end f g (other s) A B C m n a x y r ha hx hy hr (f (C .num)) black eb ea ec
-    ∙ sym (borrow-inner s (f (C .num)) (C .key) (C .val) (erase f r) (erase f (at (other s) A a (at (other s) B x y))) (simp (erase-at, parts) e))
+    ∙ sym (blackSibling-inner s (f (C .num)) (C .key) (C .val) (erase f r) (erase f (at (other s) A a (at (other s) B x y))) (simp (erase-at, parts) e))

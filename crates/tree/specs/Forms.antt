@@ -4,10 +4,10 @@ use Prim.Native.Nat.{ℕ}
 use mathlib.Core.Path.{_≡_, refl, ap, _∙_}
 use mathlib.Core.List.{List, [], _∷_, _++_}
 use native.Mathlib.Omega.{arith}
-use Rattle.types.specs.declared.Side.{Side}
-use Rattle.types.specs.declared.Side.the-variants.{L, R}
+use Rattle.datatypes.specs.declared.Side.{Side}
+use Rattle.datatypes.specs.declared.Side.the-variants.{L, R}
 use Rattle.sequential.specs.Tree.{Colour, red, black, Tree, leaf, node, mk, paint, Frame, frame, plug}
-use Rattle.sequential.specs.Insert.{climb, placed, insert}
+use Rattle.sequential.specs.Insert.{fixupResult, placed, insert}
 use Rattle.sequential.specs.Delete.{lose, leastKey, leastRecord, removeLeast, remove, delete}
 use Rattle.tree.specs.Sorted.{NotLeaf}
 use Rattle.tree.specs.Descent.{Into, AtKey, descend-place}
@@ -15,7 +15,7 @@ use Rattle.tree.specs.Linked.{Node, Linked, nil, cell, at, NotNil}
 use Rattle.tree.specs.Zipper as Zipper
 use Rattle.tree.specs.Erase.{erase, eraseWay, erase-at, erase-plug, erase-into}
 
-pub insert-place : (fs : List Frame) (q w : ℕ) → Into q fs → insert (plug fs leaf) q w ≡ paint black (climb fs (node red q w leaf leaf))
+pub insert-place : (fs : List Frame) (q w : ℕ) → Into q fs → insert (plug fs leaf) q w ≡ paint black (fixupResult fs (node red q w leaf leaf))
 insert-place fs q w i = ap (λ x. placed q w (x .way) (x .at)) (descend-place fs leaf q i tt)
 
 pub delete-place : (fs : List Frame) (t : Tree) (q : ℕ) → Into q fs → AtKey q t → delete (plug fs t) q ≡ remove fs t
@@ -63,7 +63,7 @@ remove-other gs fs c k v l d j w y n h =
 
 -- the same in linked trees, whose colours are given by f
 pub insert-linked : (f : ℕ → Colour) (Fs : List Zipper.Frame) (q w : ℕ) → Zipper.Into q Fs
-    → insert (erase f (Zipper.plug Fs nil)) q w ≡ paint black (climb (eraseWay f Fs) (node red q w leaf leaf))
+    → insert (erase f (Zipper.plug Fs nil)) q w ≡ paint black (fixupResult (eraseWay f Fs) (node red q w leaf leaf))
 insert-linked f Fs q w i = rw (erase-plug f Fs nil) (insert-place (eraseWay f Fs) q w (erase-into f Fs q i))
 
 key-mk : (s : Side) (c : Colour) (k v : ℕ) (x y : Tree) → AtKey k (mk s c k v x y)

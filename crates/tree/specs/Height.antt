@@ -6,8 +6,8 @@ use native.Mathlib.Omega.{arith}
 use native.Mathlib.Nat.{le-trans, mul-le-mul}
 use native.Mathlib.Decide.{decLe}
 use lib.Pow.{pow-add, pow-mono}
-use Rattle.types.specs.declared.Side.{Side}
-use Rattle.types.specs.declared.Side.the-variants.{L, R}
+use Rattle.datatypes.specs.declared.Side.{Side}
+use Rattle.datatypes.specs.declared.Side.the-variants.{L, R}
 use Rattle.sequential.specs.Tree.{Colour, red, black, Tree, leaf, node, mk, Frame, frame, plug}
 use Rattle.tree.specs.Sorted.{size}
 use Rattle.tree.specs.RedBlack.{RB, rb-leaf, rb-red, rb-black, RedBlack}

@@ -6,15 +6,15 @@ use mathlib.Core.Bool.{Bool}
 use mathlib.Core.List.{List, [], _∷_}
 use mathlib.Core.Option.{none, some}
 use native.Mathlib.Omega.{arith}
-use Rattle.types.specs.declared.Side.{Side}
-use Rattle.types.specs.declared.Side.the-variants.{L}
-use Rattle.types.specs.Side.{other}
+use Rattle.datatypes.specs.declared.Side.{Side}
+use Rattle.datatypes.specs.declared.Side.the-variants.{L}
+use Rattle.datatypes.specs.Side.{other}
 use Rattle.sequential.specs.Tree.{Colour, red, black, Tree, leaf, node, mk, keyOf, recordOf, colourOf, paint, find, Frame, frame, plug, descend}
-use Rattle.sequential.specs.Insert.{turnUp, climb, placed, insert}
+use Rattle.sequential.specs.Insert.{turnUp, fixupResult, placed, insert}
 use Rattle.tree.specs.Order.{here-of, tri-case}
 use Rattle.tree.specs.Sorted.{ifRed-case, NotLeaf, mk-other, mk-there, parts, Seen, outer, inner, seen}
 use Rattle.tree.specs.Keeps.{Keeps, keeps-refl, keeps-trans, keeps-mk, keeps-plug, keeps-paint, keeps-diag, keeps-zig}
-use Rattle.tree.specs.RedBlack.{RB, rb-leaf, rb-red, rb-black, RedBlack, Fit, fit-top, fit-red, fit-black, mk-red, mk-black, red-child, blacken, still-black, fit-plug}
+use Rattle.tree.specs.RedBlack.{RB, rb-leaf, rb-red, rb-black, RedBlack, Fit, fit-top, fit-red, fit-black, mk-red, mk-black, red-child, blacken, leavesTree-black, fit-plug}
 use Rattle.tree.specs.Descent.{Into, AtKey, descend-plug, descend-into, descend-find, descend-fit}
 use Rattle.tree.specs.Writes.{Writes, writes-keeps, writes-plug}
 
@@ -26,16 +26,16 @@ turnUp-good {z} inner k v j w {x = x} {y = y} r ry ra =
     rw (mk-other z red k v y x) (simp parts (mk-black z (keyOf x) (recordOf x) (mk-red z k v ry (red-child z r)) (mk-red z j w (red-child (other z) r) ra)))
 
 -- a climb can end with a red root, which `placed` paints black
-pub climb-good : {fs : List Frame} {h : ℕ} {x : Tree} → Fit fs black h → RB red h x → RedBlack (paint black (climb fs x))
-climb-good fit-top r = (_, blacken r)
-climb-good (fit-black {s} {k} {v} f ry) r = still-black (fit-plug f (mk-black s k v r ry))
-climb-good (fit-red {s} {k} {v} (fit-black {s = z} {k = j} {v = w} f rb-leaf) ry) r = still-black (fit-plug f (turnUp-good (seen z s) k v j w r ry rb-leaf))
-climb-good (fit-red {s} {k} {v} (fit-black {s = z} {k = j} {v = w} f (rb-red a b)) ry) r = climb-good f (mk-red z j w (mk-black s k v r ry) (rb-black a b))
-climb-good (fit-red {s} {k} {v} (fit-black {s = z} {k = j} {v = w} f (rb-black a b)) ry) r =
-    still-black (fit-plug f (turnUp-good (seen z s) k v j w r ry (rb-black a b)))
+pub fixup-good : {fs : List Frame} {h : ℕ} {x : Tree} → Fit fs black h → RB red h x → RedBlack (paint black (fixupResult fs x))
+fixup-good fit-top r = (_, blacken r)
+fixup-good (fit-black {s} {k} {v} f ry) r = leavesTree-black (fit-plug f (mk-black s k v r ry))
+fixup-good (fit-red {s} {k} {v} (fit-black {s = z} {k = j} {v = w} f rb-leaf) ry) r = leavesTree-black (fit-plug f (turnUp-good (seen z s) k v j w r ry rb-leaf))
+fixup-good (fit-red {s} {k} {v} (fit-black {s = z} {k = j} {v = w} f (rb-red a b)) ry) r = fixup-good f (mk-red z j w (mk-black s k v r ry) (rb-black a b))
+fixup-good (fit-red {s} {k} {v} (fit-black {s = z} {k = j} {v = w} f (rb-black a b)) ry) r =
+    leavesTree-black (fit-plug f (turnUp-good (seen z s) k v j w r ry (rb-black a b)))
 
 placed-good : (q w : ℕ) {fs : List Frame} {c : Colour} {h : ℕ} {t : Tree} → Fit fs c h → RB c h t → RedBlack (placed q w fs t)
-placed-good q w f rb-leaf = climb-good f (rb-red rb-leaf rb-leaf)
+placed-good q w f rb-leaf = fixup-good f (rb-red rb-leaf rb-leaf)
 placed-good q w f (rb-red a b) = fit-plug f (rb-red a b)
 placed-good q w f (rb-black a b) = fit-plug f (rb-black a b)
 
@@ -49,13 +49,13 @@ turnUp-keeps {z} outer k v j w c d x y a n = keeps-diag z c black red j w (mk z 
 turnUp-keeps {z} inner k v j w c d x y a n =
     rw (mk-other z d k v y x) (keeps-zig z c black red j w (mk z d k v y x) a (mk-there z d k v y x) (simp parts n))
 
-pub climb-keeps : (fs : List Frame) (x : Tree) → NotLeaf x → Keeps (plug fs x) (climb fs x)
-climb-keeps [] x n = keeps-refl x
-climb-keeps (frame s black k v y ∷ fs) x n = keeps-refl _
-climb-keeps (frame s red k v y ∷ []) x n = keeps-refl _
-climb-keeps (frame s red k v y ∷ frame z c j w a ∷ fs) x n =
+pub fixup-keeps : (fs : List Frame) (x : Tree) → NotLeaf x → Keeps (plug fs x) (fixupResult fs x)
+fixup-keeps [] x n = keeps-refl x
+fixup-keeps (frame s black k v y ∷ fs) x n = keeps-refl _
+fixup-keeps (frame s red k v y ∷ []) x n = keeps-refl _
+fixup-keeps (frame s red k v y ∷ frame z c j w a ∷ fs) x n =
     ifRed-case (Keeps (plug fs (mk z c j w (mk s red k v x y) a))) (colourOf a)
-    (λ e. keeps-trans (keeps-plug fs (keeps-mk z c red j w (keeps-mk s red black k v (keeps-refl x) (keeps-refl y)) (keeps-paint black a))) (climb-keeps fs _ (mk-there z red j w _ _)))
+    (λ e. keeps-trans (keeps-plug fs (keeps-mk z c red j w (keeps-mk s red black k v (keeps-refl x) (keeps-refl y)) (keeps-paint black a))) (fixup-keeps fs _ (mk-there z red j w _ _)))
     (λ e. keeps-plug fs (turnUp-keeps (seen z s) k v j w c red x y a n))
 
 pub new-writes : (c : Colour) (q w : ℕ) → Writes q none (some w) leaf (node c q w leaf leaf)
@@ -69,7 +69,7 @@ new-writes c q w = record {
 
 placed-writes : (q w : ℕ) (fs : List Frame) (t : Tree) → Into q fs → find t q ≡ none → AtKey q t → Writes q none (some w) (plug fs t) (placed q w fs t)
 placed-writes q w fs leaf i e k =
-    writes-keeps (writes-plug fs i (new-writes red q w)) (keeps-trans (climb-keeps fs (node red q w leaf leaf) tt) (keeps-paint black _))
+    writes-keeps (writes-plug fs i (new-writes red q w)) (keeps-trans (fixup-keeps fs (node red q w leaf leaf) tt) (keeps-paint black _))
 placed-writes q w fs (node c k v l r) i e h = absurd (let e′ = rw (here-of L q k h) at e in let z : _≡_ {A = ℕ} 0 1 = cc in omega arith)
 
 pub insert-writes : (t : Tree) (q w : ℕ) → find t q ≡ none → Writes q none (some w) t (insert t q w)

@@ -19,8 +19,8 @@ pub mod Rotations
 pub mod Stores
 pub mod Successor
 pub mod Ends
-pub mod Rise
-pub mod Sink
+pub mod InsertFixup
+pub mod DeleteFixup
 pub mod Forms
 pub mod Occurs
 pub mod Recolour

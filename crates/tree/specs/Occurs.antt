@@ -10,8 +10,8 @@ use native.Mathlib.Decide.{ℕ-discrete, decLe}
 use lib.Dec.{eqb}
 use borrow.Author.Tests.{eq-eqb, ne-eqb}
 use lib.ListN.{length, length-append}
-use Rattle.types.specs.declared.Side.{Side}
-use Rattle.types.specs.declared.Side.the-variants.{L, R}
+use Rattle.datatypes.specs.declared.Side.{Side}
+use Rattle.datatypes.specs.declared.Side.the-variants.{L, R}
 use Rattle.sequential.specs.Tree.{Colour}
 use Rattle.tree.specs.Sorted.{size}
 use Rattle.tree.specs.Distinct.{_∈_, in-append, Distinct, pigeonhole}

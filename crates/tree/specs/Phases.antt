@@ -5,9 +5,9 @@ use mathlib.Core.Path.{_≡_}
 use mathlib.Core.List.{List, [], _∷_}
 use mathlib.Core.Option.{Option, none, some}
 use native.Mathlib.Omega.{arith}
-use Rattle.types.specs.declared.Side.{Side}
-use Rattle.types.specs.declared.Side.the-variants.{L, R}
-use Rattle.types.specs.Side.{other}
+use Rattle.datatypes.specs.declared.Side.{Side}
+use Rattle.datatypes.specs.declared.Side.the-variants.{L, R}
+use Rattle.datatypes.specs.Side.{other}
 use Rattle.sequential.specs.Tree as Seq
 use Rattle.sequential.specs.Tree.{Colour, black, leaf, node, mk, child}
 use Rattle.tree.specs.Sorted.{NotLeaf, mk-there, parts}

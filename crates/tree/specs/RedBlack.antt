@@ -4,8 +4,8 @@ use Prim.Native.Nat.{ℕ, suc}
 use mathlib.Core.Path.{_≡_, refl}
 use mathlib.Core.List.{List, [], _∷_}
 use native.Mathlib.Omega.{arith}
-use Rattle.types.specs.declared.Side.{Side}
-use Rattle.types.specs.declared.Side.the-variants.{L, R}
+use Rattle.datatypes.specs.declared.Side.{Side}
+use Rattle.datatypes.specs.declared.Side.the-variants.{L, R}
 use Rattle.sequential.specs.Tree.{Colour, red, black, Tree, leaf, node, mk, child, colourOf, paint, Frame, frame, plug}
 use Rattle.tree.specs.Sorted.{NotLeaf}
 
@@ -53,9 +53,9 @@ black-child R (rb-black {d = d} a b) = (d, b)
 pub blacken : {h : ℕ} {t : Tree} → RB red h t → RB black (suc h) (paint black t)
 blacken (rb-red a b) = rb-black a b
 
-pub still-black : {t : Tree} → RedBlack t → RedBlack (paint black t)
-still-black (h, rb-leaf) = (_, rb-leaf)
-still-black (h, rb-black a b) = (_, rb-black a b)
+pub leavesTree-black : {t : Tree} → RedBlack t → RedBlack (paint black t)
+leavesTree-black (h, rb-leaf) = (_, rb-leaf)
+leavesTree-black (h, rb-black a b) = (_, rb-black a b)
 
 pub root-is : {c : Colour} {h : ℕ} {t : Tree} → RB c h t → colourOf t ≡ c
 root-is rb-leaf = refl

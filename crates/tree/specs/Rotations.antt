@@ -2,8 +2,8 @@
 -- nodes that leave each path keeps its nodes in their order. The trees are those of one place; Zipper lifts to the whole tree.
 -- The order asked is that of the rotated keys alone, so it holds in the states between, where C and its copy share a child.
 use Prim.Native.Nat.{ℕ}
-use Rattle.types.specs.declared.Side.{Side}
-use Rattle.types.specs.Side.{other}
+use Rattle.datatypes.specs.declared.Side.{Side}
+use Rattle.datatypes.specs.Side.{other}
 use Rattle.tree.specs.Order.{Ord, other-ord, tri-case, cut-case, cut3-case}
 use Rattle.tree.specs.Sorted.{Ordered}
 use Rattle.tree.specs.Linked.{Node, copy, Linked, at, find-at, path-at}
@@ -68,9 +68,9 @@ module _ (s : Side) (A B C : Node) (m n : ℕ) (a x y r : Linked) where
 
   pub zig-order : Ordered (bare zig₀) → Ord s (A .key) (B .key) × Ord s (B .key) (C .key)
   zig-order h =
-      let top = ordered-at s C (at s A a (at s B x y)) r .0 h in
-      let low = ordered-at s A a (at s B x y) .0 (top .2) in
-      let b = below-at s s (C .key) A a (at s B x y) .0 (top .0) in
+      let capacity = ordered-at s C (at s A a (at s B x y)) r .0 h in
+      let low = ordered-at s A a (at s B x y) .0 (capacity .2) in
+      let b = below-at s s (C .key) A a (at s B x y) .0 (capacity .0) in
       (other-ord s (A .key) (B .key) (below-at (other s) s (A .key) B x y .0 (low .1) .0), below-at s s (C .key) B x y .0 (b .2) .0)
 
   module _ (ab : Ord s (A .key) (B .key)) (bc : Ord s (B .key) (C .key)) where

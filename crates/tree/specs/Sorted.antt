@@ -6,9 +6,9 @@ use mathlib.Core.Logic.{_↔_}
 use mathlib.Core.Bool.{Bool, true, false}
 use mathlib.Core.Option.{none, some}
 use native.Mathlib.Omega.{arith}
-use Rattle.types.specs.declared.Side.{Side}
-use Rattle.types.specs.declared.Side.the-variants.{L, R}
-use Rattle.types.specs.Side.{other, sameSide}
+use Rattle.datatypes.specs.declared.Side.{Side}
+use Rattle.datatypes.specs.declared.Side.the-variants.{L, R}
+use Rattle.datatypes.specs.Side.{other, sameSide}
 use Rattle.sequential.specs.Tree.{Colour, red, black, Tree, leaf, node, ifRed, Rel, near, here, far, turned, rel, pick, mk, child, keyOf, recordOf, colourOf, paint, find}
 use Rattle.tree.specs.Order.{Ord, ord-trans, ord-past, near-of, far-of}
 

@@ -5,8 +5,8 @@ use Prim.Native.Nat.{ℕ}
 use mathlib.Core.Path.{_≡_, refl, sym, _∙_}
 use mathlib.Core.List.{List, [], _∷_}
 use mathlib.Core.Option.{none, some}
-use Rattle.types.specs.declared.Side.{Side}
-use Rattle.types.specs.Side.{other}
+use Rattle.datatypes.specs.declared.Side.{Side}
+use Rattle.datatypes.specs.Side.{other}
 use Rattle.sequential.specs.Tree.{rel, pick}
 use Rattle.tree.specs.Order.{Ord, ord-trans, ord-anti, ord-apart, other-ord, near-of, here-of, tri-case}
 use Rattle.tree.specs.Sorted.{Below, Ordered}
@@ -41,12 +41,12 @@ module _ (s : Side) (B C : Node) (n : ℕ) (l y : Linked) (fs : List Frame) wher
 
   pub third-order : Ordered (bare third₀) → ThirdOrder
   third-order h =
-      let top = ordered-at s B l beyond .0 h in
+      let capacity = ordered-at s B l beyond .0 h in
       record {
-        left = top .0;
-        rising = other-ord s (B .key) (C .key) (among-plug fs (at s C nil y) (C .key) (among-top s C nil y) (other s) (B .key) (top .1));
-        right = ordered-at s C nil y .0 (ordered-within fs (at s C nil y) (top .3)) .1;
-        through = into-top fs s C nil y (top .3);
+        left = capacity .0;
+        rising = other-ord s (B .key) (C .key) (among-plug fs (at s C nil y) (C .key) (among-top s C nil y) (other s) (B .key) (capacity .1));
+        right = ordered-at s C nil y .0 (ordered-within fs (at s C nil y) (capacity .3)) .1;
+        through = into-top fs s C nil y (capacity .3);
       }
 
   -- the keys above B's and up to C's

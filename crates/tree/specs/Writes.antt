@@ -5,7 +5,7 @@ use mathlib.Core.Logic.{_≢_}
 use mathlib.Core.List.{List, [], _∷_}
 use mathlib.Core.Option.{Option, none, some}
 use native.Mathlib.Omega.{arith}
-use Rattle.types.specs.declared.Side.{Side}
+use Rattle.datatypes.specs.declared.Side.{Side}
 use Rattle.sequential.specs.Tree.{Tree, find, Frame, frame, plug}
 use Rattle.tree.specs.Order.{Ord, near-of}
 use Rattle.tree.specs.Sorted.{Below, Ordered, size, find-mk, below-mk, ordered-mk, size-mk}

@@ -4,7 +4,7 @@ use mathlib.Core.Path.{_≡_, refl, _∙_}
 use mathlib.Core.Logic.{_≢_}
 use mathlib.Core.List.{List, [], _∷_, _++_, append-assoc}
 use mathlib.Core.Option.{Option, some}
-use Rattle.types.specs.declared.Side.{Side}
+use Rattle.datatypes.specs.declared.Side.{Side}
 use Rattle.sequential.specs.Tree.{Rel, near, here, far, rel, pick}
 use Rattle.tree.specs.Order.{Ord, ord-trans, near-of, Tri, tri-near, tri-here, tri-far, tri}
 use Rattle.tree.specs.Linked.{Node, Linked, at, find, path, find-at, path-at}

@@ -3,13 +3,13 @@ use mathlib.Core.Path.{_≡_, ap, _∙_}
 use mathlib.Core.List.{List}
 use mathlib.Core.Bool.{Bool, true, false, cond}
 use Prim.Native.Nat.{ℕ}
-use Rattle.types.specs.declared.Link.{Link}
-use Rattle.types.specs.declared.Head.{Head}
-use Rattle.types.specs.declared.Register.{Register}
-use Rattle.types.specs.declared.Turned.{Turned}
-use Rattle.types.specs.declared.Write.{Write}
-use Rattle.types.specs.declared.Step.{Step}
-use Rattle.types.specs.declared.Step.the-variants.{Vacant, Insert, DiagLower, DiagRaise, ZigLowerA, ZigLowerC, ZigRaise, Unlink, Adopt, Replace, Publish, Detach}
+use Rattle.datatypes.specs.declared.Link.{Link}
+use Rattle.datatypes.specs.declared.Head.{Head}
+use Rattle.datatypes.specs.declared.Register.{Register}
+use Rattle.datatypes.specs.declared.StepResult.{StepResult}
+use Rattle.datatypes.specs.declared.Write.{Write}
+use Rattle.datatypes.specs.declared.Step.{Step}
+use Rattle.datatypes.specs.declared.Step.the-variants.{Vacant, Insert, DiagLower, DiagRaise, ZigLowerA, ZigLowerC, ZigRaise, Unlink, Adopt, Replace, Publish, Detach}
 use Rattle.spec.specs.Register.{State, state, storeOf, nodeAt, readingSlots, withWrite}
 use Rattle.spec.specs.Turn.{movedWrite}
 use Rattle.spec.specs.Calls.{Answer, Outcome, stored}
@@ -37,18 +37,18 @@ abbrev pub movedRest : Step → ℕ → ℕ → Register → Register
 movedRest x b n q = withWrite q (movedBy x b n (q .write))
 
 -- a step tried, of any kind
-abbrev pub TriesAny : ℕ → Link → Step → List ℕ → Head → List ℕ → Turned → Type 0
+abbrev pub TriesAny : ℕ → Link → Step → List ℕ → Head → List ℕ → StepResult → Type 0
 TriesAny m l x p h p′ t =
     (q : Register) → readingSlots q ≡ m → Tells (at p h q) l x p′ t (movedRest x (nodeAt p (h .root) l) (h .first) q)
 
 -- the step of the first store, tried on a whole register
-abbrev pub FirstTold : List ℕ → Register → List ℕ → Turned → Type 0
+abbrev pub FirstTold : List ℕ → Register → List ℕ → StepResult → Type 0
 FirstTold p reg p′ t =
     let x = storeOf reg 0 in
     Tells (state p reg) (x .link) (x .step) p′ t (movedRest (x .step) (nodeAt p (reg .root) (x .link)) (reg .first) reg)
 
 -- what the turn answers and leaves, from its step's answer; w is the write in hand, moved by a publish
-pub turn-made : (p : List ℕ) (t : Turned) (reg : Register) (x : Step) (b n : ℕ) (w : Write) (says : Answer) (after : State) (o : Outcome)
+pub turn-made : (p : List ℕ) (t : StepResult) (reg : Register) (x : Step) (b n : ℕ) (w : Write) (says : Answer) (after : State) (o : Outcome)
     → stored (left p t (movedRest x b n reg)) ≡ o → w ≡ movedBy x b n (reg .write)
     → (says ≡ stored (left p t (withWrite reg w)) .answer) × (after ≡ stored (left p t (withWrite reg w)) .after)
     → (says ≡ o .answer) × (after ≡ o .after)

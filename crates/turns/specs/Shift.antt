@@ -4,7 +4,7 @@ use mathlib.Core.List.{List, [], _∷_, _++_}
 use lib.ListN.{length, getD, set, drop}
 use native.Mathlib.Omega.{arith}
 use Prim.Native.Nat.{ℕ}
-use Rattle.types.specs.declared.Store.{Store}
+use Rattle.datatypes.specs.declared.Store.{Store}
 use Rattle.spec.specs.Register.{vacant, mostStores}
 
 -- place i takes what stands at place j of the list l

@@ -1,13 +1,13 @@
 // The writer's turn from its step on: the step tried, and what is left of the write in hand.
-use types::Head;
-use types::Link;
-use types::Register;
-use types::Step;
-use types::Store;
-use types::Turned;
-use types::Write;
-use types::WriterAnswer;
-use types::WriterReply;
+use datatypes::Head;
+use datatypes::Link;
+use datatypes::Register;
+use datatypes::Step;
+use datatypes::StepResult;
+use datatypes::Store;
+use datatypes::Write;
+use datatypes::WriterAnswer;
+use datatypes::WriterReply;
 ghost use mathlib.Core.Path.{_≡_};
 ghost use mathlib.Core.Bool.{true};
 ghost use mathlib.Core.List.{List};
@@ -20,18 +20,18 @@ ghost use Rattle.heads.specs.Head.{left};
 ghost use Rattle.turns.specs.Made.{publishes, TriesAny, FirstTold};
 
 // Tries the step x at the link l.
-pub fn try_step(pool: &mut [u32], h: Head, reading: u32, l: Link, x: Step) -> Turned
+pub fn try_step(pool: &mut [u32], h: Head, reading: u32, l: Link, x: Step) -> StepResult
     requires { ⌜ length (now pool) < 8192 ⌝ }
     ensures { λ r. ⌜ TriesAny reading l x (now (pool .entry)) h (now (pool .exit)) r ⌝ }
 {
     match x {
         Step::Vacant => heads::missed(h),
         Step::Insert(k, v) => stores::insert(pool, h, l, k, v),
-        Step::DiagLower(s, rule) => rotations::diag_lower(pool, h, l, s, rule),
-        Step::DiagRaise(s, rule) => rotations::diag_raise(pool, h, reading, l, s, rule),
-        Step::ZigLowerA(s, rule) => rotations::zig_lower_a(pool, h, l, s, rule),
-        Step::ZigLowerC(s, rule) => rotations::zig_lower_c(pool, h, l, s, rule),
-        Step::ZigRaise(s, rule) => rotations::zig_raise(pool, h, reading, l, s, rule),
+        Step::DiagLower(s, purpose) => rotations::diag_lower(pool, h, l, s, purpose),
+        Step::DiagRaise(s, purpose) => rotations::diag_raise(pool, h, reading, l, s, purpose),
+        Step::ZigLowerA(s, purpose) => rotations::zig_lower_a(pool, h, l, s, purpose),
+        Step::ZigLowerC(s, purpose) => rotations::zig_lower_c(pool, h, l, s, purpose),
+        Step::ZigRaise(s, purpose) => rotations::zig_raise(pool, h, reading, l, s, purpose),
         Step::Unlink => removals::unlink(pool, h, reading, l),
         Step::Adopt => stores::adopt(pool, h, l),
         Step::Replace => removals::replace(pool, h, reading, l),
@@ -80,7 +80,7 @@ fn publishes(x: Step) -> bool
 }
 
 // The register put together after a made step, and the answer: done if no store is left, more otherwise. w is the write in hand before.
-fn stored(reg: Register, t: Turned, w: Write) -> WriterReply
+fn stored(reg: Register, t: StepResult, w: Write) -> WriterReply
     ensures { λ r. ⌜ ((p : List ℕ) → (writerSays (r .answer) ≡ stored (left p t (withWrite reg w)) .answer) × (state p (r .register) ≡ stored (left p t (withWrite reg w)) .after)) ⌝ }
 {
     let link = t.link;
@@ -109,7 +109,7 @@ pub fn refused(number: u32, register: Register) -> WriterReply
 }
 
 // The step of the first store, tried.
-fn first_step(pool: &mut [u32], reg: Register) -> Turned
+fn first_step(pool: &mut [u32], reg: Register) -> StepResult
     requires { ⌜ length (now pool) < 8192 ⌝ }
     ensures { λ r. ⌜ FirstTold (now (pool .entry)) reg (now (pool .exit)) r ⌝ }
 {

@@ -4,7 +4,7 @@ use mathlib.Core.Bool.{Bool, true}
 use Rattle.spec.specs.Register.{state, withReader}
 use Rattle.laws.specs.Tests.{slot-of, unless-refused, unless-done}
 use Rattle.refusals.specs.Slots.{index-of, slot-tests}
-use Rattle.types.specs.declared.Reader.{Reader}
+use Rattle.datatypes.specs.declared.Reader.{Reader}
 use Rattle.spec.specs.Calls.{Outcome, outcome, ok, firstOf, begin, beginTests, reading}
 use borrow.Author.Needs.{needs}
 use Rattle.index.proofs.begin.Statement.{statement}

@@ -1,7 +1,7 @@
 use Rattle.spec.specs.Calls.{Outcome, writeInHand, placeOf}
 use Rattle.spec.specs.Register.{state}
 use Rattle.laws.specs.Deletes.{delete-lent, delete-writing, delete-absent, delete-deep}
-use Rattle.types.specs.declared.Place.the-variants.{Held}
+use Rattle.datatypes.specs.declared.Place.the-variants.{Held}
 use mathlib.Core.Bool.{true, false}
 use mathlib.Core.Path.{_≡_, refl, sym, ap, _∙_}
 use native.Mathlib.Omega.{arith}

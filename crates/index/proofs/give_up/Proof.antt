@@ -5,7 +5,7 @@ use mathlib.Core.List.{[], _∷_}
 use Rattle.spec.specs.Register.{state, withReader}
 use Rattle.laws.specs.Tests.{lent-of, slot-of, unless-refused, unless-done}
 use Rattle.refusals.specs.Slots.{index-of, slot-tests}
-use Rattle.types.specs.declared.Reader.{Reader}
+use Rattle.datatypes.specs.declared.Reader.{Reader}
 use Rattle.spec.specs.Calls.{Outcome, outcome, ok, _gives_, firstOf, slotTooHigh, reading, giveUp, readerTests}
 use Rattle.spec.specs.Free.{endReading}
 use borrow.Author.Needs.{needs}

@@ -2,7 +2,7 @@ use Prim.Native.Nat.{_≤_, _<_, _-_, _+_}
 use lib.ListN.{length, length-set}
 use Rattle.paths.specs.Upward.{upward, upward-push, upward-none, leftmost-deep, leftmost-here, leftmost-step}
 use Rattle.spec.specs.Search.{leftmost}
-use Rattle.types.specs.declared.Link.the-variants.{Left}
+use Rattle.datatypes.specs.declared.Link.the-variants.{Left}
 use borrow.Author.Needs.{needs}
 use native.Mathlib.Omega.{arith}
 use mathlib.Core.Path.{_≡_, refl, sym, _∙_}

@@ -10,7 +10,7 @@ use Rattle.plans.proofs.delete_plan.Statement.{statement}
 use Rattle.plans.proofs.delete_plan.Tie as tie
 use Rattle.plans.proofs.delete_plan.Reads as reads
 use Rattle.plans.proofs.delete_plan.Lts as lts
-use Rattle.losses.proofs.two_children.Reads as two-children-reads
+use Rattle.delete_fixups.proofs.two_children.Reads as two-children-reads
 use Rattle.paths.proofs.path_to.Reads as path-to-reads
 use Rattle.paths.proofs.successor_path.Reads as successor-path-reads
 use Rattle.plans.proofs.successor_plan.Reads as successor-plan-reads

@@ -1,11 +1,11 @@
-use Rattle.plans.specs.Pushed.{push-write, loss-short}
-use Rattle.plans.specs.Deletes.{nextNode, nextLoss, successor-near, successor-far}
+use Rattle.plans.specs.Pushed.{push-write, removal-short}
+use Rattle.plans.specs.Deletes.{nextNode, nextRemoval, successor-near, successor-far}
 use Rattle.spec.specs.Plan.{store, endingStores}
 use Rattle.spec.specs.Pool.{word, child, keyWord}
 use Rattle.spec.specs.Register.{writeOf, state}
 use Rattle.paths.specs.Upward.{upward, upward-zero, upward-some}
-use Rattle.types.specs.declared.Side.the-variants.{L, R}
-use Rattle.types.specs.declared.Step.the-variants.{Adopt, Replace, Publish, Detach}
+use Rattle.datatypes.specs.declared.Side.the-variants.{L, R}
+use Rattle.datatypes.specs.declared.Step.the-variants.{Adopt, Replace, Publish, Detach}
 use mathlib.Core.List.{[], _∷_}
 use mathlib.Core.Path.{_≡_, refl, sym, ap, _∙_}
 use native.Mathlib.Omega.{arith}
@@ -15,7 +15,7 @@ use Rattle.plans.proofs.successor_plan.Statement.{statement}
 use Rattle.plans.proofs.successor_plan.Tie as tie
 use Rattle.plans.proofs.successor_plan.Reads as reads
 use Rattle.plans.proofs.successor_plan.Lts as lts
-use Rattle.losses.proofs.loss_climb.Reads as loss-climb-reads
+use Rattle.delete_fixups.proofs.fixup_after_removal.Reads as fixup-after-removal-reads
 use Rattle.paths.proofs.nearest.Reads as nearest-reads
 use Rattle.plans.proofs.no_write.Reads as no-write-reads
 use Rattle.plans.proofs.plan.Reads as plan-reads
@@ -39,8 +39,8 @@ node-at-requires c κs = search needs
 child-requires : tie.Need-child-requires
 child-requires c κs = search needs
 
-loss-climb-requires : tie.Need-loss-climb-requires
-loss-climb-requires c κs = search needs
+fixup-after-removal-requires : tie.Need-fixup-after-removal-requires
+fixup-after-removal-requires c κs = search needs
 
 child-requires-2 : tie.Need-child-requires-2
 child-requires-2 c κs = search needs
@@ -53,16 +53,16 @@ two-stores-requires c κs = search needs
 
 plan-requires : tie.Need-plan-requires
 unfolding writeOf
-plan-requires c κs = let a = c .before .before .before .before .before .before .before .before .before .before .before .args in rw (c .two-stores .ensures, c .before .before .before .before .loss-climb .ensures) (omega (arith, loss-short (a .pool .now) (c .before .before .before .before .before .before .node-at .result) (c .before .before .before .before .before .child .result) (upward (a .path .now) (a .c))))
+plan-requires c κs = let a = c .before .before .before .before .before .before .before .before .before .before .before .args in rw (c .two-stores .ensures, c .before .before .before .before .removal-fixup .ensures) (omega (arith, removal-short (a .pool .now) (c .before .before .before .before .before .before .node-at .result) (c .before .before .before .before .before .child .result) (upward (a .path .now) (a .c))))
 
 returns-2 : tie.Need-returns-2
 returns-2 c = let a = c .before .before .before .before .before .before .before .before .before .before .before .before .args in let p = a .pool .now in let st = state p (a .reg) in let path = upward (a .path .now) (a .c) in
     let n : c .before .before .before .before .before .before .before .node-at .result ≡ nextNode st path = rw (c .before .before .before .before .before .before .before .node-at .ensures, c .before .before .before .before .before .before .before .before .nearest .ensures) in
-    let i : c .before .before .before .before .before .loss-climb .result .ending ≡ nextLoss st path = rw (c .before .before .before .before .before .loss-climb .ensures, c .before .before .before .before .before .before .child .ensures, n) in
+    let i : c .before .before .before .before .before .removal-fixup .result .ending ≡ nextRemoval st path = rw (c .before .before .before .before .before .removal-fixup .ensures, c .before .before .before .before .before .before .child .ensures, n) in
     let z : child p L (child p R (a .b)) ≡ 0 = rw (← (c .before .before .before .before .child2 .ensures), ← (c .before .before .before .child3 .ensures)) (c .before .before .if2 .taken) in
-    let h = loss-short p (nextNode st path) (child p R (nextNode st path)) path in
+    let h = removal-short p (nextNode st path) (child p R (nextNode st path)) path in
     rw (successor-near st (a .l) (a .b) path (upward-some (a .path .now) (a .c) (c .before .before .before .before .before .before .before .before .before .if1 .left)) z)
-    (rw (c .plan .ensures .0, i), rw (c .plan .ensures .1, c .before .two-stores .ensures, i) (push-write (store (a .l) Adopt ∷ store (a .l) Replace ∷ []) (endingStores (nextLoss st path)) (omega arith)))
+    (rw (c .plan .ensures .0, i), rw (c .plan .ensures .1, c .before .two-stores .ensures, i) (push-write (store (a .l) Adopt ∷ store (a .l) Replace ∷ []) (endingStores (nextRemoval st path)) (omega arith)))
 
 word-requires : tie.Need-word-requires
 word-requires c κs = search needs
@@ -72,16 +72,16 @@ two-stores-requires-2 c κs = search needs
 
 plan-requires-2 : tie.Need-plan-requires-2
 unfolding writeOf
-plan-requires-2 c κs = let a = c .before .before .before .before .before .before .before .before .before .before .before .before .args in rw (c .two-stores2 .ensures, c .before .before .before .before .before .loss-climb .ensures) (omega (arith, loss-short (a .pool .now) (c .before .before .before .before .before .before .before .node-at .result) (c .before .before .before .before .before .before .child .result) (upward (a .path .now) (a .c))))
+plan-requires-2 c κs = let a = c .before .before .before .before .before .before .before .before .before .before .before .before .args in rw (c .two-stores2 .ensures, c .before .before .before .before .before .removal-fixup .ensures) (omega (arith, removal-short (a .pool .now) (c .before .before .before .before .before .before .before .node-at .result) (c .before .before .before .before .before .before .child .result) (upward (a .path .now) (a .c))))
 
 returns-3 : tie.Need-returns-3
 returns-3 c = let a = c .before .before .before .before .before .before .before .before .before .before .before .before .before .args in let p = a .pool .now in let st = state p (a .reg) in let path = upward (a .path .now) (a .c) in
     let n : c .before .before .before .before .before .before .before .before .node-at .result ≡ nextNode st path = rw (c .before .before .before .before .before .before .before .before .node-at .ensures, c .before .before .before .before .before .before .before .before .before .nearest .ensures) in
-    let i : c .before .before .before .before .before .before .loss-climb .result .ending ≡ nextLoss st path = rw (c .before .before .before .before .before .before .loss-climb .ensures, c .before .before .before .before .before .before .before .child .ensures, n) in
+    let i : c .before .before .before .before .before .before .removal-fixup .result .ending ≡ nextRemoval st path = rw (c .before .before .before .before .before .before .removal-fixup .ensures, c .before .before .before .before .before .before .before .child .ensures, n) in
     let z : child p L (child p R (a .b)) ≡ 0 → ⊥ = rw (← (c .before .before .before .before .before .child2 .ensures), ← (c .before .before .before .before .child3 .ensures)) (c .before .before .before .if2 .left) in
-    let h = loss-short p (nextNode st path) (child p R (nextNode st path)) path in
+    let h = removal-short p (nextNode st path) (child p R (nextNode st path)) path in
     rw (successor-far st (a .l) (a .b) path (upward-some (a .path .now) (a .c) (c .before .before .before .before .before .before .before .before .before .before .if1 .left)) z)
-    (rw (c .plan2 .ensures .0, i), rw (c .plan2 .ensures .1, c .before .two-stores2 .ensures, c .before .before .word .ensures, n, i) (push-write (store (a .l) (Publish (nextNode st path)) ∷ store (a .l) (Detach (word p (a .b) keyWord)) ∷ []) (endingStores (nextLoss st path)) (omega arith)))
+    (rw (c .plan2 .ensures .0, i), rw (c .plan2 .ensures .1, c .before .two-stores2 .ensures, c .before .before .word .ensures, n, i) (push-write (store (a .l) (Publish (nextNode st path)) ∷ store (a .l) (Detach (word p (a .b) keyWord)) ∷ []) (endingStores (nextRemoval st path)) (omega arith)))
 
 pub successor-plan-spec : {M : Type 1} → statement M
 successor-plan-spec =
@@ -92,7 +92,7 @@ successor-plan-spec =
     nearest-requires
     node-at-requires
     child-requires
-    loss-climb-requires
+    fixup-after-removal-requires
     child-requires-2
     child-requires-3
     two-stores-requires

@@ -1,8 +1,8 @@
-use Rattle.plans.specs.Pushed.{push-write, loss-short}
-use Rattle.spec.specs.Plan.{store, endingStores, onlyChild, lossClimb, unlinkPlan}
+use Rattle.plans.specs.Pushed.{push-write, removal-short}
+use Rattle.spec.specs.Plan.{store, endingStores, onlyChild, fixupAfterRemoval, unlinkPlan}
 use Rattle.spec.specs.Register.{writeOf}
 use Rattle.paths.specs.Upward.{upward}
-use Rattle.types.specs.declared.Step.the-variants.{Unlink}
+use Rattle.datatypes.specs.declared.Step.the-variants.{Unlink}
 use mathlib.Core.List.{[], _∷_}
 use mathlib.Core.Path.{_≡_, refl, sym, ap, _∙_}
 use native.Mathlib.Omega.{arith}
@@ -12,30 +12,30 @@ use Rattle.plans.proofs.unlink_plan.Statement.{statement}
 use Rattle.plans.proofs.unlink_plan.Tie as tie
 use Rattle.plans.proofs.unlink_plan.Reads as reads
 use Rattle.plans.proofs.unlink_plan.Lts as lts
-use Rattle.losses.proofs.loss_climb.Reads as loss-climb-reads
-use Rattle.losses.proofs.only_child.Reads as only-child-reads
+use Rattle.delete_fixups.proofs.fixup_after_removal.Reads as fixup-after-removal-reads
+use Rattle.delete_fixups.proofs.only_child.Reads as only-child-reads
 use Rattle.plans.proofs.one_store.Reads as one-store-reads
 use Rattle.plans.proofs.plan.Reads as plan-reads
 
 only-child-requires : tie.Need-only-child-requires
 only-child-requires c κs = search needs
 
-loss-climb-requires : tie.Need-loss-climb-requires
-loss-climb-requires c κs = search needs
+fixup-after-removal-requires : tie.Need-fixup-after-removal-requires
+fixup-after-removal-requires c κs = search needs
 
 one-store-requires : tie.Need-one-store-requires
 one-store-requires c κs = search needs
 
 plan-requires : tie.Need-plan-requires
 unfolding writeOf
-plan-requires c κs = let a = c .before .before .before .before .before .args in let h = loss-short (a .pool .now) (a .b) (onlyChild (a .pool .now) (a .b)) (upward (a .path .now) (a .c)) in rw (c .one-store .ensures, c .before .loss-climb .ensures, c .before .before .only-child .ensures) (omega arith)
+plan-requires c κs = let a = c .before .before .before .before .before .args in let h = removal-short (a .pool .now) (a .b) (onlyChild (a .pool .now) (a .b)) (upward (a .path .now) (a .c)) in rw (c .one-store .ensures, c .before .removal-fixup .ensures, c .before .before .only-child .ensures) (omega arith)
 
 returns : tie.Need-returns
 unfolding unlinkPlan
-returns c = let a = c .before .before .before .before .before .before .args in let p = a .pool .now in let h = loss-short p (a .b) (onlyChild p (a .b)) (upward (a .path .now) (a .c)) in
-    (rw (c .plan .ensures .0, c .before .before .loss-climb .ensures, c .before .before .before .only-child .ensures), rw (c .plan .ensures .1, c .before .one-store .ensures, c .before .before .loss-climb .ensures, c .before .before .before .only-child .ensures) (push-write (store (a .l) Unlink ∷ []) (endingStores (lossClimb p (a .b) (onlyChild p (a .b)) (upward (a .path .now) (a .c)) .ending)) (omega arith)))
+returns c = let a = c .before .before .before .before .before .before .args in let p = a .pool .now in let h = removal-short p (a .b) (onlyChild p (a .b)) (upward (a .path .now) (a .c)) in
+    (rw (c .plan .ensures .0, c .before .before .removal-fixup .ensures, c .before .before .before .only-child .ensures), rw (c .plan .ensures .1, c .before .one-store .ensures, c .before .before .removal-fixup .ensures, c .before .before .before .only-child .ensures) (push-write (store (a .l) Unlink ∷ []) (endingStores (fixupAfterRemoval p (a .b) (onlyChild p (a .b)) (upward (a .path .now) (a .c)) .ending)) (omega arith)))
 
 pub unlink-plan-spec : {M : Type 1} → statement M
 unlink-plan-spec =
     tie.close
-    (tie.spec only-child-requires loss-climb-requires one-store-requires plan-requires returns)
+    (tie.spec only-child-requires fixup-after-removal-requires one-store-requires plan-requires returns)

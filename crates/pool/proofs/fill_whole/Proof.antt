@@ -103,8 +103,8 @@ same-length c = let a = c .before .before .before .before .args in long₈ (a .p
 returns : tie.Need-returns
 unfolding fillNode setWord
 returns c = let a = c .before .before .before .before .args in let h = c .before .before .before .before .pre in
-    let top : a .n * 8 - 8 + 0 ≡ a .n * 8 - 8 = omega arith in
-    rw (ne-eqb (a .n) 0 (λ e. omega arith), top, c .link-place2 .ensures .0, c .before .other .ensures, c .before .before .link-place .ensures .0)
+    let capacity : a .n * 8 - 8 + 0 ≡ a .n * 8 - 8 = omega arith in
+    rw (ne-eqb (a .n) 0 (λ e. omega arith), capacity, c .link-place2 .ensures .0, c .before .other .ensures, c .before .before .link-place .ensures .0)
 
 pub fill-whole-spec : {M : Type 1} → statement M
 fill-whole-spec =

@@ -13,10 +13,10 @@ use Rattle.register.proofs.readers_in_range.Reads as reads
 use Rattle.register.proofs.readers_in_range.Lts as lts
 
 abbrev Inv-loop : tie.InvT-loop
-Inv-loop top reg ok₀ s₀ ok s = (s ≤ slots) × ((ok && allIn (readerInRange top reg) s slots) ≡ allIn (readerInRange top reg) 0 slots)
+Inv-loop capacity reg ok₀ s₀ ok s = (s ≤ slots) × ((ok && allIn (readerInRange capacity reg) s slots) ≡ allIn (readerInRange capacity reg) 0 slots)
 
 abbrev μ-loop : tie.MeasureT-loop
-μ-loop top reg ok₀ s₀ ok s = slots - s
+μ-loop capacity reg ok₀ s₀ ok s = slots - s
 
 loop-holds : tie.Need-loop-holds Inv-loop μ-loop
 loop-holds c = (search needs, refl)
@@ -37,10 +37,10 @@ loop-less : tie.Need-loop-less Inv-loop μ-loop
 loop-less c = search needs
 
 loop-again : tie.Need-loop-again Inv-loop μ-loop
-loop-again c = let l = c .before .loop in (search needs, rw and-assoc (rw (sym (all-and (readerInRange (c .before .before .args .top) (c .before .before .args .t1)) (l .s) slots (c .loop-test .taken))) (l .inv .1)))
+loop-again c = let l = c .before .loop in (search needs, rw and-assoc (rw (sym (all-and (readerInRange (c .before .before .args .capacity) (c .before .before .args .t1)) (l .s) slots (c .loop-test .taken))) (l .inv .1)))
 
 returns : tie.Need-returns Inv-loop μ-loop
-returns c = let l = c .before .loop in sym (and-true _) ∙ (rw (all-end (readerInRange (c .before .before .args .top) (c .before .before .args .t1)) (l .s) slots (c .loop-test .left)) at (l .inv .1))
+returns c = let l = c .before .loop in sym (and-true _) ∙ (rw (all-end (readerInRange (c .before .before .args .capacity) (c .before .before .args .t1)) (l .s) slots (c .loop-test .left)) at (l .inv .1))
 
 pub readers-in-range-spec : {M : Type 1} → statement M
 readers-in-range-spec =

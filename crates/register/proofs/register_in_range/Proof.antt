@@ -20,12 +20,12 @@ returns : tie.Need-returns
 unfolding registerInRange
 returns c =
     let r = c .before .before .before .before .before .before .before .before .before .before .args .reg in
-    let top = c .before .before .before .before .before .before .before .before .before .before .args .top in
-    let x = leb (r .root) top && leb (r .first) top && leb (r .last) top in
-    let y = leb (r .free) top && leb (r .held) top && leb (r .awaited) allSlots in
+    let capacity = c .before .before .before .before .before .before .before .before .before .before .args .capacity in
+    let x = leb (r .root) capacity && leb (r .first) capacity && leb (r .last) capacity in
+    let y = leb (r .free) capacity && leb (r .held) capacity && leb (r .awaited) allSlots in
     let z = leb (r .write .count) mostStores in
-    let readers = allIn (readerInRange top r) 0 slots in
-    let stores = allIn (storeInRange top (r .write)) 0 mostStores in
+    let readers = allIn (readerInRange capacity r) 0 slots in
+    let stores = allIn (storeInRange capacity (r .write)) 0 mostStores in
     let h : (x && y && z && readers) ≡ false = rw (← (c .before .readers-in-range .ensures)) (c .if1 .left) in
     sym (stops stores x y z readers h)
 
@@ -36,12 +36,12 @@ returns-2 : tie.Need-returns-2
 unfolding registerInRange
 returns-2 c =
     let r = c .before .before .before .before .before .before .before .before .before .before .before .args .reg in
-    let top = c .before .before .before .before .before .before .before .before .before .before .before .args .top in
-    let x = leb (r .root) top && leb (r .first) top && leb (r .last) top in
-    let y = leb (r .free) top && leb (r .held) top && leb (r .awaited) allSlots in
+    let capacity = c .before .before .before .before .before .before .before .before .before .before .before .args .capacity in
+    let x = leb (r .root) capacity && leb (r .first) capacity && leb (r .last) capacity in
+    let y = leb (r .free) capacity && leb (r .held) capacity && leb (r .awaited) allSlots in
     let z = leb (r .write .count) mostStores in
-    let readers = allIn (readerInRange top r) 0 slots in
-    let stores = allIn (storeInRange top (r .write)) 0 mostStores in
+    let readers = allIn (readerInRange capacity r) 0 slots in
+    let stores = allIn (storeInRange capacity (r .write)) 0 mostStores in
     let h : (x && y && z && readers) ≡ true = rw (← (c .before .before .readers-in-range .ensures)) (c .before .if1 .taken) in
     c .stores-in-range .ensures ∙ sym (goes stores x y z readers h)
 

@@ -10,10 +10,10 @@ use Rattle.register.proofs.stores_in_range.Lts as lts
 use Rattle.register.proofs.store_in_range.Reads as store-in-range-reads
 
 abbrev Inv-loop : tie.InvT-loop
-Inv-loop top w count i₀ i = (i ≤ mostStores) × (allIn (storeInRange top w) i mostStores ≡ allIn (storeInRange top w) 0 mostStores)
+Inv-loop capacity w count i₀ i = (i ≤ mostStores) × (allIn (storeInRange capacity w) i mostStores ≡ allIn (storeInRange capacity w) 0 mostStores)
 
 abbrev μ-loop : tie.MeasureT-loop
-μ-loop top w count i₀ i = mostStores - i
+μ-loop capacity w count i₀ i = mostStores - i
 
 loop-holds : tie.Need-loop-holds Inv-loop μ-loop
 loop-holds c = (search needs, refl)
@@ -34,7 +34,7 @@ returns : tie.Need-returns Inv-loop μ-loop
 unfolding storeInRange
 returns c =
     let l = c .before .before .before .before .loop in
-    let f = storeInRange (c .before .before .before .before .before .args .top) (c .before .before .before .before .before .args .t1) in
+    let f = storeInRange (c .before .before .before .before .before .args .capacity) (c .before .before .before .before .before .args .t1) in
     sym (all-bad f (l .i) mostStores (c .before .before .before .loop-test .taken) (sym (c .before .store-in-range .ensures) ∙ c .if1 .left)) ∙ l .inv .1
 
 add-i : tie.Need-add-i Inv-loop μ-loop
@@ -47,13 +47,13 @@ loop-again : tie.Need-loop-again Inv-loop μ-loop
 unfolding storeInRange
 loop-again c =
     let l = c .before .before .before .before .loop in
-    let f = storeInRange (c .before .before .before .before .before .args .top) (c .before .before .before .before .before .args .t1) in
+    let f = storeInRange (c .before .before .before .before .before .args .capacity) (c .before .before .before .before .before .args .t1) in
     (search needs, sym (all-ok f (l .i) mostStores (c .before .before .before .loop-test .taken) (sym (c .before .store-in-range .ensures) ∙ c .if1 .taken)) ∙ l .inv .1)
 
 returns-2 : tie.Need-returns-2 Inv-loop μ-loop
 returns-2 c =
     let l = c .before .loop in
-    sym (all-end (storeInRange (c .before .before .args .top) (c .before .before .args .t1)) (l .i) mostStores (c .loop-test .left)) ∙ l .inv .1
+    sym (all-end (storeInRange (c .before .before .args .capacity) (c .before .before .args .t1)) (l .i) mostStores (c .loop-test .left)) ∙ l .inv .1
 
 pub stores-in-range-spec : {M : Type 1} → statement M
 stores-in-range-spec =

@@ -1,5 +1,5 @@
 use Rattle.removals.specs.Removals.{reached-some}
-use Rattle.types.specs.declared.Step.the-variants.{Detach}
+use Rattle.datatypes.specs.declared.Step.the-variants.{Detach}
 use Rattle.spec.specs.Register.{State}
 use Rattle.heads.specs.Head.{at, tells-missed, tells-made}
 use Rattle.spec.specs.Turn.{stepFinds, stepMade, detachStore}
@@ -11,16 +11,16 @@ use Rattle.removals.proofs.detach.Statement.{statement}
 use Rattle.removals.proofs.detach.Tie as tie
 use Rattle.removals.proofs.detach.Reads as reads
 use Rattle.removals.proofs.detach.Lts as lts
-use Rattle.losses.proofs.loss_climb.Reads as loss-climb-reads
+use Rattle.delete_fixups.proofs.fixup_after_removal.Reads as fixup-after-removal-reads
 use Rattle.paths.proofs.nearest.Reads as nearest-reads
 use Rattle.paths.proofs.path_to.Reads as path-to-reads
 use Rattle.paths.proofs.successor_path.Reads as successor-path-reads
 use Rattle.pool.proofs.child.Reads as child-reads
 use Rattle.register.proofs.node_at.Reads as node-at-reads
 use Rattle.heads.proofs.set_link.Reads as set-link-reads
-use Rattle.climbs.proofs.calmly.Reads as calmly-reads
+use Rattle.fixups.proofs.nodes_found.Reads as nodes-found-reads
 use Rattle.heads.proofs.missed.Reads as missed-reads
-use Rattle.removals.proofs.settle.Reads as settle-reads
+use Rattle.removals.proofs.colour_and_retire.Reads as colour-and-retire-reads
 
 node-at-requires : tie.Need-node-at-requires
 node-at-requires c κs = search needs
@@ -49,14 +49,14 @@ node-at-requires-2 c κs = search needs
 child-requires : tie.Need-child-requires
 child-requires c κs = search needs
 
-slice-aggregate-loss-climb : tie.Need-slice-aggregate-loss-climb
-slice-aggregate-loss-climb c = search needs
+slice-aggregate-fixup-after-removal : tie.Need-slice-aggregate-fixup-after-removal
+slice-aggregate-fixup-after-removal c = search needs
 
-loss-climb-requires : tie.Need-loss-climb-requires
-loss-climb-requires c κs = search needs
+fixup-after-removal-requires : tie.Need-fixup-after-removal-requires
+fixup-after-removal-requires c κs = search needs
 
-calmly-requires : tie.Need-calmly-requires
-calmly-requires c κs = search needs
+nodes-found-requires : tie.Need-nodes-found-requires
+nodes-found-requires c κs = search needs
 
 missed-requires : tie.Need-missed-requires
 missed-requires c κs = search needs
@@ -67,17 +67,17 @@ same-length c = search needs
 returns : tie.Need-returns
 unfolding stepFinds
 returns c = let a = c .before .before .before .before .before .before .before .before .before .before .before .before .before .before .before .before .before .before .before .before .before .before .before .args in λ q r. let st : State = at (a .pool .now) (a .h) q in
-    let f : stepFinds st (a .l) (Detach (a .key)) ≡ false = rw (← (c .before .before .before .before .before .before .before .before .before .before .before .before .before .before .before .before .before .before .before .before .node-at .ensures), ← (c .before .before .before .before .before .before .before .before .before .before .before .before .before .before .before .before .before .path-to .ensures .0), ← (c .before .before .before .before .before .before .before .before .before .before .before .before .before .successor-path .ensures .0), reached-some, ← (c .before .before .before .before .before .before .before .before .before .before .nearest .ensures), ← (c .before .before .before .before .before .before .before .before .node-at2 .ensures), ← (c .before .before .before .before .before .before .child .ensures), ← (c .before .before .before .loss-climb .ensures), ← (c .before .before .calmly .ensures)) (c .before .if1 .left) in
+    let f : stepFinds st (a .l) (Detach (a .key)) ≡ false = rw (← (c .before .before .before .before .before .before .before .before .before .before .before .before .before .before .before .before .before .before .before .before .node-at .ensures), ← (c .before .before .before .before .before .before .before .before .before .before .before .before .before .before .before .before .before .path-to .ensures .0), ← (c .before .before .before .before .before .before .before .before .before .before .before .before .before .successor-path .ensures .0), reached-some, ← (c .before .before .before .before .before .before .before .before .before .before .nearest .ensures), ← (c .before .before .before .before .before .before .before .before .node-at2 .ensures), ← (c .before .before .before .before .before .before .child .ensures), ← (c .before .before .before .removal-fixup .ensures), ← (c .before .before .nodesFound .ensures)) (c .before .if1 .left) in
     tells-missed (a .pool .now) (a .h) (a .l) (Detach (a .key)) q (c .missed .result) f (c .missed .ensures)
 
 set-link-requires : tie.Need-set-link-requires
 set-link-requires c κs = search needs
 
-slice-aggregate-settle : tie.Need-slice-aggregate-settle
-slice-aggregate-settle c = search needs
+slice-aggregate-colour-and-retire : tie.Need-slice-aggregate-colour-and-retire
+slice-aggregate-colour-and-retire c = search needs
 
-settle-requires : tie.Need-settle-requires
-settle-requires c κs = (omega (arith, c .before .before .before .before .before .before .before .before .before .before .before .before .before .before .before .before .before .before .before .before .before .before .before .before .before .before .before .before .pre, c .before .before .before .before .set-link .kept .0), omega (arith, c .before .before .before .before .before .before .before .before .before .before .before .before .before .before .before .before .before .before .successor-path .ensures .1, c .before .before .before .before .before .before .before .before .before .before .before .before .before .before .before .before .before .before .successor-path .kept .1 .1 .0, c .before .before .before .before .before .before .before .before .before .before .before .before .before .before .before .before .before .before .before .before .before .before .path-to .kept .1 .1 .1 .1 .0))
+colour-and-retire-requires : tie.Need-colour-and-retire-requires
+colour-and-retire-requires c κs = (omega (arith, c .before .before .before .before .before .before .before .before .before .before .before .before .before .before .before .before .before .before .before .before .before .before .before .before .before .before .before .before .pre, c .before .before .before .before .set-link .kept .0), omega (arith, c .before .before .before .before .before .before .before .before .before .before .before .before .before .before .before .before .before .before .successor-path .ensures .1, c .before .before .before .before .before .before .before .before .before .before .before .before .before .before .before .before .before .before .successor-path .kept .1 .1 .0, c .before .before .before .before .before .before .before .before .before .before .before .before .before .before .before .before .before .before .before .before .before .before .path-to .kept .1 .1 .1 .1 .0))
 
 same-length-2 : tie.Need-same-length-2
 same-length-2 c = search needs
@@ -85,8 +85,8 @@ same-length-2 c = search needs
 returns-2 : tie.Need-returns-2
 unfolding stepFinds stepMade detachStore
 returns-2 c = let a = c .before .before .before .before .before .before .before .before .before .before .before .before .before .before .before .before .before .before .before .before .before .before .before .before .before .before .before .before .before .before .before .args in λ q r. let st : State = at (a .pool .now) (a .h) q in
-    let f : stepFinds st (a .l) (Detach (a .key)) ≡ true = rw (← (c .before .before .before .before .before .before .before .before .before .before .before .before .before .before .before .before .before .before .before .before .before .before .before .before .before .before .before .before .node-at .ensures), ← (c .before .before .before .before .before .before .before .before .before .before .before .before .before .before .before .before .before .before .before .before .before .before .before .before .before .path-to .ensures .0), ← (c .before .before .before .before .before .before .before .before .before .before .before .before .before .before .before .before .before .before .before .before .before .successor-path .ensures .0), reached-some, ← (c .before .before .before .before .before .before .before .before .before .before .before .before .before .before .before .before .before .before .nearest .ensures), ← (c .before .before .before .before .before .before .before .before .before .before .before .before .before .before .before .before .node-at2 .ensures), ← (c .before .before .before .before .before .before .before .before .before .before .before .before .before .before .child .ensures), ← (c .before .before .before .before .before .before .before .before .before .before .before .loss-climb .ensures), ← (c .before .before .before .before .before .before .before .before .before .before .calmly .ensures)) (c .before .before .before .before .before .before .before .before .before .if1 .taken) in
-    tells-made (a .pool .now) (a .h) (a .l) (Detach (a .key)) q _ _ f (c .before .before .before .before .before .before .before .before .before .if1 .taken) (rw (c .before .before .settle .ensures q r, c .before .before .before .before .before .before .before .set-link .ensures q, c .before .before .before .before .before .before .before .before .before .before .before .loss-climb .ensures, c .before .before .before .before .before .before .before .before .before .before .before .before .before .before .child .ensures, c .before .before .before .before .before .before .before .before .before .before .before .before .before .before .before .before .node-at2 .ensures, c .before .before .before .before .before .before .before .before .before .before .before .before .before .before .before .before .before .before .nearest .ensures, c .before .before .before .before .before .before .before .before .before .before .before .before .before .before .before .before .before .before .before .before .before .successor-path .ensures .0, c .before .before .before .before .before .before .before .before .before .before .before .before .before .before .before .before .before .before .before .before .before .before .before .before .before .path-to .ensures .0, c .before .before .before .before .before .before .before .before .before .before .before .before .before .before .before .before .before .before .before .before .before .before .before .before .before .before .before .before .node-at .ensures))
+    let f : stepFinds st (a .l) (Detach (a .key)) ≡ true = rw (← (c .before .before .before .before .before .before .before .before .before .before .before .before .before .before .before .before .before .before .before .before .before .before .before .before .before .before .before .before .node-at .ensures), ← (c .before .before .before .before .before .before .before .before .before .before .before .before .before .before .before .before .before .before .before .before .before .before .before .before .before .path-to .ensures .0), ← (c .before .before .before .before .before .before .before .before .before .before .before .before .before .before .before .before .before .before .before .before .before .successor-path .ensures .0), reached-some, ← (c .before .before .before .before .before .before .before .before .before .before .before .before .before .before .before .before .before .before .nearest .ensures), ← (c .before .before .before .before .before .before .before .before .before .before .before .before .before .before .before .before .node-at2 .ensures), ← (c .before .before .before .before .before .before .before .before .before .before .before .before .before .before .child .ensures), ← (c .before .before .before .before .before .before .before .before .before .before .before .removal-fixup .ensures), ← (c .before .before .before .before .before .before .before .before .before .before .nodesFound .ensures)) (c .before .before .before .before .before .before .before .before .before .if1 .taken) in
+    tells-made (a .pool .now) (a .h) (a .l) (Detach (a .key)) q _ _ f (c .before .before .before .before .before .before .before .before .before .if1 .taken) (rw (c .before .before .settle .ensures q r, c .before .before .before .before .before .before .before .set-link .ensures q, c .before .before .before .before .before .before .before .before .before .before .before .removal-fixup .ensures, c .before .before .before .before .before .before .before .before .before .before .before .before .before .before .child .ensures, c .before .before .before .before .before .before .before .before .before .before .before .before .before .before .before .before .node-at2 .ensures, c .before .before .before .before .before .before .before .before .before .before .before .before .before .before .before .before .before .before .nearest .ensures, c .before .before .before .before .before .before .before .before .before .before .before .before .before .before .before .before .before .before .before .before .before .successor-path .ensures .0, c .before .before .before .before .before .before .before .before .before .before .before .before .before .before .before .before .before .before .before .before .before .before .before .before .before .path-to .ensures .0, c .before .before .before .before .before .before .before .before .before .before .before .before .before .before .before .before .before .before .before .before .before .before .before .before .before .before .before .before .node-at .ensures))
 
 pub detach-spec : {M : Type 1} → statement M
 detach-spec =
@@ -101,14 +101,14 @@ detach-spec =
     nearest-requires
     node-at-requires-2
     child-requires
-    slice-aggregate-loss-climb
-    loss-climb-requires
-    calmly-requires
+    slice-aggregate-fixup-after-removal
+    fixup-after-removal-requires
+    nodes-found-requires
     missed-requires
     same-length
     returns
     set-link-requires
-    slice-aggregate-settle
-    settle-requires
+    slice-aggregate-colour-and-retire
+    colour-and-retire-requires
     same-length-2
     returns-2)

@@ -7,10 +7,10 @@ use Rattle.removals.proofs.store_successor.Tie as tie
 use Rattle.removals.proofs.store_successor.Reads as reads
 use Rattle.removals.proofs.store_successor.Lts as lts
 use Rattle.pool.proofs.set_word.Reads as set-word-reads
-use Rattle.removals.proofs.store_less.Reads as store-less-reads
+use Rattle.removals.proofs.store_one_less.Reads as store-one-less-reads
 
-store-less-requires : tie.Need-store-less-requires
-store-less-requires c κs = search needs
+store-one-less-requires : tie.Need-store-one-less-requires
+store-one-less-requires c κs = search needs
 
 set-word-requires : tie.Need-set-word-requires
 set-word-requires c κs = search needs
@@ -23,4 +23,4 @@ returns c = λ q. rw (c .before .before .set-word .ensures) (ap (λ (st : State)
 
 pub store-successor-spec : {M : Type 1} → statement M
 store-successor-spec =
-    tie.close (tie.spec store-less-requires set-word-requires same-length returns)
+    tie.close (tie.spec store-one-less-requires set-word-requires same-length returns)

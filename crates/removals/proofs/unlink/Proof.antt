@@ -1,4 +1,4 @@
-use Rattle.types.specs.declared.Step.the-variants.{Unlink}
+use Rattle.datatypes.specs.declared.Step.the-variants.{Unlink}
 use Rattle.spec.specs.Register.{State}
 use Rattle.heads.specs.Head.{at, tells-missed, tells-made}
 use Rattle.spec.specs.Turn.{stepFinds, stepMade, unlinkStore}
@@ -10,15 +10,15 @@ use Rattle.removals.proofs.unlink.Statement.{statement}
 use Rattle.removals.proofs.unlink.Tie as tie
 use Rattle.removals.proofs.unlink.Reads as reads
 use Rattle.removals.proofs.unlink.Lts as lts
-use Rattle.losses.proofs.loss_climb.Reads as loss-climb-reads
-use Rattle.losses.proofs.only_child.Reads as only-child-reads
+use Rattle.delete_fixups.proofs.fixup_after_removal.Reads as fixup-after-removal-reads
+use Rattle.delete_fixups.proofs.only_child.Reads as only-child-reads
 use Rattle.paths.proofs.path_to.Reads as path-to-reads
 use Rattle.pool.proofs.word.Reads as word-reads
 use Rattle.register.proofs.node_at.Reads as node-at-reads
-use Rattle.climbs.proofs.calmly.Reads as calmly-reads
+use Rattle.fixups.proofs.nodes_found.Reads as nodes-found-reads
 use Rattle.heads.proofs.missed.Reads as missed-reads
-use Rattle.removals.proofs.settle.Reads as settle-reads
-use Rattle.removals.proofs.store_less.Reads as store-less-reads
+use Rattle.removals.proofs.colour_and_retire.Reads as colour-and-retire-reads
+use Rattle.removals.proofs.store_one_less.Reads as store-one-less-reads
 
 node-at-requires : tie.Need-node-at-requires
 node-at-requires c κs = search needs
@@ -35,14 +35,14 @@ slice-aggregate-path-to c = search needs
 path-to-requires : tie.Need-path-to-requires
 path-to-requires c κs = search needs
 
-slice-aggregate-loss-climb : tie.Need-slice-aggregate-loss-climb
-slice-aggregate-loss-climb c = search needs
+slice-aggregate-fixup-after-removal : tie.Need-slice-aggregate-fixup-after-removal
+slice-aggregate-fixup-after-removal c = search needs
 
-loss-climb-requires : tie.Need-loss-climb-requires
-loss-climb-requires c κs = search needs
+fixup-after-removal-requires : tie.Need-fixup-after-removal-requires
+fixup-after-removal-requires c κs = search needs
 
-calmly-requires : tie.Need-calmly-requires
-calmly-requires c κs = search needs
+nodes-found-requires : tie.Need-nodes-found-requires
+nodes-found-requires c κs = search needs
 
 missed-requires : tie.Need-missed-requires
 missed-requires c κs = search needs
@@ -53,17 +53,17 @@ same-length c = search needs
 returns : tie.Need-returns
 unfolding stepFinds
 returns c = let a = c .before .before .before .before .before .before .before .before .before .before .before .before .before .before .before .before .before .args in λ q r. let st : State = at (a .pool .now) (a .h) q in
-    let f : stepFinds st (a .l) Unlink ≡ false = rw (← (c .before .before .before .before .before .before .before .before .before .before .before .before .before .before .node-at .ensures), ← (c .before .before .before .before .before .before .before .before .before .before .before .before .only-child .ensures), ← (c .before .before .before .before .before .before .before .before .before .before .word .ensures), ← (c .before .before .before .before .before .before .before .path-to .ensures .0), ← (c .before .before .before .loss-climb .ensures), ← (c .before .before .calmly .ensures)) (c .before .if1 .left) in
+    let f : stepFinds st (a .l) Unlink ≡ false = rw (← (c .before .before .before .before .before .before .before .before .before .before .before .before .before .before .node-at .ensures), ← (c .before .before .before .before .before .before .before .before .before .before .before .before .only-child .ensures), ← (c .before .before .before .before .before .before .before .before .before .before .word .ensures), ← (c .before .before .before .before .before .before .before .path-to .ensures .0), ← (c .before .before .before .removal-fixup .ensures), ← (c .before .before .nodesFound .ensures)) (c .before .if1 .left) in
     tells-missed (a .pool .now) (a .h) (a .l) Unlink q (c .missed .result) f (c .missed .ensures)
 
-store-less-requires : tie.Need-store-less-requires
-store-less-requires c κs = search needs
+store-one-less-requires : tie.Need-store-one-less-requires
+store-one-less-requires c κs = search needs
 
-slice-aggregate-settle : tie.Need-slice-aggregate-settle
-slice-aggregate-settle c = search needs
+slice-aggregate-colour-and-retire : tie.Need-slice-aggregate-colour-and-retire
+slice-aggregate-colour-and-retire c = search needs
 
-settle-requires : tie.Need-settle-requires
-settle-requires c κs = (omega (arith, c .before .before .before .before .before .before .before .before .before .before .before .before .before .before .before .before .before .before .before .before .before .before .pre, c .before .before .before .before .store-less .kept .0), search needs)
+colour-and-retire-requires : tie.Need-colour-and-retire-requires
+colour-and-retire-requires c κs = (omega (arith, c .before .before .before .before .before .before .before .before .before .before .before .before .before .before .before .before .before .before .before .before .before .before .pre, c .before .before .before .before .store-less .kept .0), search needs)
 
 same-length-2 : tie.Need-same-length-2
 same-length-2 c = search needs
@@ -71,8 +71,8 @@ same-length-2 c = search needs
 returns-2 : tie.Need-returns-2
 unfolding stepFinds stepMade unlinkStore
 returns-2 c = let a = c .before .before .before .before .before .before .before .before .before .before .before .before .before .before .before .before .before .before .before .before .before .before .before .before .before .args in λ q r. let st : State = at (a .pool .now) (a .h) q in
-    let f : stepFinds st (a .l) Unlink ≡ true = rw (← (c .before .before .before .before .before .before .before .before .before .before .before .before .before .before .before .before .before .before .before .before .before .before .node-at .ensures), ← (c .before .before .before .before .before .before .before .before .before .before .before .before .before .before .before .before .before .before .before .before .only-child .ensures), ← (c .before .before .before .before .before .before .before .before .before .before .before .before .before .before .before .before .before .before .word .ensures), ← (c .before .before .before .before .before .before .before .before .before .before .before .before .before .before .before .path-to .ensures .0), ← (c .before .before .before .before .before .before .before .before .before .before .before .loss-climb .ensures), ← (c .before .before .before .before .before .before .before .before .before .before .calmly .ensures)) (c .before .before .before .before .before .before .before .before .before .if1 .taken) in
-    tells-made (a .pool .now) (a .h) (a .l) Unlink q _ _ f (c .before .before .before .before .before .before .before .before .before .if1 .taken) (rw (c .before .before .settle .ensures q r, c .before .before .before .before .before .before .before .store-less .ensures q, c .before .before .before .before .before .before .before .before .before .before .before .loss-climb .ensures, c .before .before .before .before .before .before .before .before .before .before .before .before .before .before .before .path-to .ensures .0, c .before .before .before .before .before .before .before .before .before .before .before .before .before .before .before .before .before .before .word .ensures, c .before .before .before .before .before .before .before .before .before .before .before .before .before .before .before .before .before .before .before .before .only-child .ensures, c .before .before .before .before .before .before .before .before .before .before .before .before .before .before .before .before .before .before .before .before .before .before .node-at .ensures))
+    let f : stepFinds st (a .l) Unlink ≡ true = rw (← (c .before .before .before .before .before .before .before .before .before .before .before .before .before .before .before .before .before .before .before .before .before .before .node-at .ensures), ← (c .before .before .before .before .before .before .before .before .before .before .before .before .before .before .before .before .before .before .before .before .only-child .ensures), ← (c .before .before .before .before .before .before .before .before .before .before .before .before .before .before .before .before .before .before .word .ensures), ← (c .before .before .before .before .before .before .before .before .before .before .before .before .before .before .before .path-to .ensures .0), ← (c .before .before .before .before .before .before .before .before .before .before .before .removal-fixup .ensures), ← (c .before .before .before .before .before .before .before .before .before .before .nodesFound .ensures)) (c .before .before .before .before .before .before .before .before .before .if1 .taken) in
+    tells-made (a .pool .now) (a .h) (a .l) Unlink q _ _ f (c .before .before .before .before .before .before .before .before .before .if1 .taken) (rw (c .before .before .settle .ensures q r, c .before .before .before .before .before .before .before .store-less .ensures q, c .before .before .before .before .before .before .before .before .before .before .before .removal-fixup .ensures, c .before .before .before .before .before .before .before .before .before .before .before .before .before .before .before .path-to .ensures .0, c .before .before .before .before .before .before .before .before .before .before .before .before .before .before .before .before .before .before .word .ensures, c .before .before .before .before .before .before .before .before .before .before .before .before .before .before .before .before .before .before .before .before .only-child .ensures, c .before .before .before .before .before .before .before .before .before .before .before .before .before .before .before .before .before .before .before .before .before .before .node-at .ensures))
 
 pub unlink-spec : {M : Type 1} → statement M
 unlink-spec =
@@ -83,14 +83,14 @@ unlink-spec =
     word-requires
     slice-aggregate-path-to
     path-to-requires
-    slice-aggregate-loss-climb
-    loss-climb-requires
-    calmly-requires
+    slice-aggregate-fixup-after-removal
+    fixup-after-removal-requires
+    nodes-found-requires
     missed-requires
     same-length
     returns
-    store-less-requires
-    slice-aggregate-settle
-    settle-requires
+    store-one-less-requires
+    slice-aggregate-colour-and-retire
+    colour-and-retire-requires
     same-length-2
     returns-2)

@@ -2,7 +2,7 @@ use Rattle.spec.specs.Register.{State}
 use Rattle.heads.specs.Head.{at, withHead, tells-missed, tells-made}
 use Rattle.spec.specs.Turn.{stepFinds, stepMade, diagChild}
 use Rattle.laws.specs.Turns.{no-node, node-there, and-false}
-use Rattle.types.specs.declared.Step.the-variants.{DiagRaise}
+use Rattle.datatypes.specs.declared.Step.the-variants.{DiagRaise}
 use mathlib.Core.Bool.{true, false}
 use Rattle.spec.specs.Turn.{endDiagFinds, isNode}
 use Rattle.spec.specs.Free.{retire}
@@ -36,7 +36,7 @@ same-length c = search needs
 
 returns : tie.Need-returns
 unfolding stepFinds
-returns c = let a = c .before .before .before .before .before .before .before .args in λ q r. let st : State = at (a .pool .now) (a .h) q in let e : diagChild st (a .l) (a .s) ≡ 0 = rw (← (c .before .before .before .before .node-at .ensures), ← (c .before .before .child .ensures)) (c .before .if1 .taken) in tells-missed (a .pool .now) (a .h) (a .l) (DiagRaise (a .s) (a .rule)) q (c .missed .result) (no-node (diagChild st (a .l) (a .s)) _ e) (c .missed .ensures)
+returns c = let a = c .before .before .before .before .before .before .before .args in λ q r. let st : State = at (a .pool .now) (a .h) q in let e : diagChild st (a .l) (a .s) ≡ 0 = rw (← (c .before .before .before .before .node-at .ensures), ← (c .before .before .child .ensures)) (c .before .if1 .taken) in tells-missed (a .pool .now) (a .h) (a .l) (DiagRaise (a .s) (a .purpose)) q (c .missed .result) (no-node (diagChild st (a .l) (a .s)) _ e) (c .missed .ensures)
 
 end-diag-finds-requires : tie.Need-end-diag-finds-requires
 end-diag-finds-requires c κs = search needs
@@ -49,7 +49,7 @@ same-length-2 c = search needs
 
 returns-2 : tie.Need-returns-2
 unfolding stepFinds
-returns-2 c = let a = c .before .before .before .before .before .before .before .before .before .before .args in λ q r. let st : State = at (a .pool .now) (a .h) q in let b = diagChild st (a .l) (a .s) in let e : endDiagFinds (a .rule) st (a .s) (diagChild st (a .l) (a .s)) ≡ false = rw (← (c .before .before .before .before .before .before .before .node-at .ensures), ← (c .before .before .before .before .before .child .ensures)) (sym (c .before .before .end-diag-finds .ensures (withHead q (a .h))) ∙ c .before .if2 .left) in tells-missed (a .pool .now) (a .h) (a .l) (DiagRaise (a .s) (a .rule)) q (c .missed2 .result) (and-false (isNode b) (endDiagFinds (a .rule) st (a .s) b) e) (c .missed2 .ensures)
+returns-2 c = let a = c .before .before .before .before .before .before .before .before .before .before .args in λ q r. let st : State = at (a .pool .now) (a .h) q in let b = diagChild st (a .l) (a .s) in let e : endDiagFinds (a .purpose) st (a .s) (diagChild st (a .l) (a .s)) ≡ false = rw (← (c .before .before .before .before .before .before .before .node-at .ensures), ← (c .before .before .before .before .before .child .ensures)) (sym (c .before .before .end-diag-finds .ensures (withHead q (a .h))) ∙ c .before .if2 .left) in tells-missed (a .pool .now) (a .h) (a .l) (DiagRaise (a .s) (a .purpose)) q (c .missed2 .result) (and-false (isNode b) (endDiagFinds (a .purpose) st (a .s) b) e) (c .missed2 .ensures)
 
 risen-colour-requires : tie.Need-risen-colour-requires
 risen-colour-requires c κs = search needs
@@ -68,8 +68,8 @@ same-length-3 c = search needs
 
 returns-3 : tie.Need-returns-3
 unfolding stepFinds stepMade
-returns-3 c = let a = c .before .before .before .before .before .before .before .before .before .before .before .before .before .before .before .before .before .before .before .before .before .before .before .args in λ q r. let st : State = at (a .pool .now) (a .h) q in let b = diagChild st (a .l) (a .s) in let d : diagChild st (a .l) (a .s) ≡ 0 → ⊥ = rw (← (c .before .before .before .before .before .before .before .before .before .before .before .before .before .before .before .before .before .before .before .before .node-at .ensures), ← (c .before .before .before .before .before .before .before .before .before .before .before .before .before .before .before .before .before .before .child .ensures)) (c .before .before .before .before .before .before .before .before .before .before .before .before .before .before .before .before .before .if1 .left) in let e : endDiagFinds (a .rule) st (a .s) (diagChild st (a .l) (a .s)) ≡ true = rw (← (c .before .before .before .before .before .before .before .before .before .before .before .before .before .before .before .before .before .before .before .before .node-at .ensures), ← (c .before .before .before .before .before .before .before .before .before .before .before .before .before .before .before .before .before .before .child .ensures)) (sym (c .before .before .before .before .before .before .before .before .before .before .before .before .before .before .before .end-diag-finds .ensures (withHead q (a .h))) ∙ c .before .before .before .before .before .before .before .before .before .before .before .before .before .before .if2 .taken) in tells-made (a .pool .now) (a .h) (a .l) (DiagRaise (a .s) (a .rule)) q _ _ (node-there b (endDiagFinds (a .rule) st (a .s) b) d e) refl
-    (diag-raised st (a .l) (a .s) (a .rule) (c .before .before .before .before .before .before .before .before .before .before .before .before .before .before .before .before .before .before .before .before .node-at .result) (c .before .before .before .before .before .before .before .before .before .before .before .before .before .before .before .before .before .before .child .result) (c .before .before .before .before .before .before .before .before .before .before .before .before .risen-colour .result) (c .before .before .before .before .before .before .before .before .before .before .raise .last .0) (c .before .before .before .before .before .before .end-diag .last .0) (withHead q (c .before .before .before .before .before .before .before .before .before .before .raise .result)) (at (c .before .before .retire .last .0) (c .before .before .retire .result) q) (c .before .before .before .before .before .before .before .before .before .before .before .before .before .before .before .before .before .before .before .before .node-at .ensures) (c .before .before .before .before .before .before .before .before .before .before .before .before .risen-colour .ensures (withHead q (a .h))) (c .before .before .before .before .before .before .before .before .before .before .raise .ensures q) (c .before .before .before .before .before .before .before .before .before .before .before .before .before .before .before .before .before .before .child .ensures ∙ rw (c .before .before .before .before .before .before .before .before .before .before .before .before .before .before .before .before .before .before .before .before .node-at .ensures)) (c .before .before .before .before .before .before .end-diag .ensures (withHead q (c .before .before .before .before .before .before .before .before .before .before .raise .result)) refl) (c .before .before .retire .ensures q r))
+returns-3 c = let a = c .before .before .before .before .before .before .before .before .before .before .before .before .before .before .before .before .before .before .before .before .before .before .before .args in λ q r. let st : State = at (a .pool .now) (a .h) q in let b = diagChild st (a .l) (a .s) in let d : diagChild st (a .l) (a .s) ≡ 0 → ⊥ = rw (← (c .before .before .before .before .before .before .before .before .before .before .before .before .before .before .before .before .before .before .before .before .node-at .ensures), ← (c .before .before .before .before .before .before .before .before .before .before .before .before .before .before .before .before .before .before .child .ensures)) (c .before .before .before .before .before .before .before .before .before .before .before .before .before .before .before .before .before .if1 .left) in let e : endDiagFinds (a .purpose) st (a .s) (diagChild st (a .l) (a .s)) ≡ true = rw (← (c .before .before .before .before .before .before .before .before .before .before .before .before .before .before .before .before .before .before .before .before .node-at .ensures), ← (c .before .before .before .before .before .before .before .before .before .before .before .before .before .before .before .before .before .before .child .ensures)) (sym (c .before .before .before .before .before .before .before .before .before .before .before .before .before .before .before .end-diag-finds .ensures (withHead q (a .h))) ∙ c .before .before .before .before .before .before .before .before .before .before .before .before .before .before .if2 .taken) in tells-made (a .pool .now) (a .h) (a .l) (DiagRaise (a .s) (a .purpose)) q _ _ (node-there b (endDiagFinds (a .purpose) st (a .s) b) d e) refl
+    (diag-raised st (a .l) (a .s) (a .purpose) (c .before .before .before .before .before .before .before .before .before .before .before .before .before .before .before .before .before .before .before .before .node-at .result) (c .before .before .before .before .before .before .before .before .before .before .before .before .before .before .before .before .before .before .child .result) (c .before .before .before .before .before .before .before .before .before .before .before .before .risen-colour .result) (c .before .before .before .before .before .before .before .before .before .before .raise .last .0) (c .before .before .before .before .before .before .end-diag .last .0) (withHead q (c .before .before .before .before .before .before .before .before .before .before .raise .result)) (at (c .before .before .retire .last .0) (c .before .before .retire .result) q) (c .before .before .before .before .before .before .before .before .before .before .before .before .before .before .before .before .before .before .before .before .node-at .ensures) (c .before .before .before .before .before .before .before .before .before .before .before .before .risen-colour .ensures (withHead q (a .h))) (c .before .before .before .before .before .before .before .before .before .before .raise .ensures q) (c .before .before .before .before .before .before .before .before .before .before .before .before .before .before .before .before .before .before .child .ensures ∙ rw (c .before .before .before .before .before .before .before .before .before .before .before .before .before .before .before .before .before .before .before .before .node-at .ensures)) (c .before .before .before .before .before .before .end-diag .ensures (withHead q (c .before .before .before .before .before .before .before .before .before .before .raise .result)) refl) (c .before .before .retire .ensures q r))
 
 pub diag-raise-spec : {M : Type 1} → statement M
 diag-raise-spec =

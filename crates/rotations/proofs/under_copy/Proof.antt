@@ -10,7 +10,7 @@ use Rattle.rotations.proofs.under_copy.Statement.{statement}
 use Rattle.rotations.proofs.under_copy.Tie as tie
 use Rattle.rotations.proofs.under_copy.Reads as reads
 use Rattle.rotations.proofs.under_copy.Lts as lts
-use Rattle.climbs.proofs.red_child.Reads as red-child-reads
+use Rattle.fixups.proofs.red_child.Reads as red-child-reads
 use Rattle.pool.proofs.child.Reads as child-reads
 use Rattle.pool.proofs.set_word.Reads as set-word-reads
 

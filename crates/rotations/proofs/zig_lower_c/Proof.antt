@@ -2,7 +2,7 @@ use Rattle.spec.specs.Register.{State}
 use Rattle.heads.specs.Head.{at, tells-missed, tells-made}
 use Rattle.spec.specs.Turn.{stepFinds, stepMade, zigLowerC, zigChild}
 use Rattle.laws.specs.Turns.{no-node, no-free, takes-node}
-use Rattle.types.specs.declared.Step.the-variants.{ZigLowerC}
+use Rattle.datatypes.specs.declared.Step.the-variants.{ZigLowerC}
 use mathlib.Core.Path.{_≡_, refl}
 use borrow.Author.Needs.{needs}
 use Rattle.rotations.proofs.zig_lower_c.Statement.{statement}
@@ -38,7 +38,7 @@ same-length c = search needs
 
 returns : tie.Need-returns
 unfolding stepFinds
-returns c = let a = c .before .before .before .before .before .before .before .before .before .args in λ q. let st : State = at (a .pool .now) (a .h) q in let e : zigChild st (a .l) (a .s) ≡ 0 = rw (← (c .before .before .before .before .before .node-at .ensures), ← (c .before .before .before .child .ensures), ← (c .before .before .before .before .before .before .before .other .ensures), ← (c .before .before .child2 .ensures)) (c .before .if1 .taken) in tells-missed (a .pool .now) (a .h) (a .l) (ZigLowerC (a .s) (a .rule)) q (c .missed .result) (no-node (zigChild st (a .l) (a .s)) _ e) (c .missed .ensures)
+returns c = let a = c .before .before .before .before .before .before .before .before .before .args in λ q. let st : State = at (a .pool .now) (a .h) q in let e : zigChild st (a .l) (a .s) ≡ 0 = rw (← (c .before .before .before .before .before .node-at .ensures), ← (c .before .before .before .child .ensures), ← (c .before .before .before .before .before .before .before .other .ensures), ← (c .before .before .child2 .ensures)) (c .before .if1 .taken) in tells-missed (a .pool .now) (a .h) (a .l) (ZigLowerC (a .s) (a .purpose)) q (c .missed .result) (no-node (zigChild st (a .l) (a .s)) _ e) (c .missed .ensures)
 
 missed-requires-2 : tie.Need-missed-requires-2
 missed-requires-2 c κs = search needs
@@ -48,7 +48,7 @@ same-length-2 c = search needs
 
 returns-2 : tie.Need-returns-2
 unfolding stepFinds
-returns-2 c = let a = c .before .before .before .before .before .before .before .before .before .before .before .args in λ q. let st : State = at (a .pool .now) (a .h) q in tells-missed (a .pool .now) (a .h) (a .l) (ZigLowerC (a .s) (a .rule)) q (c .missed2 .result) (no-free st (zigChild st (a .l) (a .s)) (c .before .if2 .taken)) (c .missed2 .ensures)
+returns-2 c = let a = c .before .before .before .before .before .before .before .before .before .before .before .args in λ q. let st : State = at (a .pool .now) (a .h) q in tells-missed (a .pool .now) (a .h) (a .l) (ZigLowerC (a .s) (a .purpose)) q (c .missed2 .result) (no-free st (zigChild st (a .l) (a .s)) (c .before .if2 .taken)) (c .missed2 .ensures)
 
 child-requires-3 : tie.Need-child-requires-3
 child-requires-3 c κs = search needs
@@ -74,7 +74,7 @@ same-length-3 c = search needs
 returns-3 : tie.Need-returns-3
 unfolding stepFinds stepMade zigLowerC
 returns-3 c = let a = c .before .before .before .before .before .before .before .before .before .before .before .before .before .before .before .before .before .before .before .before .before .before .before .before .args in λ q. let st : State = at (a .pool .now) (a .h) q in let d : zigChild st (a .l) (a .s) ≡ 0 → ⊥ = rw (← (c .before .before .before .before .before .before .before .before .before .before .before .before .before .before .before .before .before .before .before .before .node-at .ensures), ← (c .before .before .before .before .before .before .before .before .before .before .before .before .before .before .before .before .before .before .child .ensures), ← (c .before .before .before .before .before .before .before .before .before .before .before .before .before .before .before .before .before .before .before .before .before .before .other .ensures), ← (c .before .before .before .before .before .before .before .before .before .before .before .before .before .before .before .before .before .child2 .ensures)) (c .before .before .before .before .before .before .before .before .before .before .before .before .before .before .before .before .if1 .left) in
-    tells-made (a .pool .now) (a .h) (a .l) (ZigLowerC (a .s) (a .rule)) q _ _ (takes-node st (zigChild st (a .l) (a .s)) d (c .before .before .before .before .before .before .before .before .before .before .before .before .before .before .if2 .left)) refl
+    tells-made (a .pool .now) (a .h) (a .l) (ZigLowerC (a .s) (a .purpose)) q _ _ (takes-node st (zigChild st (a .l) (a .s)) d (c .before .before .before .before .before .before .before .before .before .before .before .before .before .before .if2 .left)) refl
     (rw (c .before .before .set-link .ensures q, c .before .before .before .before .before .before .take-copy .ensures q, c .before .before .before .before .before .before .before .copy-colour .ensures, c .before .before .before .before .before .before .before .before .before .link-at .ensures, c .before .before .before .before .before .before .before .before .before .before .child4 .ensures, c .before .before .before .before .before .before .before .before .before .before .before .before .child3 .ensures, c .before .before .before .before .before .before .before .before .before .before .before .before .before .before .before .before .before .child2 .ensures, c .before .before .before .before .before .before .before .before .before .before .before .before .before .before .before .before .before .before .before .before .before .before .other .ensures, c .before .before .before .before .before .before .before .before .before .before .before .before .before .before .before .before .before .before .child .ensures, c .before .before .before .before .before .before .before .before .before .before .before .before .before .before .before .before .before .before .before .before .node-at .ensures))
 
 pub zig-lower-c-spec : {M : Type 1} → statement M

@@ -2,8 +2,8 @@ use Rattle.spec.specs.Register.{State, linkNode}
 use Rattle.heads.specs.Head.{at, tells-missed, tells-made}
 use Rattle.spec.specs.Pool.{child}
 use Rattle.spec.specs.Turn.{stepFinds, stepMade, adoptStore}
-use Rattle.types.specs.declared.Step.the-variants.{Adopt}
-use Rattle.types.specs.declared.Side.the-variants.{R}
+use Rattle.datatypes.specs.declared.Step.the-variants.{Adopt}
+use Rattle.datatypes.specs.declared.Side.the-variants.{R}
 use mathlib.Core.Path.{_≡_, refl}
 use borrow.Author.Tests.{eq-eqb, ne-eqb}
 use borrow.Author.Needs.{needs}

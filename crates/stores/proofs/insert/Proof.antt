@@ -1,8 +1,8 @@
 use Rattle.spec.specs.Register.{State}
 use Rattle.heads.specs.Head.{at, tells-missed}
 use Rattle.spec.specs.Pool.{isRed}
-use Rattle.types.specs.Side.{owner}
-use Rattle.types.specs.declared.Step.the-variants.{Insert}
+use Rattle.datatypes.specs.Side.{owner}
+use Rattle.datatypes.specs.declared.Step.the-variants.{Insert}
 use Rattle.stores.specs.Inserted.{insert-empty}
 use mathlib.Core.Bool.{true, false}
 use mathlib.Core.Path.{_≡_}
@@ -14,8 +14,8 @@ use Rattle.stores.proofs.insert.Lts as lts
 use Rattle.pool.proofs.is_red.Reads as is-red-reads
 use Rattle.register.proofs.owner.Reads as owner-reads
 use Rattle.heads.proofs.missed.Reads as missed-reads
-use Rattle.stores.proofs.insert_calm.Reads as insert-calm-reads
-use Rattle.stores.proofs.insert_climbing.Reads as insert-climbing-reads
+use Rattle.stores.proofs.insert_under_black.Reads as insert-under-black-reads
+use Rattle.stores.proofs.insert_under_red.Reads as insert-under-red-reads
 
 missed-requires : tie.Need-missed-requires
 missed-requires c κs = search needs
@@ -29,8 +29,8 @@ owner-requires c κs = search needs
 is-red-requires : tie.Need-is-red-requires
 is-red-requires c κs = search needs
 
-insert-climbing-requires : tie.Need-insert-climbing-requires
-insert-climbing-requires c κs = let a = c .before .before .before .before .before .before .before .before .args in let e : isRed (a .pool .now) (owner (a .l)) ≡ true = rw (← (c .before .before .before .owner .ensures), ← (c .before .before .is-red .ensures)) (c .before .if2 .taken) in (c .before .before .before .before .before .before .before .before .pre, e, c .before .before .before .before .before .if1 .left)
+insert-under-red-requires : tie.Need-insert-under-red-requires
+insert-under-red-requires c κs = let a = c .before .before .before .before .before .before .before .before .args in let e : isRed (a .pool .now) (owner (a .l)) ≡ true = rw (← (c .before .before .before .owner .ensures), ← (c .before .before .is-red .ensures)) (c .before .if2 .taken) in (c .before .before .before .before .before .before .before .before .pre, e, c .before .before .before .before .before .if1 .left)
 
 same-length : tie.Need-same-length
 same-length c = search needs
@@ -38,14 +38,14 @@ same-length c = search needs
 returns-2 : tie.Need-returns-2
 returns-2 c = c .before .before .insert-climbing .ensures
 
-insert-calm-requires : tie.Need-insert-calm-requires
-insert-calm-requires c κs = let a = c .before .before .before .before .before .before .before .before .args in let e : isRed (a .pool .now) (owner (a .l)) ≡ false = rw (← (c .before .before .before .owner .ensures), ← (c .before .before .is-red .ensures)) (c .before .if2 .left) in (c .before .before .before .before .before .before .before .before .pre, e, c .before .before .before .before .before .if1 .left)
+insert-under-black-requires : tie.Need-insert-under-black-requires
+insert-under-black-requires c κs = let a = c .before .before .before .before .before .before .before .before .args in let e : isRed (a .pool .now) (owner (a .l)) ≡ false = rw (← (c .before .before .before .owner .ensures), ← (c .before .before .is-red .ensures)) (c .before .if2 .left) in (c .before .before .before .before .before .before .before .before .pre, e, c .before .before .before .before .before .if1 .left)
 
 same-length-2 : tie.Need-same-length-2
 same-length-2 c = search needs
 
 returns-3 : tie.Need-returns-3
-returns-3 c = c .before .before .insert-calm .ensures
+returns-3 c = c .before .before .insert-balanced .ensures
 
 pub insert-spec : {M : Type 1} → statement M
 insert-spec =
@@ -55,9 +55,9 @@ insert-spec =
     returns
     owner-requires
     is-red-requires
-    insert-climbing-requires
+    insert-under-red-requires
     same-length
     returns-2
-    insert-calm-requires
+    insert-under-black-requires
     same-length-2
     returns-3)

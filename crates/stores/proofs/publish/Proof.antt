@@ -2,7 +2,7 @@ use mathlib.Core.Bool.{not, true}
 use Rattle.stores.specs.Published.{awaiting, publishes-missed, published}
 use Rattle.heads.specs.Head.{at, FollowsReading}
 use mathlib.Core.Bool.{false≢true}
-use Rattle.types.specs.declared.Step.the-variants.{Publish}
+use Rattle.datatypes.specs.declared.Step.the-variants.{Publish}
 use Rattle.laws.specs.Turns.{no-node, no-free, takes-node}
 use Rattle.spec.specs.Turn.{stepFinds, stepMade}
 use Rattle.spec.specs.Free.{queueEmpty, retire}

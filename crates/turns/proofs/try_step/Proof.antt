@@ -1,7 +1,7 @@
 use Rattle.spec.specs.Register.{withWrite}
 use Rattle.heads.specs.Head.{tells-missed}
 use Rattle.spec.specs.Turn.{stepFinds}
-use Rattle.types.specs.declared.Step.the-variants.{Vacant}
+use Rattle.datatypes.specs.declared.Step.the-variants.{Vacant}
 use mathlib.Core.Path.{refl}
 use borrow.Author.Needs.{needs}
 use Rattle.turns.proofs.try_step.Statement.{statement}

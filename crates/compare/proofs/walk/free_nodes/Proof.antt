@@ -12,10 +12,10 @@ use Rattle.compare.proofs.walk.nodes.Reads as nodes-reads
 use Rattle.compare.proofs.walk.word.Reads as word-reads
 
 abbrev Inv-loop : tie.InvT-loop
-Inv-loop pool top free₀ n₀ free n = free ≤ n
+Inv-loop pool capacity free₀ n₀ free n = free ≤ n
 
 abbrev μ-loop : tie.MeasureT-loop
-μ-loop pool top free₀ n₀ free n = top - n
+μ-loop pool capacity free₀ n₀ free n = capacity - n
 
 nodes-requires : tie.Need-nodes-requires Inv-loop μ-loop
 nodes-requires c κs = search needs

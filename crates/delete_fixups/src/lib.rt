@@ -1,0 +1,80 @@
+// What a delete loses: the climb after a black place is lost, and its colours.
+use datatypes::Ending;
+use datatypes::Fixup;
+use datatypes::Side;
+ghost use mathlib.Core.Path.{_≡_};
+ghost use mathlib.Core.Bool.{cond};
+ghost use Prim.Native.Nat.{ℕ, _≤_};
+ghost use lib.Dec.{eqb};
+ghost use lib.ListN.{length, getD};
+ghost use Rattle.datatypes.specs.declared.Register.{Register};
+ghost use Rattle.datatypes.specs.declared.Link.the-variants.{Root};
+ghost use Rattle.spec.specs.Register.{state, nodeAt};
+ghost use Rattle.spec.specs.Plan.{twoChildren, onlyChild, fixupAfterRemoval, paintEnd, paintDeleteFixup};
+ghost use Rattle.paths.specs.Upward.{upward};
+
+pub fn two_children(pool: &[u32], b: u32) -> bool
+    ensures { λ r. ⌜ r ≡ twoChildren (now (pool .entry)) b ⌝ }
+{
+    let left = pool::child(pool, Side::L, b);
+    let right = pool::child(pool, Side::R, b);
+    (left != 0) & (right != 0)
+}
+
+// the child of a node that has at most one, or 0
+pub fn only_child(pool: &[u32], b: u32) -> u32
+    ensures { λ r. ⌜ r ≡ onlyChild (now (pool .entry)) b ⌝ }
+{
+    let left = pool::child(pool, Side::L, b);
+    let right = pool::child(pool, Side::R, b);
+    register::choose(left == 0, right, left)
+}
+
+// The climb after the colour of node n is lost at the end of a path of c links, where x came.
+pub fn fixup_after_removal(pool: &[u32], n: u32, x: u32, path: &[u64], c: u32) -> Fixup
+    requires { ⌜ (c ≤ length (now path)) × (c ≤ 66) ⌝ }
+    ensures { λ r. ⌜ r ≡ fixupAfterRemoval (now (pool .entry)) n x (upward (now (path .entry)) c) ⌝ }
+{
+    if pool::is_red(pool, n) {
+        return fixups::fixup_result(0, Ending::Balanced);
+    }
+    fixups::delete_fixup(pool, path, c, 0, x)
+}
+
+// the node that a climb of m levels ended at
+fn end_node(pool: &[u32], root: u32, path: &[u64], c: u32, m: u32, x: u32) -> u32
+    requires { ⌜ c ≤ length (now path) ⌝ }
+    ensures { λ r. ⌜ r ≡ cond (eqb m 0) x (nodeAt (now (pool .entry)) root (getD (upward (now (path .entry)) c) m Root)) ⌝ }
+{
+    if m == 0 {
+        return x;
+    }
+    if c <= m {
+        return root;
+    }
+    register::node_at(pool, root, paths::link_in(path, c - 1 - m))
+}
+
+// the node n that a climb ended at, black where the ending says so
+fn paint_end(pool: &mut [u32], e: Ending, n: u32)
+    ensures { λ _. ⌜ ((reg : Register) → now (pool .exit) ≡ paintEnd e (state (now (pool .entry)) reg) n) ⌝ }
+{
+    match e {
+        Ending::Balanced => {}
+        Ending::Blacken => pool::set_word(pool, n, pool::COLOUR, pool::BLACK),
+        Ending::Rotate(_) => {}
+        Ending::RotateTwice(_, _) => {}
+        Ending::Missing => {}
+    }
+}
+
+// The colours of a climb along a path of c links, where x came. Of the register only the root is read.
+pub fn paint_delete_fixup(pool: &mut [u32], root: u32, k: Fixup, x: u32, path: &[u64], c: u32)
+    requires { ⌜ c ≤ length (now path) ⌝ }
+    ensures { λ _. ⌜ ((reg : Register) → reg .root ≡ root → now (pool .exit) ≡ paintDeleteFixup (state (now (pool .entry)) reg) k x (upward (now (path .entry)) c) .pool) ⌝ }
+{
+    let end = end_node(pool, root, path, c, k.levels, x);
+    fixups::paint_delete_levels(pool, path, c, k.levels);
+    let ending = k.ending;
+    paint_end(pool, ending, end);
+}

@@ -1,0 +1,236 @@
+// The climbs of colour work along a path, and the colours of the levels that they pass.
+use datatypes::Ending;
+use datatypes::Fixup;
+use datatypes::Form;
+use datatypes::Link;
+use datatypes::Purpose;
+use datatypes::Rotation;
+use datatypes::Side;
+ghost use mathlib.Core.Path.{_≡_};
+ghost use mathlib.Core.Bool.{cond};
+ghost use Prim.Native.Nat.{ℕ, _<_, _≤_, _+_};
+ghost use lib.ListN.{length};
+ghost use Rattle.datatypes.specs.declared.Form.the-variants.{Diag, Zig};
+ghost use Rattle.datatypes.specs.Side.{sameSide};
+ghost use Rattle.spec.specs.Pool.{paint, blackColour, redColour};
+ghost use Rattle.spec.specs.Plan.{fixupResult, insertFixup, paintInsertFixup, redChild, blackSibling as blackSiblingOf, redSibling, deleteFixup, paintDeleteLevels, missing};
+ghost use Rattle.spec.specs.Turn.{nodesFound};
+ghost use Rattle.paths.specs.Upward.{upward};
+
+pub fn fixup_result(levels: u32, ending: Ending) -> Fixup
+    ensures { λ r. ⌜ r ≡ fixupResult levels ending ⌝ }
+{
+    Fixup { levels, ending }
+}
+
+// whether a climb ended at a node that is not there
+pub fn missing(e: Ending) -> bool
+    ensures { λ r. ⌜ r ≡ missing e ⌝ }
+{
+    match e {
+        Ending::Balanced => false,
+        Ending::Blacken => false,
+        Ending::Rotate(_) => false,
+        Ending::RotateTwice(_, _) => false,
+        Ending::Missing => true,
+    }
+}
+
+// whether a climb found every node that it names
+pub fn nodes_found(k: Fixup) -> bool
+    ensures { λ r. ⌜ r ≡ nodesFound k ⌝ }
+{
+    let ending = k.ending;
+    let gone = missing(ending);
+    !gone
+}
+
+// a diag on the outer side, a zig on the inner one
+fn form_of(x: Side, y: Side) -> Form
+    ensures { λ r. ⌜ r ≡ cond (sameSide x y) Diag Zig ⌝ }
+{
+    match x {
+        Side::L => match y {
+            Side::L => Form::Diag,
+            Side::R => Form::Zig,
+        },
+        Side::R => match y {
+            Side::L => Form::Zig,
+            Side::R => Form::Diag,
+        },
+    }
+}
+
+// Insert's climb from the c-th link of a path, with m levels passed.
+pub fn insert_fixup(pool: &[u32], path: &[u64], c: u32, m: u32) -> Fixup
+    requires { ⌜ (c ≤ length (now path)) × (m + c ≤ 66) ⌝ }
+    ensures { λ r. ⌜ r ≡ insertFixup (now (pool .entry)) m (upward (now (path .entry)) c) ⌝ }
+{
+    let mut d = c;
+    let mut e = m;
+    while d > 1 {
+        let x = paths::link_in(path, d - 1);
+        if pool::is_red(pool, register::owner(x)) {} else {
+            return fixup_result(e, Ending::Balanced);
+        }
+        if d == 2 {
+            return fixup_result(e, Ending::Missing);
+        }
+        let y = paths::link_in(path, d - 2);
+        let s = register::side_of(y);
+        let aunt = pool::child(pool, pool::other(s), register::owner(y));
+        if pool::is_red(pool, aunt) {} else {
+            let link = paths::link_in(path, d - 3);
+            let form = form_of(register::side_of(x), s);
+            let rotation = Rotation {
+                link,
+                form,
+                side: s,
+                purpose: Purpose::ForInsert,
+            };
+            return fixup_result(e, Ending::Rotate(rotation));
+        }
+        d -= 2;
+        e += 1;
+    }
+    if d == 0 {
+        return fixup_result(e, Ending::Missing);
+    }
+    fixup_result(e, Ending::Balanced)
+}
+
+// the colours of one level: parent and aunt black, grandparent red
+fn paint_level(pool: &mut [u32], parent: u32, aunt: u32, grandparent: u32)
+    ensures { λ _. ⌜ now (pool .exit) ≡ paint (paint (paint (now (pool .entry)) parent blackColour) aunt blackColour) grandparent redColour ⌝ }
+{
+    pool::set_word(pool, parent, pool::COLOUR, pool::BLACK);
+    pool::set_word(pool, aunt, pool::COLOUR, pool::BLACK);
+    pool::set_word(pool, grandparent, pool::COLOUR, pool::RED);
+}
+
+// The colours of m levels from the c-th link of a path.
+pub fn paint_insert_fixup(pool: &mut [u32], path: &[u64], c: u32, m: u32)
+    requires { ⌜ c ≤ length (now path) ⌝ }
+    ensures { λ _. ⌜ now (pool .exit) ≡ paintInsertFixup m (upward (now (path .entry)) c) (now (pool .entry)) ⌝ }
+{
+    let mut d = c;
+    let mut e = m;
+    while e > 0 {
+        if d < 2 {
+            return;
+        }
+        let x = paths::link_in(path, d - 1);
+        let y = paths::link_in(path, d - 2);
+        let aunt = pool::child(pool, pool::other(register::side_of(y)), register::owner(y));
+        paint_level(pool, register::owner(x), aunt, register::owner(y));
+        d -= 2;
+        e -= 1;
+    }
+}
+
+// whether a child of w is red
+pub fn red_child(pool: &[u32], w: u32) -> bool
+    ensures { λ r. ⌜ r ≡ redChild (now (pool .entry)) w ⌝ }
+{
+    pool::is_red(pool, pool::child(pool, Side::L, w))
+        | pool::is_red(pool, pool::child(pool, Side::R, w))
+}
+
+fn form_if(outer: bool) -> Form
+    ensures { λ r. ⌜ r ≡ cond outer Diag Zig ⌝ }
+{
+    if outer { Form::Diag } else { Form::Zig }
+}
+
+// a black sibling w with a red child, on the side z under the link l
+fn black_sibling(pool: &[u32], l: Link, z: Side, w: u32) -> Rotation
+    ensures { λ r. ⌜ r ≡ blackSiblingOf (now (pool .entry)) l z w ⌝ }
+{
+    let form = form_if(pool::is_red(pool, pool::child(pool, z, w)));
+    Rotation {
+        link: l,
+        form,
+        side: z,
+        purpose: Purpose::BlackSibling,
+    }
+}
+
+// a red sibling w
+fn red_sibling(pool: &[u32], l: Link, z: Side, w: u32) -> Ending
+    ensures { λ r. ⌜ r ≡ redSibling (now (pool .entry)) l z w ⌝ }
+{
+    let s = pool::other(z);
+    let inner = pool::child(pool, s, w);
+    if inner == 0 {
+        return Ending::Missing;
+    }
+    let first = Rotation {
+        link: l,
+        form: Form::Diag,
+        side: z,
+        purpose: Purpose::RedSibling,
+    };
+    if red_child(pool, inner) {
+        let second = black_sibling(pool, register::link_at(s, w), z, inner);
+        return Ending::RotateTwice(first, second);
+    }
+    Ending::Rotate(first)
+}
+
+// Delete's climb from the c-th link of a path, where x came, with m levels passed.
+pub fn delete_fixup(pool: &[u32], path: &[u64], c: u32, m: u32, x: u32) -> Fixup
+    requires { ⌜ (c ≤ length (now path)) × (m + c ≤ 66) ⌝ }
+    ensures { λ r. ⌜ r ≡ deleteFixup (now (pool .entry)) m x (upward (now (path .entry)) c) ⌝ }
+{
+    let mut d = c;
+    let mut e = m;
+    let mut node = x;
+    loop {
+        if pool::is_red(pool, node) {
+            return fixup_result(e, Ending::Blacken);
+        }
+        if d == 0 {
+            return fixup_result(e, Ending::Missing);
+        }
+        if d == 1 {
+            return fixup_result(e, Ending::Balanced);
+        }
+        let l = paths::link_in(path, d - 1);
+        let z = pool::other(register::side_of(l));
+        let parent = register::owner(l);
+        let w = pool::child(pool, z, parent);
+        if w == 0 {
+            return fixup_result(e, Ending::Missing);
+        }
+        let above = paths::link_in(path, d - 2);
+        if pool::is_red(pool, w) {
+            return fixup_result(e, red_sibling(pool, above, z, w));
+        }
+        if red_child(pool, w) {
+            let rotation = black_sibling(pool, above, z, w);
+            return fixup_result(e, Ending::Rotate(rotation));
+        }
+        d -= 1;
+        e += 1;
+        node = parent;
+    }
+}
+
+// The colours of m levels from the c-th link of a path: each sibling red.
+pub fn paint_delete_levels(pool: &mut [u32], path: &[u64], c: u32, m: u32)
+    requires { ⌜ c ≤ length (now path) ⌝ }
+    ensures { λ _. ⌜ now (pool .exit) ≡ paintDeleteLevels m (upward (now (path .entry)) c) (now (pool .entry)) ⌝ }
+{
+    let mut d = c;
+    let mut e = m;
+    while e > 0 {
+        if d == 0 {
+            return;
+        }
+        let l = paths::link_in(path, d - 1);
+        let w = pool::child(pool, pool::other(register::side_of(l)), register::owner(l));
+        pool::set_word(pool, w, pool::COLOUR, pool::RED);
+        d -= 1;
+        e -= 1;
+    }
+}

@@ -1,0 +1,173 @@
+-- What a call does, case by case: it is refused and changes nothing, or it does one of these, its tests passed.
+use Prim.Native.Nat.{ℕ, _<_}
+use mathlib.Core.Path.{_≡_, refl, sym}
+use mathlib.Core.Bool.{Bool, true, false, cond, not, _&&_}
+use mathlib.Core.List.{List, [], _∷_}
+use mathlib.Core.Logic.{_≢_}
+use native.Mathlib.Omega.{arith}
+use native.Mathlib.Decide.{ℕ-discrete}
+use lib.Dec.{eqb}
+use borrow.Author.Tests.{eqb-true, eqb-false, leb-false}
+use Rattle.spec.specs.Pool.{word, child, keyWord, recordWord, slots}
+use Rattle.spec.specs.Register.{State, state, readerOf, storeOf, withReader, withWrite, writeOf}
+use Rattle.spec.specs.Free.{endReading}
+use Rattle.spec.specs.Search.{towards}
+use Rattle.spec.specs.Turn.{stepFinds, stepMade}
+use Rattle.spec.specs.Calls.{ok, go, absent, wait, found, refused, Outcome, outcome, Test, _gives_, firstOf, unless, wrongLength, outOfRange, slotTooHigh, reading, writeInHand, placeOf, insertAt, deleteAt, insert, delete, stored, writerTurn, begin, loaded, readerStep, readerTests, tooDeep, isHeld, full, fewerFree, readerTurn, giveUp, Call, inserting, deleting, writing, beginning, turning, givingUp, call}
+use Rattle.readers.specs.Descends.{step-root, step-found, step-child, load-none, load-some}
+
+-- the node that slot s loads next: the root, or the child by comparing
+pub data Loads (st : State) (s n : ℕ) : Type 0 where
+  atRoot : readerOf (st .register) s .node ≡ 0 → n ≡ st .register .root → Loads st s n
+  atNode : readerOf (st .register) s .node ≢ 0 → readerOf (st .register) s .key ≢ word (st .pool) (readerOf (st .register) s .node) keyWord
+      → n ≡ child (st .pool) (towards (st .pool) (readerOf (st .register) s .key) (readerOf (st .register) s .node)) (readerOf (st .register) s .node) → Loads st s n
+
+pub record Passed (st : State) (s : ℕ) : Type 0 where
+  pub low : s < slots
+  pub reads : reading st s ≡ true
+
+-- the tests of insert and delete, and of a writer's turn
+abbrev pub insertTests : State → ℕ → ℕ → List Test
+insertTests st k v =
+    wrongLength st gives 1
+    ∷ outOfRange st gives 2
+    ∷ writeInHand st gives 6
+    ∷ tooDeep (placeOf st k) gives 12
+    ∷ isHeld (placeOf st k) gives 8
+    ∷ full st gives 10
+    ∷ fewerFree st 3 gives 11
+    ∷ not (insertAt st k v (placeOf st k) .possible) gives 12
+    ∷ []
+
+abbrev pub deleteTests : State → ℕ → List Test
+deleteTests st k =
+    wrongLength st gives 1
+    ∷ outOfRange st gives 2
+    ∷ writeInHand st gives 6
+    ∷ tooDeep (placeOf st k) gives 12
+    ∷ not (isHeld (placeOf st k)) gives 9
+    ∷ fewerFree st 4 gives 11
+    ∷ not (deleteAt st (placeOf st k) .possible) gives 12
+    ∷ []
+
+abbrev pub waiting : State → Bool
+waiting st = not (eqb (st .register .awaited) 0)
+
+abbrev pub own : State → Bool
+own st = stepFinds st (storeOf (st .register) 0 .link) (storeOf (st .register) 0 .step)
+
+abbrev pub turnTests : State → List Test
+turnTests st =
+    wrongLength st gives 1
+    ∷ outOfRange st gives 2
+    ∷ not (writeInHand st) gives 7
+    ∷ (not (waiting st) && not (own st)) gives 12
+    ∷ []
+
+abbrev pub beginTests : State → ℕ → List Test
+beginTests st s =
+    wrongLength st gives 1
+    ∷ outOfRange st gives 2
+    ∷ slotTooHigh s gives 3
+    ∷ reading st s gives 4
+    ∷ []
+
+-- the tests of each call
+abbrev pub testsOf : State → Call → List Test
+testsOf st (inserting k v) = insertTests st k v
+testsOf st (deleting k) = deleteTests st k
+testsOf st writing = turnTests st
+testsOf st (beginning s k) = beginTests st s
+testsOf st (turning s) = readerTests st s
+testsOf st (givingUp s) = readerTests st s
+
+pub data CallCase (st : State) : Call → Outcome → Type 0 where
+  refuses : (c : Call) → firstOf (testsOf st c) ≢ 0 → CallCase st c (outcome (refused (firstOf (testsOf st c))) st)
+  plansInsert : (k v : ℕ) → firstOf (insertTests st k v) ≡ 0
+      → CallCase st (inserting k v) (outcome ok (state (st .pool) (withWrite (st .register) (writeOf (insertAt st k v (placeOf st k) .stores)))))
+  plansDelete : (k : ℕ) → firstOf (deleteTests st k) ≡ 0
+      → CallCase st (deleting k) (outcome ok (state (st .pool) (withWrite (st .register) (writeOf (deleteAt st (placeOf st k) .stores)))))
+  waits : st .register .awaited ≢ 0 → CallCase st writing (outcome wait st)
+  stores : st .register .awaited ≡ 0 → writeInHand st ≡ true → stepFinds st (storeOf (st .register) 0 .link) (storeOf (st .register) 0 .step) ≡ true
+      → CallCase st writing (stored (stepMade st (storeOf (st .register) 0 .link) (storeOf (st .register) 0 .step)))
+  begins : (s k : ℕ) → s < slots → reading st s ≡ false
+      → CallCase st (beginning s k) (outcome ok (state (st .pool) (withReader (st .register) s (record { reading = true; key = k; node = 0 }))))
+  loads : (s n : ℕ) → Passed st s → Loads st s n → n ≢ 0
+      → CallCase st (turning s) (outcome go (state (st .pool) (withReader (st .register) s (record { reading = true; key = readerOf (st .register) s .key; node = n }))))
+  misses : (s n : ℕ) → Passed st s → Loads st s n → n ≡ 0 → CallCase st (turning s) (outcome absent (endReading st s))
+  finds : (s : ℕ) → Passed st s → readerOf (st .register) s .node ≢ 0 → readerOf (st .register) s .key ≡ word (st .pool) (readerOf (st .register) s .node) keyWord
+      → CallCase st (turning s) (outcome (found (word (st .pool) (readerOf (st .register) s .node) recordWord)) (endReading st s))
+  leaves : (s : ℕ) → Passed st s → CallCase st (givingUp s) (outcome ok (endReading st s))
+
+-- a call with tests: refused, or all tests passed
+tested : (st : State) (c : Call) (o : Outcome) → (firstOf (testsOf st c) ≡ 0 → CallCase st c o) → CallCase st c (unless (testsOf st c) st o)
+tested st c o h = go (eqb (firstOf (testsOf st c)) 0) refl
+  where
+    go : (b : Bool) → eqb (firstOf (testsOf st c)) 0 ≡ b → CallCase st c (cond b o (outcome (refused (firstOf (testsOf st c))) st))
+    go true e = h (eqb-true (firstOf (testsOf st c)) 0 e)
+    go false e = refuses c (eqb-false (firstOf (testsOf st c)) 0 e)
+
+-- all tests passed, their numbers not being 0
+abbrev pub Clear : List Test → Type 0
+Clear [] = Unit {0}
+Clear ((b gives n) ∷ ts) = (b ≡ false) × Clear ts
+
+abbrev pub Numbered : List Test → Type 0
+Numbered [] = Unit {0}
+Numbered ((b gives n) ∷ ts) = (n ≢ 0) × Numbered ts
+
+pub clear : (ts : List Test) → Numbered ts → firstOf ts ≡ 0 → Clear ts
+clear [] h e = tt
+clear ((true gives n) ∷ ts) h e = absurd (h .0 e)
+clear ((false gives n) ∷ ts) h e = (refl, clear ts (h .1) e)
+
+pub not-false : (b : Bool) → not b ≡ false → b ≡ true
+not-false true e = refl
+not-false false e = sym e
+
+load-callCase : (st : State) (s n : ℕ) → Passed st s → Loads st s n → CallCase st (turning s) (loaded st s (readerOf (st .register) s .key) n)
+load-callCase st s n p l = elim (ℕ-discrete n 0) [
+  | yes e ↦ rw (load-none st s (readerOf (st .register) s .key) n e) (misses s n p l e)
+  | no d ↦ rw (load-some st s (readerOf (st .register) s .key) n d) (loads s n p l d)
+]
+
+step-callCase : (st : State) (s : ℕ) → Passed st s → CallCase st (turning s) (readerStep st s)
+step-callCase st s p =
+    let x = readerOf (st .register) s in
+    elim (ℕ-discrete (x .node) 0) [
+      | yes e ↦ rw (step-root st s x refl e) (load-callCase st s (st .register .root) p (atRoot e refl))
+      | no d ↦ elim (ℕ-discrete (x .key) (word (st .pool) (x .node) keyWord)) [
+        | yes e ↦ rw (step-found st s x refl d e) (finds s p d e)
+        | no e ↦ rw (step-child st s x refl d e) (load-callCase st s _ p (atNode d e refl))
+      ]
+    ]
+
+turn-callCase : (st : State) → firstOf (turnTests st) ≡ 0 → CallCase st writing (cond (waiting st) (outcome wait st) (stored (stepMade st (storeOf (st .register) 0 .link) (storeOf (st .register) 0 .step))))
+turn-callCase st e =
+    let c = clear (turnTests st) (omega arith, (omega arith, (omega arith, (omega arith, tt)))) e in
+    go (eqb (st .register .awaited) 0) refl (not-false (writeInHand st) (c .1 .1 .0)) (c .1 .1 .1 .0)
+  where
+    go : (x : Bool) → eqb (st .register .awaited) 0 ≡ x → writeInHand st ≡ true → (not (not x) && not (own st)) ≡ false
+        → CallCase st writing (cond (not x) (outcome wait st) (stored (stepMade st (storeOf (st .register) 0 .link) (storeOf (st .register) 0 .step))))
+    go true x w f = stores (eqb-true (st .register .awaited) 0 x) w (not-false (own st) f)
+    go false x w f = waits (eqb-false (st .register .awaited) 0 x)
+
+passed : (st : State) (s : ℕ) → firstOf (readerTests st s) ≡ 0 → Passed st s
+passed st s e =
+    let c = clear (readerTests st s) (omega arith, (omega arith, (omega arith, (omega arith, tt)))) e in
+    record { low = leb-false slots s (c .1 .1 .0); reads = not-false (reading st s) (c .1 .1 .1 .0) }
+
+begin-callCase : (st : State) (s k : ℕ) → firstOf (beginTests st s) ≡ 0
+    → CallCase st (beginning s k) (outcome ok (state (st .pool) (withReader (st .register) s (record { reading = true; key = k; node = 0 }))))
+begin-callCase st s k e =
+    let c = clear (beginTests st s) (omega arith, (omega arith, (omega arith, (omega arith, tt)))) e in
+    begins s k (leb-false slots s (c .1 .1 .0)) (c .1 .1 .1 .0)
+
+pub callCase : (st : State) (c : Call) → CallCase st c (call st c)
+unfolding insert delete writerTurn begin readerTurn giveUp
+callCase st (inserting k v) = tested st (inserting k v) (outcome ok (state (st .pool) (withWrite (st .register) (writeOf (insertAt st k v (placeOf st k) .stores))))) (plansInsert k v)
+callCase st (deleting k) = tested st (deleting k) (outcome ok (state (st .pool) (withWrite (st .register) (writeOf (deleteAt st (placeOf st k) .stores))))) (plansDelete k)
+callCase st writing = tested st writing (cond (waiting st) (outcome wait st) (stored (stepMade st (storeOf (st .register) 0 .link) (storeOf (st .register) 0 .step)))) (turn-callCase st)
+callCase st (beginning s k) = tested st (beginning s k) (outcome ok (state (st .pool) (withReader (st .register) s (record { reading = true; key = k; node = 0 })))) (begin-callCase st s k)
+callCase st (turning s) = tested st (turning s) (readerStep st s) (λ e. step-callCase st s (passed st s e))
+callCase st (givingUp s) = tested st (givingUp s) (outcome ok (endReading st s)) (λ e. leaves s (passed st s e))

@@ -1,0 +1,10 @@
+pub mod Nodes
+pub mod Ways
+pub mod Steps
+pub mod StoreFacts
+pub mod Tickets
+pub mod Laters
+pub mod WriterSide
+pub mod Rests
+pub mod Deletes
+pub mod Theorem

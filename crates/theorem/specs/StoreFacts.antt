@@ -1,0 +1,194 @@
+-- A turn on a phase (heap: Writes.turn) gives all that the readers' side asks of a store (runs: Stores), and the nodes linked afterwards are
+-- again those of the tree.
+use Prim.Native.Nat.{ℕ, _<_}
+use mathlib.Core.Path.{_≡_, refl, sym, _∙_, subst}
+use mathlib.Core.Logic.{_⊎_, inl, inr, ⊎-elim, _↔_}
+use mathlib.Core.List.{List, [], _∷_}
+use native.Mathlib.Omega.{arith}
+use lib.ListN.{length}
+use borrow.Author.Tests.{eq-eqb}
+use Rattle.datatypes.specs.declared.Side.{Side}
+use Rattle.datatypes.specs.declared.Side.the-variants.{L, R}
+use Rattle.datatypes.specs.declared.Link.{Link}
+use Rattle.datatypes.specs.declared.Link.the-variants.{Root, Left, Right}
+use Rattle.datatypes.specs.declared.Step.{Step}
+use Rattle.datatypes.specs.declared.Step.the-variants.{Vacant, Insert, DiagLower, DiagRaise, ZigLowerA, ZigLowerC, ZigRaise, Unlink, Adopt, Replace, Publish, Detach}
+use Rattle.datatypes.specs.declared.Store.{Store}
+use Rattle.datatypes.specs.declared.Register.{Register}
+use Rattle.datatypes.specs.Side.{owner}
+use Rattle.spec.specs.Pool.{child, standingLinked}
+use Rattle.spec.specs.Register.{State, state, withWrite, readingSlots, lessFirst}
+use Rattle.spec.specs.Turn.{Made, insertStore, stepMade}
+use Rattle.spec.specs.Calls.{stored}
+use Rattle.sequential.specs.Tree.{Tree}
+use Rattle.tree.specs.Distinct.{_∈_, in-append}
+use Rattle.tree.specs.Linked.{Linked, nil, cell, path, nodes}
+use Rattle.tree.specs.Thin.{Thin}
+use Rattle.tree.specs.Zipper.{Thins}
+use Rattle.tree.specs.Occurs.{occ-in}
+use Rattle.heap.specs.Rep.{Rep}
+use Rattle.heap.specs.Shift.{Shift, listStore, takenBy, awaitedAfter, Ready, Next, later}
+use Rattle.heap.specs.Run.{phase-rep}
+use Rattle.heap.specs.Writes.{InHand, turn}
+use Rattle.heap.specs.Writes as Writes
+use Rattle.readers.specs.Owned.{Slots, Owned, slots-reading}
+use Rattle.readers.specs.Reach.{HasStanding}
+use Rattle.readers.specs.Lookups.{Unlinked}
+use Rattle.readers.specs.Stored.{OwnerLinked}
+use Rattle.readers.specs.Turns.{Turn, turn-write}
+use Rattle.readers.specs.Steps as Steps
+use Rattle.readers.specs.Safe.{Safe}
+use Rattle.runs.specs.Writer.{Stores}
+use Rattle.theorem.specs.Nodes.{Moves, shift-moves}
+use Rattle.theorem.specs.Ways.{shift-owner, shift-gone, shift-ways, plain-none}
+use Rattle.theorem.specs.Steps.{QueueKept, parts-turn}
+
+-- the link of a tree's node unfolds
+sub-rep : (p : List ℕ) (t : Linked) (a d : ℕ) (z : Side) → Rep p a t → d ∈ nodes t → (u : Linked) × Rep p (child p z d) u
+sub-rep p nil a d z h i = absurd i
+sub-rep p (cell N l r) a d L h (inl e) = (l, rw e (h .1))
+sub-rep p (cell N l r) a d R h (inl e) = (r, rw e (h .2))
+sub-rep p (cell N l r) a d z h (inr i) = ⊎-elim (λ j. sub-rep p l _ d z (h .1) j) (λ j. sub-rep p r _ d z (h .2) j) (in-append d (nodes l) (nodes r) .0 i)
+
+-- the stored link's value unfolds
+value-rep : (st after : State) (came gone : List ℕ) (k : Link) (v : ℕ) (T′ : Linked) → Turn st after came gone k v → Rep (after .pool) (after .register .root) T′ → OwnerLinked (st .pool) k
+    → ((n : ℕ) → HasStanding (st .pool) n standingLinked → owner k ≡ n → (n ∈ nodes T′) × (¬ (n ∈ came))) → (u : Linked) × Rep (after .pool) v u
+value-rep st after came gone Root v T′ t h o f = (T′, subst (λ a. Rep (after .pool) a T′) (t .root) h)
+value-rep st after came gone (Left d) v T′ t h o f =
+    let a = f d o refl in
+    let u = sub-rep (after .pool) T′ _ d L h (a .0) in
+    (u .0, subst (λ i. Rep (after .pool) i (u .0)) (t .links d L (a .1) ∙ rw (eq-eqb d d refl)) (u .1))
+value-rep st after came gone (Right d) v T′ t h o f =
+    let a = f d o refl in
+    let u = sub-rep (after .pool) T′ _ d R h (a .0) in
+    (u .0, subst (λ i. Rep (after .pool) i (u .0)) (t .links d R (a .1) ∙ rw (eq-eqb d d refl)) (u .1))
+
+insert-linked : (st : State) (s : Link) (k w : ℕ) → Safe st → (q : List ℕ) → Owned st (st .register .first ∷ q) → OwnerLinked (st .pool) (stepMade st s (Insert k w) .link)
+    → (i : ℕ) → HasStanding (st .pool) i standingLinked → HasStanding (stepMade st s (Insert k w) .after .pool) i standingLinked
+unfolding stepMade insertStore
+insert-linked st s k w safe q h o i e = Steps.insert-step st (st .register .first) q (safe .whole) h s k w o .turn .linked i .1 (inl e, λ z. z)
+
+-- awaited slots afterwards
+await-slots : (x : Step) (r : Register) → Slots (r .readers) (r .awaited) → Slots (r .readers) (awaitedAfter x r)
+await-slots Vacant r h = h
+await-slots (Insert k v) r h = h
+await-slots (DiagLower s c) r h = h
+await-slots (DiagRaise s c) r h = h
+await-slots (ZigLowerA s c) r h = h
+await-slots (ZigLowerC s c) r h = h
+await-slots (ZigRaise s c) r h = h
+await-slots Unlink r h = h
+await-slots Adopt r h = h
+await-slots Replace r h = h
+await-slots (Publish c) r h = slots-reading r
+await-slots (Detach k) r h = h
+
+-- a step that takes a node and lets one go is a publish: it alone is a list store that takes, but for an insert, which lets none go
+both-publish : (x : Step) (n : ℕ) (r : Register) {T T′ : Linked} {l : Link} {v : ℕ} {gone : List ℕ} → Shift T T′ l v (takenBy x n) gone (listStore x) → 0 < length (takenBy x n) → 0 < length gone
+    → (awaitedAfter x r ≡ readingSlots r) ⊎ ((k : ℕ) × (w : ℕ) × (x ≡ Insert k w))
+both-publish Vacant n r sh a b = absurd (omega arith)
+both-publish (Insert k v) n r sh a b = inr (k, v, refl)
+both-publish (DiagLower s c) n r sh a b = absurd (plain-none sh a b)
+both-publish (DiagRaise s c) n r sh a b = absurd (omega arith)
+both-publish (ZigLowerA s c) n r sh a b = absurd (plain-none sh a b)
+both-publish (ZigLowerC s c) n r sh a b = absurd (plain-none sh a b)
+both-publish (ZigRaise s c) n r sh a b = absurd (omega arith)
+both-publish Unlink n r sh a b = absurd (omega arith)
+both-publish Adopt n r sh a b = absurd (omega arith)
+both-publish Replace n r sh a b = absurd (omega arith)
+both-publish (Publish c) n r sh a b = inl refl
+both-publish (Detach k) n r sh a b = absurd (omega arith)
+
+-- after an insert no node has gone
+insert-stays : (st : State) (s : Link) (y : Step) (k w : ℕ) → y ≡ Insert k w → Safe st → QueueKept st (takenBy y (st .register .first)) → OwnerLinked (st .pool) (stepMade st s y .link)
+    → (i : ℕ) → HasStanding (st .pool) i standingLinked → HasStanding (stepMade st s y .after .pool) i standingLinked
+insert-stays st s y k w e safe q o i h =
+    subst (λ z. QueueKept st (takenBy z (st .register .first)) → OwnerLinked (st .pool) (stepMade st s z .link) → HasStanding (stepMade st s z .after .pool) i standingLinked) (sym e)
+    (λ a b. insert-linked st s k w safe (a .0) (a .1) b i h) q o
+
+-- the state after a store, the rest of the write in hand aside
+write-awaited : (r : Register) (w : _) → withWrite r w .awaited ≡ r .awaited
+unfolding withWrite
+write-awaited r w = refl
+
+pub after-is : (m : Made) → stored m .after ≡ state (m .after .pool) (withWrite (m .after .register) (lessFirst (m .after .register .write)))
+unfolding stored
+after-is m = refl
+
+module _ (st : State) (G : Tree) (T : Linked) (x : Store) (l : List Store) (safe : Safe st) (hand : InHand st G T (x ∷ l)) (lk : (n : ℕ) → HasStanding (st .pool) n standingLinked ↔ (n ∈ nodes T))
+    (ready : Ready st T (takenBy (x .step) (st .register .first))) (exactOf : QueueKept st (takenBy (x .step) (st .register .first))) where
+  abbrev pub made : Made
+  made = stepMade st (x .link) (x .step)
+
+  abbrev pub turned : Writes.Turn st G T x l
+  turned = turn st G T x l hand ready
+
+  abbrev pub next : Next st G T made (x .step) (later st (x .link) (x .step) l)
+  next = turned .next
+
+  rep : Rep (st .pool) (st .register .root) T
+  rep = phase-rep (hand .phase)
+
+  rep′ : Rep (stored made .after .pool) (stored made .after .register .root) (next .tree)
+  rep′ = phase-rep (turned .in-hand .phase)
+
+  met : Turn st (made .after) (takenBy (x .step) (st .register .first)) (next .gone) (made .link) (made .node)
+  met = parts-turn st T (next .tree) made _ (next .gone) _ safe rep (λ n u. lk n .1 (occ-in n (nodes T) u)) (next .shift) (next .parts) exactOf
+      (rw (next .fields .awaited) (await-slots (x .step) (st .register) (safe .owned .awaited)))
+
+  pub met-turn : Turn st (stored made .after) (takenBy (x .step) (st .register .first)) (next .gone) (made .link) (made .node)
+  met-turn = rw (after-is made) (turn-write st (made .after) _ _ (made .link) (made .node) _ met)
+
+  moves : Moves (takenBy (x .step) (st .register .first)) (next .gone) T (next .tree)
+  moves = shift-moves (next .shift)
+
+  -- the linked nodes are the tree's
+  pub met-linked : (n : ℕ) → HasStanding (stored made .after .pool) n standingLinked ↔ (n ∈ nodes (next .tree))
+  met-linked n = (
+    λ e. (let a = met-turn .linked n .0 e in moves n .1 (⊎-elim (λ i. inl (lk n .0 i)) (λ i. inr i) (a .0), a .1)),
+    λ i. (let a = moves n .0 i in met-turn .linked n .1 (⊎-elim (λ j. inl (lk n .1 j)) (λ j. inr j) (a .0), a .1)),
+  )
+
+  own : OwnerLinked (st .pool) (made .link)
+  own = shift-owner (st .pool) (st .register .root) (next .shift) (λ n u. lk n .1 (occ-in n (nodes T) u))
+
+  stays : (n : ℕ) → HasStanding (st .pool) n standingLinked → owner (made .link) ≡ n → (n ∈ nodes (next .tree)) × (¬ (n ∈ takenBy (x .step) (st .register .first)))
+  stays n e o = (
+    moves n .1 (inl (lk n .0 e), λ j. shift-gone (st .pool) (st .register .root) (next .shift) rep n j .1 o),
+    λ j. (let a = met-turn .new n j in absurd (omega arith)),
+  )
+
+  ways : Thins (Unlinked (stored made .after .pool)) T (next .tree) ⊎ ((0 < length (takenBy (x .step) (st .register .first))) × (0 < length (next .gone)))
+      → ((k : ℕ) → Thin (Unlinked (stored made .after .pool)) (path T k) (path (next .tree) k)) ⊎ (stored made .after .register .awaited ≡ readingSlots (st .register))
+  ways (inl a) = inl a
+  ways (inr b) = go (both-publish (x .step) (st .register .first) (st .register) (next .shift) (b .0) (b .1))
+    where
+      gone-one : (g : List ℕ) → 0 < length g → (i : ℕ) × (i ∈ g)
+      gone-one [] u = absurd (omega arith)
+      gone-one (i ∷ g) u = (i, inl refl)
+
+      go : (awaitedAfter (x .step) (st .register) ≡ readingSlots (st .register)) ⊎ ((k : ℕ) × (w : ℕ) × (x .step ≡ Insert k w))
+          → ((k : ℕ) → Thin (Unlinked (stored made .after .pool)) (path T k) (path (next .tree) k)) ⊎ (stored made .after .register .awaited ≡ readingSlots (st .register))
+      go (inl e) = inr (rw (after-is made) (write-awaited (made .after .register) _ ∙ next .fields .awaited ∙ e))
+      go (inr e) =
+          let g = gone-one (next .gone) (b .1) in
+          let i = g .0 in
+          let h = lk i .1 (occ-in i (nodes T) (shift-gone (st .pool) (st .register .root) (next .shift) rep i (g .1) .0)) in
+          absurd (met .linked i .0 (insert-stays st (x .link) (x .step) (e .0) (e .1) (e .2) safe exactOf own i h) .1 (g .1))
+
+  pub met-stores : (W : Linked → Type 0) → W (next .tree) → Stores st (stored made .after) T W
+  met-stores W w =
+      let u = value-rep st (stored made .after) _ _ (made .link) (made .node) (next .tree) met-turn rep′ own stays in
+      record {
+        tree = next .tree;
+        came = takenBy (x .step) (st .register .first);
+        gone = next .gone;
+        link = made .link;
+        value = made .node;
+        turn = met-turn;
+        owner = own;
+        below = u .0;
+        unfolds = u .1;
+        ways = ways (shift-ways (Unlinked (stored made .after .pool)) (next .shift) (λ i j e. met-turn .linked i .0 e .1 j));
+        kept = w;
+      }

@@ -1,0 +1,76 @@
+-- The theorem: demands 2 and 3, and that 2 and 12 are never met, of every list of calls on a pool of any N from 8 to 1,023 just set up.
+use Prim.Native.Nat.{ℕ, _≤_}
+use mathlib.Core.Path.{_≡_, sym, _∙_, subst}
+use mathlib.Core.List.{List}
+use native.Mathlib.Omega.{arith}
+use native.Mathlib.Decide.{ℕ-discrete}
+use borrow.Author.Tests.{eq-eqb, ne-eqb}
+use Rattle.spec.specs.Pool.{word, colourWord, redColour}
+use Rattle.spec.specs.Calls.{Call}
+use Rattle.tree.specs.Linked.{Linked, nil, cell, find}
+use Rattle.tree.specs.Erase.{erase}
+use Rattle.heap.specs.Rep.{Rep}
+use Rattle.heap.specs.Colours.{hue, colours}
+use Rattle.heap.specs.Run.{phase-rep}
+use Rattle.heap.specs.Writes.{write-count}
+use Rattle.heap.specs.Accept.{searched, insert-possible, delete-possible}
+use Rattle.promise.specs.Demands.{colourNumber, Stands, Promise}
+use Rattle.readers.specs.Words.{node-high}
+use Rattle.runs.specs.Writer.{Writer}
+use Rattle.runs.specs.Rest.{Completes}
+use Rattle.runs.specs.Whole as Whole
+use Rattle.theorem.specs.WriterSide.{WriterSide, writerSide-store, writerSide-finds}
+use Rattle.theorem.specs.Rests.{writerSide-fresh, writerSide-leavesTree, resting, none-of, writerSide-insert}
+use Rattle.theorem.specs.Deletes.{some-of, writerSide-delete}
+
+-- a colour word of 0 or 1 is its colour's number
+hue-number : (w : ℕ) → w ≤ 1 → w ≡ colourNumber (hue w)
+hue-number w h = elim (ℕ-discrete w redColour) [
+  | yes e ↦ rw (eq-eqb w redColour e) e
+  | no d ↦ rw (ne-eqb w redColour d) (omega arith)
+]
+
+colour-number : (p : List ℕ) (n : ℕ) → word p n colourWord ≤ 1 → word p n colourWord ≡ colourNumber (colours p n)
+unfolding colours
+colour-number p n h = hue-number (word p n colourWord) h
+
+-- the pool's tree is the coloured one
+stands : (p : List ℕ) (t : Linked) (a : ℕ) → ((n : ℕ) → word p n colourWord ≤ 1) → Rep p a t → Stands p a (erase (colours p) t)
+stands p nil a c h = h
+stands p (cell N l r) a c h =
+    let w = h .0 in
+    let e = w .is in
+    rw e (w .within .low, node-high p (N .num) (w .within), w .key-is, w .val-is, colour-number p (N .num) (c (N .num)), stands p l _ c (h .1), stands p r _ c (h .2))
+
+writer : Writer WriterSide
+writer = record {
+  starts = writerSide-fresh;
+  unfolds = λ st x T h. phase-rep (h .hand .phase);
+  linked = λ st x T h. h .linked;
+  finds = λ st x T h. h .finds;
+  held = λ st x T h. h .held;
+  leavesTree = λ st after x T h s. writerSide-leavesTree st after x s T h;
+  insert = writerSide-insert;
+  delete = writerSide-delete;
+  store = λ st x T safe h a w f. writerSide-store st x T safe h w;
+}
+
+completes : Completes WriterSide
+completes = record {
+  rest = λ st x T h c e. (let f = resting st x T h e in subst (λ t. Stands (st .pool) (st .register .root) t) (f .tree) (stands (st .pool) T (st .register .root) c (f .rest .rep)));
+  few = λ st x T h e. (let a = h .few in rw (h .hand .write, write-count (h .stores)) a);
+  insertGoes = λ st x T k v safe h e. (
+      let f = resting st x T h e in
+      let s = searched st T k (f .rest) in
+      (s .not-deep, λ n _. insert-possible st T k v (f .rest) (none-of (find T k) (sym (s .is-held) ∙ n)) .possible)
+      );
+  deleteGoes = λ st x T k safe h e. (
+      let f = resting st x T h e in
+      let s = searched st T k (f .rest) in
+      (s .not-deep, λ n _. (let o = some-of (find T k) (sym (s .is-held) ∙ n) in delete-possible st T k (o .0) (f .rest) (o .1) .possible))
+      );
+  stepGoes = λ st x T safe h a w. writerSide-finds st x T safe h w;
+}
+
+pub promise : (N : ℕ) → 8 ≤ N → N ≤ 1023 → (cs : List Call) → Promise N cs
+promise N lo hi cs = Whole.promise WriterSide writer completes N lo hi cs

@@ -1,0 +1,81 @@
+-- Where insert's climb ends: how many levels it passes by colours alone, and then nothing more, or one diag or zig.
+-- `rise` looks at what the plan of an insert looks at, level by level: is the parent red, is the aunt red.
+use Prim.Native.Nat.{ℕ, zero, suc}
+use mathlib.Core.Path.{_≡_, refl}
+use mathlib.Core.Bool.{Bool}
+use mathlib.Core.List.{List, [], _∷_}
+use native.Mathlib.Omega.{arith}
+use Rattle.datatypes.specs.declared.Side.{Side}
+use Rattle.datatypes.specs.Side.{sameSide}
+use Rattle.sequential.specs.Tree.{red, black, Tree, ifRed, mk, colourOf, paint, Frame, frame, plug}
+use Rattle.sequential.specs.Insert.{turnUp, fixupResult}
+use Rattle.tree.specs.Sorted.{colour-case}
+use Rattle.tree.specs.RedBlack.{Fit, fit-top, fit-red, fit-black, root-is}
+
+-- calm: a black parent, or x is the root. rotate: a red parent on the side z of the grandparent and no red aunt; x is an outer child or not.
+-- rootRed: a red parent without a parent of its own.
+pub data InsertFixupEnd : Type 0 where
+  balanced : InsertFixupEnd
+  rotate : (outer : Bool) (z : Side) → InsertFixupEnd
+  rootRed : InsertFixupEnd
+
+-- a level is two frames: the parent's and the grandparent's
+pub record InsertFixup : Type 0 where
+  pub levels : ℕ
+  pub end : InsertFixupEnd
+
+abbrev pub insertFixupMore : InsertFixup → InsertFixup
+insertFixupMore r = record { levels = suc (r .levels); end = r .end }
+
+abbrev pub insertFixup : List Frame → InsertFixup
+insertFixup [] = record { levels = 0; end = balanced }
+insertFixup (frame s black k v y ∷ fs) = record { levels = 0; end = balanced }
+insertFixup (frame s red k v y ∷ []) = record { levels = 0; end = rootRed }
+insertFixup (frame s red k v y ∷ frame z c j w aunt ∷ fs) = ifRed (colourOf aunt) (insertFixupMore (insertFixup fs)) (record { levels = 0; end = rotate (sameSide s z) z })
+
+-- the way above n levels, and the subtree there when they are recoloured
+abbrev pub overPairs : ℕ → List Frame → List Frame
+overPairs zero fs = fs
+overPairs (suc n) [] = []
+overPairs (suc n) (f ∷ []) = f ∷ []
+overPairs (suc n) (f ∷ g ∷ fs) = overPairs n fs
+
+abbrev pub recoloured : ℕ → List Frame → Tree → Tree
+recoloured zero fs x = x
+recoloured (suc n) [] x = x
+recoloured (suc n) (f ∷ []) x = x
+recoloured (suc n) (frame s c k v y ∷ frame z d j w aunt ∷ fs) x = recoloured n fs (mk z red j w (mk s black k v x y) (paint black aunt))
+
+-- what is made of the place where the levels end
+abbrev pub risen : InsertFixupEnd → List Frame → Tree → Tree
+risen balanced fs x = plug fs x
+risen rootRed fs x = plug fs x
+risen (rotate b z) [] x = x
+risen (rotate b z) (f ∷ []) x = plug (f ∷ []) x
+risen (rotate b z) (frame s c k v y ∷ frame z′ d j w aunt ∷ fs) x = plug fs (turnUp b z j w (mk s c k v x y) aunt)
+
+pub fixup-insertFixup : (fs : List Frame) (x : Tree) → fixupResult fs x ≡ risen (insertFixup fs .end) (overPairs (insertFixup fs .levels) fs) (recoloured (insertFixup fs .levels) fs x)
+fixup-insertFixup [] x = refl
+fixup-insertFixup (frame s black k v y ∷ fs) x = refl
+fixup-insertFixup (frame s red k v y ∷ []) x = refl
+fixup-insertFixup (frame s red k v y ∷ frame z c j w aunt ∷ fs) x =
+    colour-case (colourOf aunt) (λ e. rw e (fixup-insertFixup fs (mk z red j w (mk s black k v x y) (paint black aunt)))) (λ e. rw e)
+
+-- In a red-black tree a red parent has a black parent: the climb is never without a node that it names.
+pub data InsertFixups : List Frame → Type 0 where
+  insertFixup-root : InsertFixups []
+  insertFixup-balanced : {s : Side} {k v : ℕ} {y : Tree} {fs : List Frame} → InsertFixups (frame s black k v y ∷ fs)
+  insertFixup-level : {s z : Side} {k v j w : ℕ} {y aunt : Tree} {fs : List Frame} → colourOf aunt ≡ red → InsertFixups fs → InsertFixups (frame s red k v y ∷ frame z black j w aunt ∷ fs)
+  insertFixup-turn : {s z : Side} {k v j w : ℕ} {y aunt : Tree} {fs : List Frame} → colourOf aunt ≡ black → InsertFixups (frame s red k v y ∷ frame z black j w aunt ∷ fs)
+
+pub fit-insertFixup : {fs : List Frame} {h : ℕ} → Fit fs black h → InsertFixups fs
+fit-insertFixup fit-top = insertFixup-root
+fit-insertFixup (fit-black f q) = insertFixup-balanced
+fit-insertFixup (fit-red (fit-black {d = red} f a) q) = insertFixup-level (root-is a) (fit-insertFixup f)
+fit-insertFixup (fit-red (fit-black {d = black} f a) q) = insertFixup-turn (root-is a)
+
+pub insertFixup-end : {fs : List Frame} → InsertFixups fs → ¬ (insertFixup fs .end ≡ rootRed)
+insertFixup-end insertFixup-root e = let z : _≡_ {A = ℕ} 0 1 = cc in omega arith
+insertFixup-end insertFixup-balanced e = let z : _≡_ {A = ℕ} 0 1 = cc in omega arith
+insertFixup-end (insertFixup-level a r) e = insertFixup-end r (rw a at e)
+insertFixup-end (insertFixup-turn a) e = let e′ = rw a at e in let z : _≡_ {A = ℕ} 0 1 = cc in omega arith
