@@ -269,7 +269,7 @@ fn walk(pool: &mut [u32], reg: Register, call: u8, keys: u32, s: u32) -> Registe
 }
 
 // A register that is not set up, or the damaged tree's: from the root, node 1, to the right and then to the left down to node 64; node 65 is every
-// other child, and the rest is free. All red for an insert, so that its climb goes to the root, and all black for a delete.
+// other child, and the rest is free. All red for an insert, so that its fix-up goes to the root, and all black for a delete.
 fn start(pool: &mut [u32], call: u8, keys: u32) -> Register {
     if keys != DEEP {
         return fresh::fresh_register(0);

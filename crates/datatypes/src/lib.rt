@@ -99,7 +99,7 @@ pub enum Place {
     TooDeep,
 }
 
-// How a climb of colour work ends: with nothing more, with the node that it ended at turned black, with one rotation or two,
+// How a fix-up of colours ends: with nothing more, with the node that it ended at turned black, with one rotation or two,
 // or at a step that names a node where there is none.
 pub enum Ending {
     Balanced,
@@ -109,7 +109,7 @@ pub enum Ending {
     Missing,
 }
 
-// A climb: how many levels it passed by colours alone, and how it ended.
+// A fix-up: how many levels it passed by colours alone, and how it ended.
 pub struct Fixup {
     pub levels: u32,
     pub ending: Ending,

@@ -1,4 +1,4 @@
-// What a delete loses: the climb after a black place is lost, and its colours.
+// What a delete loses: the fix-up after a black place is lost, and its colours.
 use datatypes::Ending;
 use datatypes::Fixup;
 use datatypes::Side;
@@ -30,7 +30,7 @@ pub fn only_child(pool: &[u32], b: u32) -> u32
     register::choose(left == 0, right, left)
 }
 
-// The climb after the colour of node n is lost at the end of a path of c links, where x came.
+// The fix-up after the colour of node n is lost at the end of a path of c links, where x came.
 pub fn fixup_after_removal(pool: &[u32], n: u32, x: u32, path: &[u64], c: u32) -> Fixup
     requires { ⌜ (c ≤ length (now path)) × (c ≤ 66) ⌝ }
     ensures { λ r. ⌜ r ≡ fixupAfterRemoval (now (pool .entry)) n x (upward (now (path .entry)) c) ⌝ }
@@ -41,7 +41,7 @@ pub fn fixup_after_removal(pool: &[u32], n: u32, x: u32, path: &[u64], c: u32) -
     fixups::delete_fixup(pool, path, c, 0, x)
 }
 
-// the node that a climb of m levels ended at
+// the node that a fix-up of m levels ended at
 fn end_node(pool: &[u32], root: u32, path: &[u64], c: u32, m: u32, x: u32) -> u32
     requires { ⌜ c ≤ length (now path) ⌝ }
     ensures { λ r. ⌜ r ≡ cond (eqb m 0) x (nodeAt (now (pool .entry)) root (getD (upward (now (path .entry)) c) m Root)) ⌝ }
@@ -55,7 +55,7 @@ fn end_node(pool: &[u32], root: u32, path: &[u64], c: u32, m: u32, x: u32) -> u3
     register::node_at(pool, root, paths::link_in(path, c - 1 - m))
 }
 
-// the node n that a climb ended at, black where the ending says so
+// the node n that a fix-up ended at, black where the ending says so
 fn paint_end(pool: &mut [u32], e: Ending, n: u32)
     ensures { λ _. ⌜ ((reg : Register) → now (pool .exit) ≡ paintEnd e (state (now (pool .entry)) reg) n) ⌝ }
 {
@@ -68,7 +68,7 @@ fn paint_end(pool: &mut [u32], e: Ending, n: u32)
     }
 }
 
-// The colours of a climb along a path of c links, where x came. Of the register only the root is read.
+// The colours of a fix-up along a path of c links, where x came. Of the register only the root is read.
 pub fn paint_delete_fixup(pool: &mut [u32], root: u32, k: Fixup, x: u32, path: &[u64], c: u32)
     requires { ⌜ c ≤ length (now path) ⌝ }
     ensures { λ _. ⌜ ((reg : Register) → reg .root ≡ root → now (pool .exit) ≡ paintDeleteFixup (state (now (pool .entry)) reg) k x (upward (now (path .entry)) c) .pool) ⌝ }

@@ -1,4 +1,4 @@
-// The climbs of colour work along a path, and the colours of the levels that they pass.
+// The insert fix-up and the delete fix-up along a path, and the colours of the levels that they pass.
 use datatypes::Ending;
 use datatypes::Fixup;
 use datatypes::Form;
@@ -23,7 +23,7 @@ pub fn fixup_result(levels: u32, ending: Ending) -> Fixup
     Fixup { levels, ending }
 }
 
-// whether a climb ended at a node that is not there
+// whether a fix-up ended at a node that is not there
 pub fn missing(e: Ending) -> bool
     ensures { λ r. ⌜ r ≡ missing e ⌝ }
 {
@@ -36,7 +36,7 @@ pub fn missing(e: Ending) -> bool
     }
 }
 
-// whether a climb found every node that it names
+// whether a fix-up found every node that it names
 pub fn nodes_found(k: Fixup) -> bool
     ensures { λ r. ⌜ r ≡ nodesFound k ⌝ }
 {
@@ -61,7 +61,7 @@ fn form_of(x: Side, y: Side) -> Form
     }
 }
 
-// Insert's climb from the c-th link of a path, with m levels passed.
+// The insert fix-up from the c-th link of a path, with m levels passed.
 pub fn insert_fixup(pool: &[u32], path: &[u64], c: u32, m: u32) -> Fixup
     requires { ⌜ (c ≤ length (now path)) × (m + c ≤ 66) ⌝ }
     ensures { λ r. ⌜ r ≡ insertFixup (now (pool .entry)) m (upward (now (path .entry)) c) ⌝ }
@@ -177,7 +177,7 @@ fn red_sibling(pool: &[u32], l: Link, z: Side, w: u32) -> Ending
     Ending::Rotate(first)
 }
 
-// Delete's climb from the c-th link of a path, where x came, with m levels passed.
+// The delete fix-up from the c-th link of a path, where x came, with m levels passed.
 pub fn delete_fixup(pool: &[u32], path: &[u64], c: u32, m: u32, x: u32) -> Fixup
     requires { ⌜ (c ≤ length (now path)) × (m + c ≤ 66) ⌝ }
     ensures { λ r. ⌜ r ≡ deleteFixup (now (pool .entry)) m x (upward (now (path .entry)) c) ⌝ }

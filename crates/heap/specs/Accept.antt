@@ -17,8 +17,9 @@ use Rattle.datatypes.specs.declared.Purpose.the-variants.{BlackSibling}
 use Rattle.datatypes.specs.declared.Place.{Place}
 use Rattle.datatypes.specs.declared.Store.{Store}
 use Rattle.datatypes.specs.Side.{other, linkAt}
+use Rattle.spec.specs.Numbers.{mostStores}
 use Rattle.spec.specs.Pool.{freshNodes, freshPool}
-use Rattle.spec.specs.Register.{State, mostStores, writeOf, freshRegister, fresh}
+use Rattle.spec.specs.Register.{State, writeOf, freshRegister, fresh}
 use Rattle.spec.specs.Plan.{Plan, turnStores, endingStores}
 use Rattle.spec.specs.Calls.{acceptedPlan, placeOf, insertAt, deleteAt, isHeld, tooDeep}
 use Rattle.sequential.specs.Tree.{Colour, red, black, Tree, colourOf}

@@ -14,7 +14,8 @@ use Rattle.datatypes.specs.declared.Ending.{Ending}
 use Rattle.datatypes.specs.declared.Ending.the-variants.{Balanced, Blacken, Rotate, RotateTwice, Missing}
 use Rattle.datatypes.specs.Side.{other, owner, sideOf}
 use Rattle.base.specs.Walk.{cond-both}
-use Rattle.spec.specs.Pool.{word, child, paint, colourWord, nodeWords, blackColour, redColour}
+use Rattle.spec.specs.Numbers.{nodeWords}
+use Rattle.spec.specs.Pool.{word, child, paint, colourWord, blackColour, redColour}
 use Rattle.spec.specs.Register.{State, state}
 use Rattle.spec.specs.Plan.{paintInsertFixup, paintDeleteLevels, paintEnd, paintDeleteFixup, redChild}
 use Rattle.spec.specs.Turn.{endDiag, endZig, endInsert}

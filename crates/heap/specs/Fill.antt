@@ -14,7 +14,8 @@ use Rattle.datatypes.specs.declared.Side.the-variants.{L, R}
 use Rattle.datatypes.specs.declared.Register.{Register}
 use Rattle.datatypes.specs.Side.{other}
 use Rattle.base.specs.Walk.{cond-both}
-use Rattle.spec.specs.Pool.{word, setWord, child, keyWord, recordWord, linkWord, colourWord, standingWord, holdersWord, nextWord, standingFree, standingRetired, nodeWords}
+use Rattle.spec.specs.Numbers.{nodeWords}
+use Rattle.spec.specs.Pool.{word, setWord, child, keyWord, recordWord, linkWord, colourWord, standingWord, holdersWord, nextWord, standingFree, standingRetired}
 use Rattle.spec.specs.Register.{State, withQueue, readingSlots}
 use Rattle.spec.specs.Free.{queueEmpty, takeFree, fillNode, takeNode, freeNode, retire, retireTwo}
 use Rattle.laws.specs.Words.{InPool, length-setWord, word-set}

@@ -13,7 +13,8 @@ use Rattle.datatypes.specs.declared.Side.the-variants.{L, R}
 use Rattle.datatypes.specs.declared.Link.{Link}
 use Rattle.datatypes.specs.declared.Link.the-variants.{Root, Left, Right}
 use Rattle.datatypes.specs.Side.{sameSide}
-use Rattle.spec.specs.Pool.{word, setWord, child, keyWord, recordWord, linkWord, nodeWords}
+use Rattle.spec.specs.Numbers.{nodeWords}
+use Rattle.spec.specs.Pool.{word, setWord, child, keyWord, recordWord, linkWord}
 use Rattle.spec.specs.Register.{State, setLink}
 use Rattle.spec.specs.Turn.{Made}
 use Rattle.laws.specs.Words.{InPool, length-setWord, word-same, word-other}

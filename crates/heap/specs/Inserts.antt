@@ -10,8 +10,8 @@ use native.Mathlib.Omega.{arith}
 use native.Mathlib.Nat.{zero-add}
 use Rattle.datatypes.specs.declared.Side.{Side}
 use Rattle.datatypes.specs.Side.{other, sameSide, owner-at}
+use Rattle.spec.specs.Numbers.{pathBound}
 use Rattle.spec.specs.Register.{State}
-use Rattle.spec.specs.Search.{pathBound}
 use Rattle.spec.specs.Plan.{fixupResult, endingStores, missing, insertFixup, fixupAfterInsert}
 use Rattle.laws.specs.Words.{InPool}
 use Rattle.sequential.specs.Tree as Seq

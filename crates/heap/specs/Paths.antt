@@ -16,9 +16,10 @@ use Rattle.datatypes.specs.declared.Link.the-variants.{Root, Left}
 use Rattle.datatypes.specs.declared.Place.{Place}
 use Rattle.datatypes.specs.declared.Place.the-variants.{Held, Empty}
 use Rattle.datatypes.specs.Side.{linkAt}
+use Rattle.spec.specs.Numbers.{pathBound}
 use Rattle.spec.specs.Pool.{child}
 use Rattle.spec.specs.Register.{nodeAt}
-use Rattle.spec.specs.Search.{pathBound, towards, seek, sameLink, trail, pathTo, leftmost}
+use Rattle.spec.specs.Search.{towards, seek, sameLink, trail, pathTo, leftmost}
 use Rattle.spec.specs.Plan.{successorPath}
 use Rattle.sequential.specs.Tree.{Colour}
 use Rattle.tree.specs.Order.{Ord, ord-apart, tri-case}

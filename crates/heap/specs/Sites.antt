@@ -11,7 +11,8 @@ use Rattle.datatypes.specs.declared.Side.the-variants.{L, R}
 use Rattle.datatypes.specs.declared.Link.{Link}
 use Rattle.datatypes.specs.declared.Link.the-variants.{Root}
 use Rattle.datatypes.specs.Side.{other, linkAt}
-use Rattle.spec.specs.Pool.{setWord, child, keyWord, recordWord, linkWord, nodeWords}
+use Rattle.spec.specs.Numbers.{nodeWords}
+use Rattle.spec.specs.Pool.{setWord, child, keyWord, recordWord, linkWord}
 use Rattle.spec.specs.Register.{State, state, nodeAt, setLink, withRoot}
 use Rattle.laws.specs.Words.{length-setWord, word-same, word-other}
 use Rattle.tree.specs.Linked.{Node, Linked, at, nodes}

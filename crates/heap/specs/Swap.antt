@@ -7,7 +7,8 @@ use mathlib.Core.List.{List, [], _∷_}
 use native.Mathlib.Omega.{arith}
 use Rattle.datatypes.specs.declared.Side.{Side}
 use Rattle.datatypes.specs.declared.Side.the-variants.{L, R}
-use Rattle.spec.specs.Pool.{child, linkWord, nodeWords}
+use Rattle.spec.specs.Numbers.{nodeWords}
+use Rattle.spec.specs.Pool.{child, linkWord}
 use Rattle.spec.specs.Register.{State, setLink}
 use Rattle.laws.specs.Words.{word-other}
 use Rattle.sequential.specs.Tree as Seq

@@ -12,7 +12,8 @@ use Rattle.datatypes.specs.declared.Step.the-variants.{Vacant, Insert, DiagLowe
 use Rattle.datatypes.specs.declared.Store.{Store}
 use Rattle.datatypes.specs.declared.Write.{Write}
 use Rattle.datatypes.specs.declared.Register.{Register}
-use Rattle.spec.specs.Register.{State, vacant, mostStores, withWrite, storeOf, linkNode, writeOf, lessFirst}
+use Rattle.spec.specs.Numbers.{mostStores}
+use Rattle.spec.specs.Register.{State, vacant, withWrite, storeOf, linkNode, writeOf, lessFirst}
 use Rattle.spec.specs.Plan.{store}
 use Rattle.spec.specs.Turn.{movedStore, movedWrite, publishStore, stepFinds, stepMade}
 use Rattle.spec.specs.Calls.{stored}

@@ -10,7 +10,8 @@ use Prim.Native.Nat.{ℕ, _<_}
 use Rattle.datatypes.specs.declared.Side.{Side}
 use Rattle.datatypes.specs.declared.Side.the-variants.{L, R}
 use Rattle.datatypes.specs.Side.{other}
-use Rattle.spec.specs.Pool.{nodeWords, word, setWord, keyWord, recordWord, linkWord, colourWord, standingWord, holdersWord, nextWord}
+use Rattle.spec.specs.Numbers.{nodeWords}
+use Rattle.spec.specs.Pool.{word, setWord, keyWord, recordWord, linkWord, colourWord, standingWord, holdersWord, nextWord}
 use Rattle.spec.specs.Register.{State, withQueue}
 use Rattle.spec.specs.Free.{takeFree, fillNode, takeNode, freeNode}
 use Rattle.laws.specs.Words.{InPool, length-setWord, word-same, word-other}

@@ -10,7 +10,8 @@ use borrow.Author.Tests.{eq-eqb, ne-eqb, leb-true, ltb-true}
 use native.Mathlib.Decide.{ℕ-discrete}
 use native.Mathlib.Omega.{arith}
 use Prim.Native.Nat.{ℕ, _-_, _*_, _<_, _≤_}
-use Rattle.spec.specs.Pool.{nodeWords, place, word, setWord}
+use Rattle.spec.specs.Numbers.{nodeWords}
+use Rattle.spec.specs.Pool.{place, word, setWord}
 
 -- n is a node of the pool
 pub record InPool (p : List ℕ) (n : ℕ) : Type 0 where

@@ -13,7 +13,7 @@ use Rattle.spec.specs.Register.{State, linkNode}
 use Rattle.spec.specs.Search.{pathTo}
 use Rattle.spec.specs.Plan.{plan, store, fixupAfterRemoval, nearest, twoChildren, successorPath, successorPlan, unlinkPlan, deletePlan}
 
--- C, and how the climb after its loss ends
+-- C, and how the fix-up after its loss ends
 abbrev pub nextNode : State → List Link → ℕ
 nextNode st path = linkNode st (nearest path)
 

@@ -1,4 +1,4 @@
--- A write in hand filled store by store, and how many stores a climb's ending plans.
+-- A write in hand filled store by store, and how many stores a fix-up's ending plans.
 use mathlib.Core.Path.{_≡_, refl, sym, ap, _∙_}
 use mathlib.Core.List.{List, [], _∷_, _++_, append-assoc}
 use mathlib.Core.Bool.{cond}
@@ -19,8 +19,9 @@ use Rattle.datatypes.specs.declared.Ending.{Ending}
 use Rattle.datatypes.specs.declared.Rotation.{Rotation}
 use Rattle.datatypes.specs.Side.{other, sameSide, linkAt, owner, sideOf}
 use Rattle.base.specs.Walk.{cond-both}
+use Rattle.spec.specs.Numbers.{mostStores}
 use Rattle.spec.specs.Pool.{child, isRed}
-use Rattle.spec.specs.Register.{State, vacant, mostStores, writeOf}
+use Rattle.spec.specs.Register.{State, vacant, writeOf}
 use Rattle.spec.specs.Search.{pathTo}
 use Rattle.spec.specs.Plan.{rotationStores, turnStores, endingStores, rotation, insertFixup, fixupAfterInsert, redChild, blackSibling as blackSiblingOf, redSibling, deleteFixup, fixupAfterRemoval}
 

@@ -89,7 +89,7 @@ fn push_rotation(w: Write, t: Rotation) -> Write
     }
 }
 
-// The climb after an insert of the key k at the link l.
+// The fix-up after an insert of the key k at the link l.
 pub fn fixup_after_insert(pool: &[u32], root: u32, k: u32, l: Link) -> Fixup
     ensures { λ r. ⌜ r ≡ cond (isRed (now (pool .entry)) (owner l)) (insertFixup (now (pool .entry)) 0 (pathTo (now (pool .entry)) root k l)) (fixupResult 0 Balanced) ⌝ }
 {
@@ -101,7 +101,7 @@ pub fn fixup_after_insert(pool: &[u32], root: u32, k: u32, l: Link) -> Fixup
     fixups::insert_fixup(pool, &path, c, 0)
 }
 
-// the stores that a climb's ending plans
+// the stores that a fix-up's ending plans
 fn push_ending(w: Write, e: Ending) -> Write
     requires { ⌜ w .count + length (endingStores e) ≤ 7 ⌝ }
     ensures { λ r. ⌜ r ≡ pushAll w (endingStores e) ⌝ }
@@ -118,7 +118,7 @@ fn push_ending(w: Write, e: Ending) -> Write
     }
 }
 
-// the stores so far with those of a climb's ending
+// the stores so far with those of a fix-up's ending
 fn plan(w: Write, e: Ending) -> Planned
     requires { ⌜ w .count + length (endingStores e) ≤ 7 ⌝ }
     ensures { λ r. ⌜ r .possible ≡ not (missing e) ⌝ }

@@ -17,8 +17,9 @@ use Rattle.datatypes.specs.declared.Step.the-variants.{Vacant, Insert, DiagLowe
 use Rattle.sequential.specs.Tree.{Colour, red, black, Tree, leaf, node}
 use Rattle.sequential.specs.Delete.{changedBy}
 use Rattle.tree.specs.Distinct.{_∈_}
-use Rattle.spec.specs.Pool.{word, child, nodes, slots, keyWord, recordWord, colourWord, standingWord, standingFree, blackColour, redColour}
-use Rattle.spec.specs.Register.{State, state, mostStores, withReader, readerOf, storeOf, hasSlot}
+use Rattle.spec.specs.Numbers.{slots, mostStores}
+use Rattle.spec.specs.Pool.{word, child, nodes, keyWord, recordWord, colourWord, standingWord, standingFree, blackColour, redColour}
+use Rattle.spec.specs.Register.{State, state, withReader, readerOf, storeOf, hasSlot}
 use Rattle.spec.specs.Calls.{Answer, go, absent, found, more, done, wait, refused, Outcome, Call, writing, turning, call, reading, writeInHand, readerStep}
 use Rattle.spec.specs.PlainList.{carriedOut, noticeOf, recordFor, acceptedWrites}
 use Rattle.laws.specs.Queue.{Queue, Distinct}

@@ -16,10 +16,11 @@ use Rattle.datatypes.specs.declared.Step.{Step}
 use Rattle.datatypes.specs.declared.Step.the-variants.{Vacant, Insert, DiagLower, DiagRaise, ZigLowerA, ZigLowerC, ZigRaise, Unlink, Adopt, Replace, Publish, Detach}
 use Rattle.datatypes.specs.declared.Write.{Write}
 use Rattle.datatypes.specs.declared.Reader.{Reader}
-use Rattle.spec.specs.Pool.{word, slots, allSlots, leftWord, rightWord, colourWord, standingWord, holdersWord, nextWord, nodeInRange, poolInRange}
-use Rattle.spec.specs.Register.{State, state, mostStores, vacant, readerOf, storeOf, withReader, withWrite, linkInRange, nodeNumber, stepInRange, storeInRange, readerInRange, registerInRange, writeOf, lessFirst}
+use Rattle.spec.specs.Numbers.{slots, allSlots, pathBound, mostStores}
+use Rattle.spec.specs.Pool.{word, leftWord, rightWord, colourWord, standingWord, holdersWord, nextWord, nodeInRange, poolInRange}
+use Rattle.spec.specs.Register.{State, state, vacant, readerOf, storeOf, withReader, withWrite, linkInRange, nodeNumber, stepInRange, storeInRange, readerInRange, registerInRange, writeOf, lessFirst}
 use Rattle.spec.specs.Free.{endReading}
-use Rattle.spec.specs.Search.{pathBound, towards}
+use Rattle.spec.specs.Search.{towards}
 use Rattle.spec.specs.Plan.{Plan}
 use Rattle.spec.specs.Turn.{stepFinds, stepMade}
 use Rattle.spec.specs.Calls.{Outcome, outOfRange, placeOf, insertAt, deleteAt, stored, Call}

@@ -18,7 +18,8 @@ use Rattle.datatypes.specs.declared.Link.the-variants.{Root, Left, Right}
 use Rattle.datatypes.specs.declared.Reader.{Reader}
 use Rattle.datatypes.specs.declared.Write.{Write}
 use Rattle.datatypes.specs.Side.{other}
-use Rattle.spec.specs.Pool.{nodeWords, place, word, setWord, child, paint, nodes, allSlots, keyWord, recordWord, leftWord, rightWord, linkWord, colourWord, standingWord, holdersWord, nextWord, standingFree, standingLinked, standingRetired}
+use Rattle.spec.specs.Numbers.{nodeWords, allSlots}
+use Rattle.spec.specs.Pool.{place, word, setWord, child, paint, nodes, keyWord, recordWord, leftWord, rightWord, linkWord, colourWord, standingWord, holdersWord, nextWord, standingFree, standingLinked, standingRetired}
 use Rattle.spec.specs.Register.{State, state, noReader, readerOf, withRoot, withQueue, withHeld, withReader, withAwaited, withWrite, countUp, countDown, nodeAt, linkNode, setLink, dropSlot, readingSlots}
 use Rattle.spec.specs.Free.{queueEmpty, takeFree, fillNode, takeNode, freeNode, retire, retireTwo, release, endReading}
 use Rattle.laws.specs.Words.{length-setWord, set-none, word-at, set-at, word-other}

@@ -24,9 +24,10 @@ use Rattle.datatypes.specs.declared.Fixup.{Fixup}
 use Rattle.datatypes.specs.declared.Step.the-variants.{Insert, Unlink, Adopt, Replace, Publish, Detach}
 use Rattle.datatypes.specs.declared.Store.{Store}
 use Rattle.datatypes.specs.Side.{other, linkAt, owner, sideOf}
+use Rattle.spec.specs.Numbers.{pathBound}
 use Rattle.spec.specs.Pool.{word, child, isRed, keyWord}
 use Rattle.spec.specs.Register.{State, nodeAt, linkNode}
-use Rattle.spec.specs.Search.{pathBound, towards, seek, sameLink, trail, pathTo, leftmost}
+use Rattle.spec.specs.Search.{towards, seek, sameLink, trail, pathTo, leftmost}
 use Rattle.spec.specs.Plan.{fixupResult, insertFixup, fixupAfterInsert, redChild, redSibling, deleteFixup, fixupAfterRemoval, store, turnStores, rotationStores, endingStores, Plan, plan, insertPlan, twoChildren, onlyChild, successorPath, unlinkPlan, successorPlan, deletePlan}
 use Rattle.ranges.specs.Fits.{Fits, child-fits, Within, node-fits}
 use Rattle.ranges.specs.Writes.{Number, LinkOk, StoresOk, stores-append}

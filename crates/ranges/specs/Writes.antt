@@ -14,7 +14,8 @@ use Rattle.datatypes.specs.declared.Step.{Step}
 use Rattle.datatypes.specs.declared.Step.the-variants.{Vacant, Insert, DiagLower, DiagRaise, ZigLowerA, ZigLowerC, ZigRaise, Unlink, Adopt, Replace, Publish, Detach}
 use Rattle.datatypes.specs.declared.Store.{Store}
 use Rattle.datatypes.specs.declared.Write.{Write}
-use Rattle.spec.specs.Register.{mostStores, vacant, noWrite, writeOf, lessFirst}
+use Rattle.spec.specs.Numbers.{mostStores}
+use Rattle.spec.specs.Register.{vacant, noWrite, writeOf, lessFirst}
 use Rattle.spec.specs.Turn.{movedLink, movedStore, movedWrite}
 
 -- a node's number

@@ -8,7 +8,8 @@ use native.Mathlib.Omega.{arith}
 use native.Mathlib.Decide.{ℕ-discrete}
 use lib.Dec.{eqb}
 use borrow.Author.Tests.{eqb-true, eqb-false, leb-false}
-use Rattle.spec.specs.Pool.{word, child, keyWord, recordWord, slots}
+use Rattle.spec.specs.Numbers.{slots}
+use Rattle.spec.specs.Pool.{word, child, keyWord, recordWord}
 use Rattle.spec.specs.Register.{State, state, readerOf, storeOf, withReader, withWrite, writeOf}
 use Rattle.spec.specs.Free.{endReading}
 use Rattle.spec.specs.Search.{towards}

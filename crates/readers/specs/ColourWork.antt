@@ -14,7 +14,8 @@ use Rattle.datatypes.specs.declared.Ending.{Ending}
 use Rattle.datatypes.specs.declared.Ending.the-variants.{Balanced, Blacken, Rotate, RotateTwice, Missing}
 use Rattle.datatypes.specs.declared.Fixup.{Fixup}
 use Rattle.datatypes.specs.Side.{other, owner, sideOf}
-use Rattle.spec.specs.Pool.{nodeWords, word, child, paint, keyWord, recordWord, linkWord, colourWord, standingWord, holdersWord, nextWord, blackColour, redColour}
+use Rattle.spec.specs.Numbers.{nodeWords}
+use Rattle.spec.specs.Pool.{word, child, paint, keyWord, recordWord, linkWord, colourWord, standingWord, holdersWord, nextWord, blackColour, redColour}
 use Rattle.spec.specs.Register.{State, state, withHeld}
 use Rattle.spec.specs.Plan.{paintInsertFixup, paintDeleteLevels, paintEnd, paintDeleteFixup, redChild}
 use Rattle.spec.specs.Turn.{painted, oneMore, oneLess, endInsert, underCopy, endDiag, endZig}

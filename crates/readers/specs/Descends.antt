@@ -12,7 +12,8 @@ use lib.ListN.{length, length-set}
 use borrow.Author.Tests.{eq-eqb, ne-eqb, lt-ltb, le-ltb}
 use Rattle.datatypes.specs.declared.Side.the-variants.{L}
 use Rattle.datatypes.specs.declared.Reader.{Reader}
-use Rattle.spec.specs.Pool.{word, child, keyWord, recordWord, slots}
+use Rattle.spec.specs.Numbers.{slots}
+use Rattle.spec.specs.Pool.{word, child, keyWord, recordWord}
 use Rattle.spec.specs.Register.{State, state, readerOf, withReader}
 use Rattle.spec.specs.Free.{endReading}
 use Rattle.spec.specs.Search.{towards}

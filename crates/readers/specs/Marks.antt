@@ -13,7 +13,7 @@ use lib.Seq.{getD-set-same, getD-set-other}
 use Rattle.base.specs.Walk.{foldFrom, foldIn}
 use Rattle.datatypes.specs.declared.Reader.{Reader}
 use Rattle.datatypes.specs.declared.Register.{Register}
-use Rattle.spec.specs.Pool.{slots}
+use Rattle.spec.specs.Numbers.{slots}
 use Rattle.spec.specs.Register.{readerOf, noReader, hasSlot, putSlot, addReading, readingSlots, withReader}
 use Rattle.laws.specs.Slots.{put-same, put-other, put-below}
 

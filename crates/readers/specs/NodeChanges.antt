@@ -13,7 +13,8 @@ use Rattle.base.specs.Walk.{foldIn, cond-both}
 use Rattle.datatypes.specs.declared.Side.{Side}
 use Rattle.datatypes.specs.declared.Side.the-variants.{L, R}
 use Rattle.datatypes.specs.declared.Register.{Register}
-use Rattle.spec.specs.Pool.{word, setWord, child, linkWord, nodes, slots, standingWord, holdersWord, colourWord, standingFree, standingLinked, standingRetired}
+use Rattle.spec.specs.Numbers.{slots}
+use Rattle.spec.specs.Pool.{word, setWord, child, linkWord, nodes, standingWord, holdersWord, colourWord, standingFree, standingLinked, standingRetired}
 use Rattle.spec.specs.Register.{State, noReader, hasSlot, putSlot, readingSlots, countUp, withQueue}
 use Rattle.spec.specs.Free.{fillNode, retire, retireTwo}
 use Rattle.laws.specs.Words.{InPool, word-other}

@@ -14,7 +14,8 @@ use borrow.Author.Tests.{eqb-true, eqb-false, eq-eqb, ne-eqb}
 use Rattle.datatypes.specs.declared.Side.{Side}
 use Rattle.datatypes.specs.declared.Reader.{Reader}
 use Rattle.datatypes.specs.declared.Register.{Register}
-use Rattle.spec.specs.Pool.{word, setWord, nodes, slots, standingWord, holdersWord, standingFree, standingLinked, standingRetired}
+use Rattle.spec.specs.Numbers.{slots}
+use Rattle.spec.specs.Pool.{word, setWord, nodes, standingWord, holdersWord, standingFree, standingLinked, standingRetired}
 use Rattle.spec.specs.Register.{State, state, noReader, hasSlot, dropSlot, readingSlots, withReader, withAwaited, withQueue}
 use Rattle.spec.specs.Free.{fillNode, takeFree, takeNode, freeNode, retire, endReading}
 use Rattle.laws.specs.Words.{InPool, length-setWord, word-other}

@@ -10,7 +10,8 @@ use native.Mathlib.Omega.{arith}
 use borrow.Author.Tests.{eq-eqb, ne-eqb}
 use Rattle.datatypes.specs.declared.Side.{Side}
 use Rattle.datatypes.specs.declared.Side.the-variants.{L, R}
-use Rattle.spec.specs.Pool.{word, child, linkWord, nodes, slots, standingWord, holdersWord, standingFree, standingLinked, standingRetired}
+use Rattle.spec.specs.Numbers.{slots}
+use Rattle.spec.specs.Pool.{word, child, linkWord, nodes, standingWord, holdersWord, standingFree, standingLinked, standingRetired}
 use Rattle.spec.specs.Register.{State, hasSlot, dropSlot}
 use Rattle.spec.specs.Free.{endReading}
 use Rattle.laws.specs.Words.{InPool}

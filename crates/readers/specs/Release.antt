@@ -11,7 +11,8 @@ use lib.Dec.{eqb}
 use lib.ListN.{length}
 use borrow.Author.Tests.{eqb-true}
 use Rattle.datatypes.specs.declared.Register.{Register}
-use Rattle.spec.specs.Pool.{nodeWords, word, setWord, nodes, standingWord, holdersWord, standingFree, standingRetired}
+use Rattle.spec.specs.Numbers.{nodeWords}
+use Rattle.spec.specs.Pool.{word, setWord, nodes, standingWord, holdersWord, standingFree, standingRetired}
 use Rattle.spec.specs.Register.{State, state, noReader, withQueue, withReader, withAwaited, dropSlot}
 use Rattle.spec.specs.Free.{freeNode, release, endReading}
 use Rattle.laws.specs.Words.{InPool, length-setWord, word-none, word-same, word-other}

@@ -12,7 +12,8 @@ use borrow.Author.Tests.{eq-eqb, ne-eqb}
 use Rattle.datatypes.specs.declared.Link.{Link}
 use Rattle.datatypes.specs.declared.Write.{Write}
 use Rattle.datatypes.specs.declared.Reader.{Reader}
-use Rattle.spec.specs.Pool.{nodes, slots, standingWord, standingLinked}
+use Rattle.spec.specs.Numbers.{slots}
+use Rattle.spec.specs.Pool.{nodes, standingWord, standingLinked}
 use Rattle.spec.specs.Register.{State, state, noReader, readerOf, withReader, withAwaited, withWrite}
 use Rattle.spec.specs.Free.{endReading}
 use Rattle.spec.specs.Calls.{reading}

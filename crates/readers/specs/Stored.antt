@@ -15,7 +15,8 @@ use Rattle.datatypes.specs.declared.Link.{Link}
 use Rattle.datatypes.specs.declared.Link.the-variants.{Root, Left, Right}
 use Rattle.datatypes.specs.declared.Register.{Register}
 use Rattle.datatypes.specs.Side.{sameSide}
-use Rattle.spec.specs.Pool.{nodeWords, word, setWord, child, keyWord, recordWord, leftWord, rightWord, linkWord, colourWord, standingWord, holdersWord, standingFree, standingLinked}
+use Rattle.spec.specs.Numbers.{nodeWords}
+use Rattle.spec.specs.Pool.{word, setWord, child, keyWord, recordWord, leftWord, rightWord, linkWord, colourWord, standingWord, holdersWord, standingFree, standingLinked}
 use Rattle.spec.specs.Register.{State, state, withRoot, withQueue, setLink}
 use Rattle.spec.specs.Free.{takeFree, takeNode}
 use Rattle.tree.specs.Distinct.{_∈_}

@@ -7,7 +7,7 @@ use native.Mathlib.Decide.{decLt}
 use borrow.Author.Tests.{lt-ltb, le-leb}
 use native.Mathlib.Omega.{arith}
 use Prim.Native.Nat.{ℕ, _<_}
-use Rattle.spec.specs.Pool.{slots}
+use Rattle.spec.specs.Numbers.{slots}
 use Rattle.spec.specs.Register.{State, readerOf}
 use Rattle.spec.specs.Calls.{_gives_, firstOf, wrongLength, outOfRange, slotTooHigh, reading}
 use Rattle.laws.specs.Tests.{lentNumber, first-lent}

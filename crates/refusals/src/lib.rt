@@ -1,8 +1,8 @@
 // The tests that a call begins with: each answers the number of the first cause that holds, or 0.
 use datatypes::Register;
 ghost use mathlib.Core.Path.{_≡_};
+ghost use Rattle.spec.specs.Numbers.{slots};
 ghost use Rattle.spec.specs.Register.{state};
-ghost use Rattle.spec.specs.Pool.{slots};
 ghost use Rattle.laws.specs.Tests.{lentNumber};
 ghost use Rattle.refusals.specs.Slots.{slotIndex, slotNumber};
 ghost use Prim.Native.Nat.{_<_};

@@ -9,8 +9,8 @@ ghost use mathlib.Core.Path.{_≡_};
 ghost use Prim.Native.Nat.{ℕ, _<_, _≤_, _+_, _*_};
 ghost use mathlib.Core.Bool.{cond, _&&_};
 ghost use Rattle.datatypes.specs.Side.{linkAt, owner, sideOf, sameSide};
-ghost use Rattle.spec.specs.Register.{withWrite, countUp, countDown, nodeAt, hasSlot, putSlot, dropSlot, readingSlots, nodeNumber, linkInRange, stepInRange, isRoot, isVacant, mostStores, storeInRange, readerInRange, registerInRange};
-ghost use Rattle.spec.specs.Pool.{slots};
+ghost use Rattle.spec.specs.Numbers.{slots, mostStores};
+ghost use Rattle.spec.specs.Register.{withWrite, countUp, countDown, nodeAt, hasSlot, putSlot, dropSlot, readingSlots, nodeNumber, linkInRange, stepInRange, isRoot, isVacant, storeInRange, readerInRange, registerInRange};
 ghost use Rattle.base.specs.Walk.{allIn};
 
 pub const SLOTS: u32 = 8;

@@ -15,7 +15,7 @@ ghost use Rattle.spec.specs.Turn.{oneLess, painted};
 ghost use Rattle.heads.specs.Head.{Follows, FollowsReading, TriesReading};
 ghost use Rattle.paths.specs.Upward.{upward};
 
-// The colours of a climb along a path of c links, where x came; then n is retired.
+// The colours of a fix-up along a path of c links, where x came; then n is retired.
 fn colour_and_retire(
     pool: &mut [u32],
     h: Head,

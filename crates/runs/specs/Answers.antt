@@ -9,7 +9,8 @@ use native.Mathlib.Omega.{arith}
 use native.Mathlib.Decide.{ℕ-discrete}
 use lib.ListN.{length, getD}
 use Rattle.datatypes.specs.declared.Write.{Write}
-use Rattle.spec.specs.Pool.{word, child, keyWord, recordWord, slots}
+use Rattle.spec.specs.Numbers.{slots}
+use Rattle.spec.specs.Pool.{word, child, keyWord, recordWord}
 use Rattle.spec.specs.Register.{State, state, noReader, readerOf, withReader, withWrite}
 use Rattle.spec.specs.Free.{endReading}
 use Rattle.spec.specs.Search.{towards}

@@ -9,7 +9,8 @@ use native.Mathlib.Decide.{ℕ-discrete, decLt}
 use lib.ListN.{length, getD, replicate}
 use lib.Seq.{getD-append-add}
 use Rattle.tree.specs.Distinct.{_∈_}
-use Rattle.spec.specs.Pool.{place, word, nodes, slots, nextWord, standingWord, holdersWord, freshNodes, freshPool}
+use Rattle.spec.specs.Numbers.{slots}
+use Rattle.spec.specs.Pool.{place, word, nodes, nextWord, standingWord, holdersWord, freshNodes, freshPool}
 use Rattle.spec.specs.Register.{noReader, readerOf, fresh, freshRegister}
 use Rattle.laws.specs.Words.{word-at, word-none}
 use Rattle.laws.specs.Queue.{NotIn, Distinct, Chain, lastOf}

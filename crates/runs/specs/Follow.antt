@@ -9,7 +9,8 @@ use native.Mathlib.Decide.{ℕ-discrete}
 use lib.ListN.{getD}
 use Rattle.datatypes.specs.declared.Reader.{Reader}
 use Rattle.datatypes.specs.declared.Write.{Write}
-use Rattle.spec.specs.Pool.{slots, standingLinked}
+use Rattle.spec.specs.Numbers.{slots}
+use Rattle.spec.specs.Pool.{standingLinked}
 use Rattle.spec.specs.Register.{State, state, noReader, readerOf, storeOf, withReader, withAwaited, withWrite, hasSlot, dropSlot}
 use Rattle.spec.specs.Free.{endReading}
 use Rattle.spec.specs.Turn.{stepMade}

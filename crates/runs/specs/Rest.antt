@@ -14,8 +14,9 @@ use borrow.Author.Tests.{eqb-true, eqb-false, eq-eqb, le-leb}
 use Rattle.datatypes.specs.declared.Link.{Link}
 use Rattle.sequential.specs.Tree.{leaf}
 use Rattle.sequential.specs.Delete.{changedBy}
-use Rattle.spec.specs.Pool.{word, colourWord, nodes, nodeWords, leastNodes, mostNodes, slots, lengthRight}
-use Rattle.spec.specs.Register.{State, mostStores, storeOf, hasSlot, withWrite, lessFirst}
+use Rattle.spec.specs.Numbers.{nodeWords, leastNodes, mostNodes, slots, mostStores}
+use Rattle.spec.specs.Pool.{word, colourWord, nodes, lengthRight}
+use Rattle.spec.specs.Register.{State, storeOf, hasSlot, withWrite, lessFirst}
 use Rattle.spec.specs.Turn.{Made, stepFinds, stepMade}
 use Rattle.spec.specs.Calls.{Answer, ok, go, absent, wait, found, more, done, refused, Outcome, stored, Test, _gives_, firstOf, wrongLength, outOfRange, reading, writeInHand, placeOf, tooDeep, isHeld, fewerFree, insertAt, deleteAt, readerTests, Call, inserting, deleting, writing, beginning, turning, givingUp}
 use Rattle.spec.specs.PlainList.{Plain, carriedOut, noticeOf, acceptedWrites}

@@ -12,7 +12,8 @@ use Rattle.datatypes.specs.declared.Side.the-variants.{L, R}
 use Rattle.datatypes.specs.declared.Link.{Link}
 use Rattle.datatypes.specs.declared.Link.the-variants.{Root, Left, Right}
 use Rattle.datatypes.specs.declared.Reader.{Reader}
-use Rattle.spec.specs.Pool.{word, child, keyWord, slots, standingWord, standingFree, standingLinked}
+use Rattle.spec.specs.Numbers.{slots}
+use Rattle.spec.specs.Pool.{word, child, keyWord, standingWord, standingFree, standingLinked}
 use Rattle.spec.specs.Register.{State, hasSlot}
 use Rattle.spec.specs.Search.{towards}
 use Rattle.laws.specs.Words.{word-none}

@@ -10,7 +10,8 @@ use lib.Dec.{eqb}
 use Rattle.datatypes.specs.declared.Side.{Side}
 use Rattle.datatypes.specs.declared.Side.the-variants.{L, R}
 use Rattle.datatypes.specs.declared.Reader.{Reader}
-use Rattle.spec.specs.Pool.{child, slots, standingLinked, nodes as poolNodes}
+use Rattle.spec.specs.Numbers.{slots}
+use Rattle.spec.specs.Pool.{child, standingLinked, nodes as poolNodes}
 use Rattle.spec.specs.Register.{State, state, storeOf, readerOf, withReader, withAwaited, lessFirst}
 use Rattle.spec.specs.Free.{endReading}
 use Rattle.spec.specs.Search.{towards}

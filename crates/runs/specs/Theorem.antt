@@ -7,7 +7,8 @@ use mathlib.Core.Option.{Option, none, some}
 use mathlib.Core.Logic.{_≢_, _⊎_, inl, inr}
 use native.Mathlib.Omega.{arith}
 use native.Mathlib.Decide.{ℕ-discrete}
-use Rattle.spec.specs.Pool.{slots, standingWord}
+use Rattle.spec.specs.Numbers.{slots}
+use Rattle.spec.specs.Pool.{standingWord}
 use Rattle.spec.specs.Register.{State}
 use Rattle.spec.specs.Calls.{ok, reading, Call, beginning, turning, givingUp, call}
 use Rattle.spec.specs.PlainList.{Plain, recordFor}

@@ -9,8 +9,8 @@ use native.Mathlib.Omega.{arith}
 use native.Mathlib.Numerals.{add-one}
 use borrow.Author.Tests.{eq-eqb, ne-eqb}
 use Rattle.datatypes.specs.declared.Link.{Link}
-use Rattle.spec.specs.Pool.{slots}
-use Rattle.spec.specs.Register.{State, mostStores, storeOf, hasSlot}
+use Rattle.spec.specs.Numbers.{slots, mostStores}
+use Rattle.spec.specs.Register.{State, storeOf, hasSlot}
 use Rattle.spec.specs.Turn.{stepMade}
 use Rattle.spec.specs.Calls.{more, done, Outcome, wrongLength, reading, writeInHand, Call, writing, call}
 use Rattle.spec.specs.PlainList.{Plain, carriedOut, noticeOf}

@@ -13,10 +13,11 @@ use Rattle.datatypes.specs.declared.WriterAnswer.{WriterAnswer}
 use Rattle.datatypes.specs.declared.WriterAnswer.the-variants as writer
 use Rattle.datatypes.specs.declared.ReaderAnswer.{ReaderAnswer}
 use Rattle.datatypes.specs.declared.ReaderAnswer.the-variants as reader
-use Rattle.spec.specs.Pool.{word, child, keyWord, recordWord, nodes, slots, poolInRange, lengthRight}
+use Rattle.spec.specs.Numbers.{slots, pathBound, reserve, freeForInsert, freeForDelete}
+use Rattle.spec.specs.Pool.{word, child, keyWord, recordWord, nodes, poolInRange, lengthRight}
 use Rattle.spec.specs.Register.{State, state, fresh, withReader, withWrite, readerOf, storeOf, registerInRange, writeOf, lessFirst}
 use Rattle.spec.specs.Free.{endReading}
-use Rattle.spec.specs.Search.{pathBound, towards, seek}
+use Rattle.spec.specs.Search.{towards, seek}
 use Rattle.spec.specs.Plan.{Plan, insertPlan, deletePlan}
 use Rattle.spec.specs.Turn.{Made, stepFinds, stepMade}
 
@@ -98,7 +99,7 @@ isHeld TooDeep = false
 
 -- Keys held is N − 4 or more.
 abbrev pub full : State → Bool
-full st = leb (nodes (st .pool) - 4) (st .register .held)
+full st = leb (nodes (st .pool) - reserve) (st .register .held)
 
 abbrev pub fewerFree : State → ℕ → Bool
 fewerFree st n = ltb (st .register .free) n
@@ -126,7 +127,7 @@ insert st k v =
     ∷ tooDeep (placeOf st k) gives 12
     ∷ isHeld (placeOf st k) gives 8
     ∷ full st gives 10
-    ∷ fewerFree st 3 gives 11
+    ∷ fewerFree st freeForInsert gives 11
     ∷ not (w .possible) gives 12
     ∷ [])
     st
@@ -146,7 +147,7 @@ delete st k =
     ∷ writeInHand st gives 6
     ∷ tooDeep (placeOf st k) gives 12
     ∷ not (isHeld (placeOf st k)) gives 9
-    ∷ fewerFree st 4 gives 11
+    ∷ fewerFree st freeForDelete gives 11
     ∷ not (w .possible) gives 12
     ∷ [])
     st

@@ -1,3 +1,4 @@
+pub mod Numbers
 pub mod Pool
 pub mod Register
 pub mod Free

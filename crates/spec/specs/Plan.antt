@@ -1,4 +1,4 @@
--- 01, 'The writer's stores': where a write's colour work climbs to, and the stores that a write plans.
+-- 01, 'The writer's stores': the fix-ups of colours (CLRS's insert and delete fix-up), and the stores that a write plans.
 use Prim.Native.Nat.{ℕ, zero, suc, _+_, _-_}
 use mathlib.Core.Bool.{Bool, true, false, cond, not, _&&_, _||_}
 use mathlib.Core.List.{List, [], _∷_, _++_}
@@ -20,11 +20,12 @@ use Rattle.datatypes.specs.declared.Fixup.{Fixup}
 use Rattle.datatypes.specs.declared.Ending.{Ending}
 use Rattle.datatypes.specs.declared.Ending.the-variants.{Balanced, Blacken, Rotate, RotateTwice, Missing}
 use Rattle.datatypes.specs.Side.{other, sameSide, linkAt, owner, sideOf}
+use Rattle.spec.specs.Numbers.{pathBound}
 use Rattle.spec.specs.Pool.{word, child, isRed, paint, keyWord, blackColour, redColour}
 use Rattle.spec.specs.Register.{State, state, linkNode}
-use Rattle.spec.specs.Search.{pathBound, pathTo, leftmost}
+use Rattle.spec.specs.Search.{pathTo, leftmost}
 
--- A climb goes up a path (Search), which names each node by its link: the owner of a node's link is its parent.
+-- A fix-up goes up a path (Search), which names each node by its link: the owner of a node's link is its parent.
 abbrev pub fixupResult : ℕ → Ending → Fixup
 fixupResult m e = record { levels = m; ending = e }
 
@@ -45,13 +46,13 @@ insertFixup p m (x ∷ y ∷ z ∷ up) =
     let further = insertFixup p (m + 1) (z ∷ up) in
     cond (isRed p (owner x)) (cond (isRed p aunt) further (fixupResult m (Rotate (rotation z form s ForInsert)))) (fixupResult m Balanced)
 
--- the climb after an insert of the key k at the link l; under a black parent, or at the root, there is none
+-- the fix-up after an insert of the key k at the link l; under a black parent, or at the root, there is none
 unfoldable pub fixupAfterInsert : State → ℕ → Link → Fixup
 fixupAfterInsert st k l =
     let p = st .pool in
     cond (isRed p (owner l)) (insertFixup p 0 (pathTo p (st .register .root) k l)) (fixupResult 0 Balanced)
 
--- The colours of the levels that the climb passed: parent and aunt black, grandparent red.
+-- The colours of the levels that the fix-up passed: parent and aunt black, grandparent red.
 unfoldable pub paintInsertFixup : ℕ → List Link → List ℕ → List ℕ
 paintInsertFixup zero path p = p
 paintInsertFixup (suc m) [] p = p
@@ -94,17 +95,17 @@ deleteFixup p m x (l ∷ above ∷ up) =
     (fixupResult m (redSibling p above z w))
     (cond (redChild p w) (fixupResult m (Rotate (blackSibling p above z w))) further)))
 
--- the climb after the colour of node n is lost at the head of a path, where x came; a red place is no loss
+-- the fix-up after the colour of node n is lost at the head of a path, where x came; a red place is no loss
 unfoldable pub fixupAfterRemoval : List ℕ → ℕ → ℕ → List Link → Fixup
 fixupAfterRemoval p n x path = cond (isRed p n) (fixupResult 0 Balanced) (deleteFixup p 0 x path)
 
--- The colours of the levels that the climb passed: w red.
+-- The colours of the levels that the fix-up passed: w red.
 unfoldable pub paintDeleteLevels : ℕ → List Link → List ℕ → List ℕ
 paintDeleteLevels zero path p = p
 paintDeleteLevels (suc m) [] p = p
 paintDeleteLevels (suc m) (l ∷ up) p = paintDeleteLevels m up (paint p (child p (other (sideOf l)) (owner l)) redColour)
 
--- Then the node that the climb ended at turns black: x itself, or what stands at that level's link now.
+-- Then the node that the fix-up ended at turns black: x itself, or what stands at that level's link now.
 abbrev pub paintEnd : Ending → State → ℕ → List ℕ
 paintEnd Balanced st n = st .pool
 paintEnd Blacken st n = paint (st .pool) n blackColour

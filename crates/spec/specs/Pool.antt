@@ -8,23 +8,7 @@ use lib.Dec.{eqb, leb}
 use Rattle.base.specs.Walk.{allIn}
 use Rattle.datatypes.specs.declared.Side.{Side}
 use Rattle.datatypes.specs.declared.Side.the-variants.{L, R}
-
--- the words of a node, and the least and the largest number of nodes
-abbrev pub nodeWords : ℕ
-nodeWords = 8
-
-abbrev pub leastNodes : ℕ
-leastNodes = 8
-
-abbrev pub mostNodes : ℕ
-mostNodes = 1023
-
--- reader slots, and the largest mask of slots
-abbrev pub slots : ℕ
-slots = 8
-
-abbrev pub allSlots : ℕ
-allSlots = 255
+use Rattle.spec.specs.Numbers.{nodeWords, leastNodes, mostNodes, allSlots}
 
 -- A node's words in order.
 abbrev pub keyWord : ℕ
@@ -104,7 +88,7 @@ paint p n c = setWord p n colourWord c
 unfoldable pub nodeInRange : List ℕ → ℕ → ℕ → Bool
 nodeInRange p capacity n =
     leb (word p n leftWord) capacity && leb (word p n rightWord) capacity
-    && (leb (word p n colourWord) 1 && leb (word p n standingWord) 2)
+    && (leb (word p n colourWord) redColour && leb (word p n standingWord) standingRetired)
     && (leb (word p n holdersWord) allSlots && leb (word p n nextWord) capacity)
 
 unfoldable pub poolInRange : List ℕ → Bool

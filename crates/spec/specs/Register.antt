@@ -13,7 +13,8 @@ use Rattle.datatypes.specs.declared.Store.{Store}
 use Rattle.datatypes.specs.declared.Write.{Write}
 use Rattle.datatypes.specs.declared.Reader.{Reader}
 use Rattle.datatypes.specs.declared.Register.{Register}
-use Rattle.spec.specs.Pool.{word, setWord, leftWord, rightWord, nodes, slots, allSlots, freshPool}
+use Rattle.spec.specs.Numbers.{slots, allSlots, mostStores}
+use Rattle.spec.specs.Pool.{word, setWord, leftWord, rightWord, nodes, freshPool}
 
 -- a pool with its register
 pub record State : Type 0 where
@@ -22,10 +23,6 @@ pub record State : Type 0 where
 
 abbrev pub state : List ℕ → Register → State
 state p r = record { pool = p; register = r }
-
--- The stores still to come are at most seven.
-abbrev pub mostStores : ℕ
-mostStores = 7
 
 abbrev pub noReader : Reader
 noReader = record { reading = false; key = 0; node = 0 }

@@ -10,11 +10,8 @@ use Rattle.datatypes.specs.declared.Link.the-variants.{Root, Left, Right}
 use Rattle.datatypes.specs.declared.Place.{Place}
 use Rattle.datatypes.specs.declared.Place.the-variants.{Held, Empty, TooDeep}
 use Rattle.datatypes.specs.Side.{linkAt}
+use Rattle.spec.specs.Numbers.{pathBound}
 use Rattle.spec.specs.Pool.{word, child, keyWord}
-
--- a path from the root has at most 64 nodes
-abbrev pub pathBound : ℕ
-pathBound = 64
 
 -- a smaller key lies left
 abbrev pub towards : List ℕ → ℕ → ℕ → Side

@@ -50,7 +50,7 @@ oneMore st = state (st .pool) (withHeld (st .register) (countUp (nodes (st .pool
 abbrev pub oneLess : State → State
 oneLess st = state (st .pool) (withHeld (st .register) (countDown (st .register .held)))
 
--- Insert. Link a red node at the empty place (list store), then the climb's colours; without a rotation to come the root ends black.
+-- Insert. Link a red node at the empty place (list store), then the fix-up's colours; without a rotation to come the root ends black.
 abbrev pub endInsert : Ending → State → State
 endInsert Balanced st = blackRoot st
 endInsert Blacken st = st

@@ -88,7 +88,7 @@ fn insert_under_red(pool: &mut [u32], h: Head, l: Link, k: u32, v: u32) -> StepR
     }
 }
 
-// Links a new red node at the link l, then the climb's colours.
+// Links a new red node at the link l, then the fix-up's colours.
 pub fn insert(pool: &mut [u32], h: Head, l: Link, k: u32, v: u32) -> StepResult
     requires { ⌜ length (now pool) < 8192 ⌝ }
     ensures { λ r. ⌜ Tries l (Insert k v) (now (pool .entry)) h (now (pool .exit)) r ⌝ }

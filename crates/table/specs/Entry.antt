@@ -6,7 +6,8 @@ use lib.ListN.{length, replicate}
 use lib.Dec.{eqb}
 use Rattle.datatypes.specs.declared.Link.{Link}
 use Rattle.datatypes.specs.declared.Link.the-variants.{Root, Left, Right}
-use Rattle.spec.specs.Pool.{word, keyWord, recordWord, colourWord, leftWord, rightWord, standingWord, nextWord, standingLinked, standingRetired, nodeWords, nodes}
+use Rattle.spec.specs.Numbers.{nodeWords}
+use Rattle.spec.specs.Pool.{word, keyWord, recordWord, colourWord, leftWord, rightWord, standingWord, nextWord, standingLinked, standingRetired, nodes}
 use Rattle.spec.specs.Register.{State, state, fresh}
 use Rattle.spec.specs.Calls.{Answer, ok, go, absent, wait, found, more, done, refused, Call, call, setUp}
 

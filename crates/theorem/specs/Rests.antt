@@ -30,7 +30,8 @@ use Rattle.sequential.specs.Tree as Seq
 use Rattle.sequential.specs.Tree.{Tree, leaf}
 use Rattle.sequential.specs.Insert as SeqInsert
 use Rattle.sequential.specs.Delete.{Change, insertion, changed, changedBy}
-use Rattle.spec.specs.Pool.{nodeWords, child, isRed, standingWord, standingLinked, nodes as poolNodes}
+use Rattle.spec.specs.Numbers.{nodeWords}
+use Rattle.spec.specs.Pool.{child, isRed, standingWord, standingLinked, nodes as poolNodes}
 use Rattle.spec.specs.Register.{State, fresh, freshRegister, withWrite, writeOf}
 use Rattle.spec.specs.Search.{pathTo}
 use Rattle.spec.specs.Plan.{fixupResult, insertFixup, fixupAfterInsert, store, turnStores, endingStores, insertPlan}

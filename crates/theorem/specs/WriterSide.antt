@@ -13,8 +13,9 @@ use Rattle.datatypes.specs.declared.Store.{Store}
 use Rattle.sequential.specs.Tree as Seq
 use Rattle.sequential.specs.Tree.{Tree, leaf}
 use Rattle.sequential.specs.Delete.{Change, changedBy}
-use Rattle.spec.specs.Pool.{nodeWords, standingLinked, nodes as poolNodes}
-use Rattle.spec.specs.Register.{State, mostStores, storeOf, withWrite}
+use Rattle.spec.specs.Numbers.{nodeWords, mostStores}
+use Rattle.spec.specs.Pool.{standingLinked, nodes as poolNodes}
+use Rattle.spec.specs.Register.{State, storeOf, withWrite}
 use Rattle.spec.specs.Turn.{Made, stepFinds, stepMade}
 use Rattle.spec.specs.Calls.{stored, writeInHand}
 use Rattle.spec.specs.PlainList.{Ticket, Plain, recordFor, updated, withInHand, acceptedWrites, storeMade, listStore as listIndex}

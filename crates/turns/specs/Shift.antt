@@ -5,7 +5,8 @@ use lib.ListN.{length, getD, set, drop}
 use native.Mathlib.Omega.{arith}
 use Prim.Native.Nat.{ℕ}
 use Rattle.datatypes.specs.declared.Store.{Store}
-use Rattle.spec.specs.Register.{vacant, mostStores}
+use Rattle.spec.specs.Numbers.{mostStores}
+use Rattle.spec.specs.Register.{vacant}
 
 -- place i takes what stands at place j of the list l
 abbrev moved : List Store → ℕ → ℕ → List Store → List Store

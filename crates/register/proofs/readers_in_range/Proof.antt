@@ -1,5 +1,5 @@
+use Rattle.spec.specs.Numbers.{slots}
 use Rattle.spec.specs.Register.{readerInRange}
-use Rattle.spec.specs.Pool.{slots}
 use Rattle.base.specs.Walk.{allIn, all-and, all-end, and-assoc, and-true}
 use mathlib.Core.Bool.{_&&_}
 use Prim.Native.Nat.{ℕ, _≤_, _+_, _-_}

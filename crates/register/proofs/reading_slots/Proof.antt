@@ -1,5 +1,5 @@
+use Rattle.spec.specs.Numbers.{slots}
 use Rattle.spec.specs.Register.{addReading, readingSlots}
-use Rattle.spec.specs.Pool.{slots}
 use Rattle.base.specs.Walk.{foldIn, fold-step, fold-end}
 use Prim.Native.Nat.{ℕ, _≤_, _+_, _-_}
 use mathlib.Core.Path.{_≡_, refl, sym, ap, _∙_}

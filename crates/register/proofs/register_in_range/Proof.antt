@@ -1,9 +1,9 @@
 use mathlib.Core.Bool.{true, false, _&&_}
 use lib.Dec.{leb}
 use Rattle.base.specs.Walk.{allIn}
-use Rattle.spec.specs.Pool.{slots, allSlots}
 use Rattle.register.specs.Ranges.{stops, goes}
-use Rattle.spec.specs.Register.{registerInRange, readerInRange, storeInRange, mostStores}
+use Rattle.spec.specs.Numbers.{slots, allSlots, mostStores}
+use Rattle.spec.specs.Register.{registerInRange, readerInRange, storeInRange}
 use mathlib.Core.Path.{_≡_, sym, _∙_}
 use borrow.Author.Needs.{needs}
 use Rattle.register.proofs.register_in_range.Statement.{statement}

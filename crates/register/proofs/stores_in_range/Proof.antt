@@ -1,4 +1,5 @@
-use Rattle.spec.specs.Register.{storeInRange, mostStores}
+use Rattle.spec.specs.Numbers.{mostStores}
+use Rattle.spec.specs.Register.{storeInRange}
 use Rattle.base.specs.Walk.{allIn, all-bad, all-ok, all-end}
 use Prim.Native.Nat.{_≤_, _-_}
 use mathlib.Core.Path.{_≡_, refl, sym, _∙_}

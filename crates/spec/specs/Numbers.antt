@@ -1,0 +1,44 @@
+-- 01's numbers, each named once; a definition, a contract or a proof cites the name.
+use Prim.Native.Nat.{ℕ, _+_, _-_, _*_, _^_}
+
+-- 'Pool and register': the words of a node; the least and the largest number of nodes.
+abbrev pub nodeWords : ℕ
+nodeWords = 8
+
+abbrev pub leastNodes : ℕ
+leastNodes = 8
+
+abbrev pub mostNodes : ℕ
+mostNodes = 1023
+
+-- no pool of the right length has so many words
+abbrev pub poolLimit : ℕ
+poolLimit = (mostNodes + 1) * nodeWords
+
+-- Reader slots, and the largest mask of slots; a mask is a word, so there is room for 32.
+abbrev pub slots : ℕ
+slots = 8
+
+abbrev pub allSlots : ℕ
+allSlots = 2 ^ slots - 1
+
+abbrev pub wordBits : ℕ
+wordBits = 32
+
+-- 'Calls': a path from the root has at most 64 nodes.
+abbrev pub pathBound : ℕ
+pathBound = 64
+
+-- 'The writer's stores': the stores still to come are at most seven.
+abbrev pub mostStores : ℕ
+mostStores = 7
+
+-- 'When a call is turned down': nodes that the keys held leave over (10), and the free nodes that an insert and a delete ask for (11).
+abbrev pub reserve : ℕ
+reserve = 4
+
+abbrev pub freeForInsert : ℕ
+freeForInsert = 3
+
+abbrev pub freeForDelete : ℕ
+freeForDelete = 4
