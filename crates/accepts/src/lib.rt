@@ -12,13 +12,6 @@ ghost use Rattle.spec.specs.Register.{state, withWrite};
 ghost use Rattle.laws.specs.Tests.{lentNumber};
 ghost use Rattle.spec.specs.Calls.{ok, refused, accepts, placeOf, writeInHand, insert, delete};
 
-// nodes kept back from the keys, and free nodes that an insert and a delete ask for
-const RESERVE: u64 = 4;
-
-const FREE_FOR_INSERT: u32 = 3;
-
-const FREE_FOR_DELETE: u32 = 4;
-
 pub fn refused(number: u32, register: Register) -> Reply
     ensures { λ r. ⌜ (accepts (r .answer) ≡ refused number) × (r .register ≡ register) ⌝ }
 {
@@ -46,10 +39,10 @@ pub fn insert_at(pool: &[u32], reg: Register, k: u32, v: u32, l: Link) -> Reply
     ensures { λ r. ⌜ state (now (pool .entry)) (r .register) ≡ insert (state (now (pool .entry)) reg) k v .after ⌝ }
 {
     let capacity = pool::nodes(pool);
-    if capacity as u64 <= reg.held as u64 + RESERVE {
+    if capacity as u64 <= reg.held as u64 + numbers::RESERVE {
         return refused(10, reg);
     }
-    if reg.free < FREE_FOR_INSERT {
+    if reg.free < numbers::FREE_FOR_INSERT {
         return refused(11, reg);
     }
     let plan = plans::insert_plan(pool, reg, k, v, l);
@@ -66,7 +59,7 @@ pub fn delete_at(pool: &[u32], reg: Register, k: u32, l: Link, n: u32) -> Reply
     ensures { λ r. ⌜ accepts (r .answer) ≡ delete (state (now (pool .entry)) reg) k .answer ⌝ }
     ensures { λ r. ⌜ state (now (pool .entry)) (r .register) ≡ delete (state (now (pool .entry)) reg) k .after ⌝ }
 {
-    if reg.free < FREE_FOR_DELETE {
+    if reg.free < numbers::FREE_FOR_DELETE {
         return refused(11, reg);
     }
     let plan = plans::delete_plan(pool, reg, l, n);

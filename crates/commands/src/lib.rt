@@ -9,6 +9,7 @@ ghost use mathlib.Core.Path.{_≡_};
 ghost use mathlib.Core.List.{_++_};
 ghost use Prim.Native.Nat.{_≤_};
 ghost use lib.ListN.{length, drop};
+ghost use Rattle.spec.specs.Numbers.{poolLimit};
 ghost use Rattle.spec.specs.Register.{state};
 ghost use Rattle.spec.specs.Calls.{accepts, writerSays, readerSays};
 ghost use Rattle.lines.specs.Text.{says};
@@ -119,7 +120,7 @@ fn kept_words(lent: usize, tried: usize, said: Said) -> usize
 
 // a command on the first `lent` of the words, the pool; answer, register and every word are document 01's
 pub fn perform(words: &mut [u32], lent: usize, reg: Register, c: Command) -> Performed
-    requires { ⌜ (lent ≤ 8192) × (length (now words) ≡ 8192) ⌝ }
+    requires { ⌜ (lent ≤ poolLimit) × (length (now words) ≡ poolLimit) ⌝ }
     ensures { λ r. ⌜ says (r .said) ≡ performed (now (words .entry)) lent reg c .answer ⌝ }
     ensures { λ r. ⌜ r .register ≡ performed (now (words .entry)) lent reg c .after .register ⌝ }
     ensures { λ r. ⌜ r .lent ≡ keptWords lent (triedWords lent c) (says (r .said)) ⌝ }

@@ -1,6 +1,7 @@
 // The counts, a line each.
 use crate::tally;
 ghost use Prim.Native.Nat.{_<_};
+ghost use Rattle.spec.specs.Numbers.{slots};
 
 fn line(label: &[u8], n: u64) {
     io::write_all(1, label);

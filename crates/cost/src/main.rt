@@ -15,6 +15,7 @@ use libc::STDOUT_FILENO;
 ghost use mathlib.Core.Path.{_≡_};
 ghost use Prim.Native.Nat.{ℕ, _<_, _≤_};
 ghost use lib.ListN.{length};
+ghost use Rattle.spec.specs.Numbers.{slots};
 
 const MOST_WORDS: usize = 8184;
 
@@ -221,7 +222,7 @@ fn once(pool: &mut [u32], reg: Register, call: u8, k: u32, s: u32) -> Register {
 
 // the next call on the way: set up, writes and their turns to the wanted one with about as many keys as wanted, then a begin
 fn way_call(pool: &[u32], reg: Register, call: u8, keys: u32, s: u32, seed: u32) -> u8
-    requires { ⌜ (2 ≤ keys) × (s < 8) ⌝ }
+    requires { ⌜ (2 ≤ keys) × (s < slots) ⌝ }
 {
     let i = s as usize;
     let reader = reg.readers[i];
@@ -250,7 +251,7 @@ fn way_call(pool: &[u32], reg: Register, call: u8, keys: u32, s: u32, seed: u32)
 
 // the way to the call, from a register that may not be set up; answers one with no keys where the wanted turn never came
 fn walk(pool: &mut [u32], reg: Register, call: u8, keys: u32, s: u32) -> Register
-    requires { ⌜ (2 ≤ keys) × (keys ≤ 510) × (s < 8) ⌝ }
+    requires { ⌜ (2 ≤ keys) × (keys ≤ 510) × (s < slots) ⌝ }
 {
     let mut r = reg;
     let mut seed: u32 = 1;
@@ -367,7 +368,7 @@ fn repeat(
 }
 
 fn run(pool: &mut [u32], kept: &mut [u32], call: u8, keys: u32, mode: u8, s: u32) -> u32
-    requires { ⌜ (2 ≤ keys) × (keys ≤ 510) × (s < 8) × (length (now pool) ≡ length (now kept)) ⌝ }
+    requires { ⌜ (2 ≤ keys) × (keys ≤ 510) × (s < slots) × (length (now pool) ≡ length (now kept)) ⌝ }
 {
     let first = start(pool, call, keys);
     let r = walk(pool, first, call, keys, s);
@@ -396,7 +397,7 @@ fn run_on(
     mode: u8,
     s: u32,
 ) -> u32
-    requires { ⌜ (2 ≤ keys) × (keys ≤ 510) × (s < 8) × (n ≤ length (now words)) × (length (now words) ≡ length (now kept)) ⌝ }
+    requires { ⌜ (2 ≤ keys) × (keys ≤ 510) × (s < slots) × (n ≤ length (now words)) × (length (now words) ≡ length (now kept)) ⌝ }
 {
     run(&mut words[..n], &mut kept[..n], call, keys, mode, s)
 }

@@ -68,7 +68,7 @@ pub struct Store {
 
 // The write in hand: the stores still to come stand first, the others are vacant.
 pub struct Write {
-    pub stores: [Store; 7],
+    pub stores: [Store; numbers::MOST_STORES],
     pub count: u32,
 }
 
@@ -86,7 +86,7 @@ pub struct Register {
     pub last: u32,
     pub free: u32,
     pub held: u32,
-    pub readers: [Reader; 8],
+    pub readers: [Reader; numbers::SLOTS],
     pub awaited: u32,
     pub write: Write,
 }

@@ -11,7 +11,7 @@ ghost use Rattle.datatypes.specs.declared.Register.{Register};
 ghost use Rattle.datatypes.specs.declared.Link.the-variants.{Root};
 ghost use Rattle.spec.specs.Register.{state, nodeAt};
 ghost use Rattle.spec.specs.Plan.{twoChildren, onlyChild, fixupAfterRemoval, paintEnd, paintDeleteFixup};
-ghost use Rattle.paths.specs.Upward.{upward};
+ghost use Rattle.paths.specs.Upward.{mostLinks, upward};
 
 pub fn two_children(pool: &[u32], b: u32) -> bool
     ensures { λ r. ⌜ r ≡ twoChildren (now (pool .entry)) b ⌝ }
@@ -27,32 +27,32 @@ pub fn only_child(pool: &[u32], b: u32) -> u32
 {
     let left = pool::child(pool, Side::L, b);
     let right = pool::child(pool, Side::R, b);
-    register::choose(left == 0, right, left)
+    counts::choose(left == 0, right, left)
 }
 
-// The fix-up after the colour of node n is lost at the end of a path of c links, where x came.
-pub fn fixup_after_removal(pool: &[u32], n: u32, x: u32, path: &[u64], c: u32) -> Fixup
-    requires { ⌜ (c ≤ length (now path)) × (c ≤ 66) ⌝ }
-    ensures { λ r. ⌜ r ≡ fixupAfterRemoval (now (pool .entry)) n x (upward (now (path .entry)) c) ⌝ }
+// The fix-up after the colour of node n is lost at the end of a path of that depth, where x came.
+pub fn fixup_after_removal(pool: &[u32], n: u32, x: u32, path: &[u64], depth: u32) -> Fixup
+    requires { ⌜ (depth ≤ length (now path)) × (depth ≤ mostLinks) ⌝ }
+    ensures { λ r. ⌜ r ≡ fixupAfterRemoval (now (pool .entry)) n x (upward (now (path .entry)) depth) ⌝ }
 {
     if pool::is_red(pool, n) {
         return fixups::fixup_result(0, Ending::Balanced);
     }
-    fixups::delete_fixup(pool, path, c, 0, x)
+    fixups::delete_fixup(pool, path, depth, 0, x)
 }
 
-// the node that a fix-up of m levels ended at
-fn end_node(pool: &[u32], root: u32, path: &[u64], c: u32, m: u32, x: u32) -> u32
-    requires { ⌜ c ≤ length (now path) ⌝ }
-    ensures { λ r. ⌜ r ≡ cond (eqb m 0) x (nodeAt (now (pool .entry)) root (getD (upward (now (path .entry)) c) m Root)) ⌝ }
+// the node that a fix-up of so many levels ended at
+fn end_node(pool: &[u32], root: u32, path: &[u64], depth: u32, levels: u32, x: u32) -> u32
+    requires { ⌜ depth ≤ length (now path) ⌝ }
+    ensures { λ r. ⌜ r ≡ cond (eqb levels 0) x (nodeAt (now (pool .entry)) root (getD (upward (now (path .entry)) depth) levels Root)) ⌝ }
 {
-    if m == 0 {
+    if levels == 0 {
         return x;
     }
-    if c <= m {
+    if depth <= levels {
         return root;
     }
-    register::node_at(pool, root, paths::link_in(path, c - 1 - m))
+    pool::node_at(pool, root, paths::link_in(path, depth - 1 - levels))
 }
 
 // the node n that a fix-up ended at, black where the ending says so
@@ -68,13 +68,13 @@ fn paint_end(pool: &mut [u32], e: Ending, n: u32)
     }
 }
 
-// The colours of a fix-up along a path of c links, where x came. Of the register only the root is read.
-pub fn paint_delete_fixup(pool: &mut [u32], root: u32, k: Fixup, x: u32, path: &[u64], c: u32)
-    requires { ⌜ c ≤ length (now path) ⌝ }
-    ensures { λ _. ⌜ ((reg : Register) → reg .root ≡ root → now (pool .exit) ≡ paintDeleteFixup (state (now (pool .entry)) reg) k x (upward (now (path .entry)) c) .pool) ⌝ }
+// The colours of a fix-up along a path of that depth, where x came. Of the register only the root is read.
+pub fn paint_delete_fixup(pool: &mut [u32], root: u32, fix: Fixup, x: u32, path: &[u64], depth: u32)
+    requires { ⌜ depth ≤ length (now path) ⌝ }
+    ensures { λ _. ⌜ ((reg : Register) → reg .root ≡ root → now (pool .exit) ≡ paintDeleteFixup (state (now (pool .entry)) reg) fix x (upward (now (path .entry)) depth) .pool) ⌝ }
 {
-    let end = end_node(pool, root, path, c, k.levels, x);
-    fixups::paint_delete_levels(pool, path, c, k.levels);
-    let ending = k.ending;
+    let end = end_node(pool, root, path, depth, fix.levels, x);
+    fixups::paint_delete_levels(pool, path, depth, fix.levels);
+    let ending = fix.ending;
     paint_end(pool, ending, end);
 }

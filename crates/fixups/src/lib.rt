@@ -15,7 +15,7 @@ ghost use Rattle.datatypes.specs.Side.{sameSide};
 ghost use Rattle.spec.specs.Pool.{paint, blackColour, redColour};
 ghost use Rattle.spec.specs.Plan.{fixupResult, insertFixup, paintInsertFixup, redChild, blackSibling as blackSiblingOf, redSibling, deleteFixup, paintDeleteLevels, missing};
 ghost use Rattle.spec.specs.Turn.{nodesFound};
-ghost use Rattle.paths.specs.Upward.{upward};
+ghost use Rattle.paths.specs.Upward.{mostLinks, upward};
 
 pub fn fixup_result(levels: u32, ending: Ending) -> Fixup
     ensures { λ r. ⌜ r ≡ fixupResult levels ending ⌝ }
@@ -37,10 +37,10 @@ pub fn missing(e: Ending) -> bool
 }
 
 // whether a fix-up found every node that it names
-pub fn nodes_found(k: Fixup) -> bool
-    ensures { λ r. ⌜ r ≡ nodesFound k ⌝ }
+pub fn nodes_found(fix: Fixup) -> bool
+    ensures { λ r. ⌜ r ≡ nodesFound fix ⌝ }
 {
-    let ending = k.ending;
+    let ending = fix.ending;
     let gone = missing(ending);
     !gone
 }
@@ -61,27 +61,27 @@ fn form_of(x: Side, y: Side) -> Form
     }
 }
 
-// The insert fix-up from the c-th link of a path, with m levels passed.
-pub fn insert_fixup(pool: &[u32], path: &[u64], c: u32, m: u32) -> Fixup
-    requires { ⌜ (c ≤ length (now path)) × (m + c ≤ 66) ⌝ }
-    ensures { λ r. ⌜ r ≡ insertFixup (now (pool .entry)) m (upward (now (path .entry)) c) ⌝ }
+// The insert fix-up from a path's link at that depth, with so many levels passed.
+pub fn insert_fixup(pool: &[u32], path: &[u64], depth: u32, levels: u32) -> Fixup
+    requires { ⌜ (depth ≤ length (now path)) × (levels + depth ≤ mostLinks) ⌝ }
+    ensures { λ r. ⌜ r ≡ insertFixup (now (pool .entry)) levels (upward (now (path .entry)) depth) ⌝ }
 {
-    let mut d = c;
-    let mut e = m;
+    let mut d = depth;
+    let mut e = levels;
     while d > 1 {
         let x = paths::link_in(path, d - 1);
-        if pool::is_red(pool, register::owner(x)) {} else {
+        if pool::is_red(pool, links::owner(x)) {} else {
             return fixup_result(e, Ending::Balanced);
         }
         if d == 2 {
             return fixup_result(e, Ending::Missing);
         }
         let y = paths::link_in(path, d - 2);
-        let s = register::side_of(y);
-        let aunt = pool::child(pool, pool::other(s), register::owner(y));
+        let s = links::side_of(y);
+        let aunt = pool::child(pool, links::other(s), links::owner(y));
         if pool::is_red(pool, aunt) {} else {
             let link = paths::link_in(path, d - 3);
-            let form = form_of(register::side_of(x), s);
+            let form = form_of(links::side_of(x), s);
             let rotation = Rotation {
                 link,
                 form,
@@ -108,21 +108,21 @@ fn paint_level(pool: &mut [u32], parent: u32, aunt: u32, grandparent: u32)
     pool::set_word(pool, grandparent, pool::COLOUR, pool::RED);
 }
 
-// The colours of m levels from the c-th link of a path.
-pub fn paint_insert_fixup(pool: &mut [u32], path: &[u64], c: u32, m: u32)
-    requires { ⌜ c ≤ length (now path) ⌝ }
-    ensures { λ _. ⌜ now (pool .exit) ≡ paintInsertFixup m (upward (now (path .entry)) c) (now (pool .entry)) ⌝ }
+// The colours of so many levels from a path's link at that depth.
+pub fn paint_insert_fixup(pool: &mut [u32], path: &[u64], depth: u32, levels: u32)
+    requires { ⌜ depth ≤ length (now path) ⌝ }
+    ensures { λ _. ⌜ now (pool .exit) ≡ paintInsertFixup levels (upward (now (path .entry)) depth) (now (pool .entry)) ⌝ }
 {
-    let mut d = c;
-    let mut e = m;
+    let mut d = depth;
+    let mut e = levels;
     while e > 0 {
         if d < 2 {
             return;
         }
         let x = paths::link_in(path, d - 1);
         let y = paths::link_in(path, d - 2);
-        let aunt = pool::child(pool, pool::other(register::side_of(y)), register::owner(y));
-        paint_level(pool, register::owner(x), aunt, register::owner(y));
+        let aunt = pool::child(pool, links::other(links::side_of(y)), links::owner(y));
+        paint_level(pool, links::owner(x), aunt, links::owner(y));
         d -= 2;
         e -= 1;
     }
@@ -159,7 +159,7 @@ fn black_sibling(pool: &[u32], l: Link, z: Side, w: u32) -> Rotation
 fn red_sibling(pool: &[u32], l: Link, z: Side, w: u32) -> Ending
     ensures { λ r. ⌜ r ≡ redSibling (now (pool .entry)) l z w ⌝ }
 {
-    let s = pool::other(z);
+    let s = links::other(z);
     let inner = pool::child(pool, s, w);
     if inner == 0 {
         return Ending::Missing;
@@ -171,19 +171,19 @@ fn red_sibling(pool: &[u32], l: Link, z: Side, w: u32) -> Ending
         purpose: Purpose::RedSibling,
     };
     if red_child(pool, inner) {
-        let second = black_sibling(pool, register::link_at(s, w), z, inner);
+        let second = black_sibling(pool, links::link_at(s, w), z, inner);
         return Ending::RotateTwice(first, second);
     }
     Ending::Rotate(first)
 }
 
-// The delete fix-up from the c-th link of a path, where x came, with m levels passed.
-pub fn delete_fixup(pool: &[u32], path: &[u64], c: u32, m: u32, x: u32) -> Fixup
-    requires { ⌜ (c ≤ length (now path)) × (m + c ≤ 66) ⌝ }
-    ensures { λ r. ⌜ r ≡ deleteFixup (now (pool .entry)) m x (upward (now (path .entry)) c) ⌝ }
+// The delete fix-up from a path's link at that depth, where x came, with so many levels passed.
+pub fn delete_fixup(pool: &[u32], path: &[u64], depth: u32, levels: u32, x: u32) -> Fixup
+    requires { ⌜ (depth ≤ length (now path)) × (levels + depth ≤ mostLinks) ⌝ }
+    ensures { λ r. ⌜ r ≡ deleteFixup (now (pool .entry)) levels x (upward (now (path .entry)) depth) ⌝ }
 {
-    let mut d = c;
-    let mut e = m;
+    let mut d = depth;
+    let mut e = levels;
     let mut node = x;
     loop {
         if pool::is_red(pool, node) {
@@ -196,8 +196,8 @@ pub fn delete_fixup(pool: &[u32], path: &[u64], c: u32, m: u32, x: u32) -> Fixup
             return fixup_result(e, Ending::Balanced);
         }
         let l = paths::link_in(path, d - 1);
-        let z = pool::other(register::side_of(l));
-        let parent = register::owner(l);
+        let z = links::other(links::side_of(l));
+        let parent = links::owner(l);
         let w = pool::child(pool, z, parent);
         if w == 0 {
             return fixup_result(e, Ending::Missing);
@@ -216,19 +216,19 @@ pub fn delete_fixup(pool: &[u32], path: &[u64], c: u32, m: u32, x: u32) -> Fixup
     }
 }
 
-// The colours of m levels from the c-th link of a path: each sibling red.
-pub fn paint_delete_levels(pool: &mut [u32], path: &[u64], c: u32, m: u32)
-    requires { ⌜ c ≤ length (now path) ⌝ }
-    ensures { λ _. ⌜ now (pool .exit) ≡ paintDeleteLevels m (upward (now (path .entry)) c) (now (pool .entry)) ⌝ }
+// The colours of so many levels from a path's link at that depth: each sibling red.
+pub fn paint_delete_levels(pool: &mut [u32], path: &[u64], depth: u32, levels: u32)
+    requires { ⌜ depth ≤ length (now path) ⌝ }
+    ensures { λ _. ⌜ now (pool .exit) ≡ paintDeleteLevels levels (upward (now (path .entry)) depth) (now (pool .entry)) ⌝ }
 {
-    let mut d = c;
-    let mut e = m;
+    let mut d = depth;
+    let mut e = levels;
     while e > 0 {
         if d == 0 {
             return;
         }
         let l = paths::link_in(path, d - 1);
-        let w = pool::child(pool, pool::other(register::side_of(l)), register::owner(l));
+        let w = pool::child(pool, links::other(links::side_of(l)), links::owner(l));
         pool::set_word(pool, w, pool::COLOUR, pool::RED);
         d -= 1;
         e -= 1;

@@ -15,9 +15,6 @@ ghost use mathlib.Core.Path.{_≡_};
 ghost use Rattle.spec.specs.Register.{state};
 ghost use Rattle.spec.specs.Calls.{accepts, writerSays, readerSays, setUp, insert, delete, writerTurn, begin, readerTurn, giveUp};
 
-// the most nodes of a path
-const PATH_BOUND: u32 = 64;
-
 pub fn set_up(pool: &mut [u32], reg: Register) -> Reply
     ensures { λ r. ⌜ accepts (r .answer) ≡ setUp (state (now (pool .entry)) reg) .answer ⌝ }
     ensures { λ r. ⌜ state (now (pool .exit)) (r .register) ≡ setUp (state (now (pool .entry)) reg) .after ⌝ }
@@ -48,7 +45,7 @@ pub fn insert(pool: &[u32], reg: Register, k: u32, v: u32) -> Reply
     if hand.count != 0 {
         return accepts::refused(6, reg);
     }
-    let place = search::seek(pool, k, Link::Root, reg.root, PATH_BOUND);
+    let place = search::seek(pool, k, Link::Root, reg.root, numbers::PATH_BOUND);
     match place {
         Place::Held(_, _) => accepts::refused(8, reg),
         Place::Empty(l) => accepts::insert_at(pool, reg, k, v, l),
@@ -68,7 +65,7 @@ pub fn delete(pool: &[u32], reg: Register, k: u32) -> Reply
     if hand.count != 0 {
         return accepts::refused(6, reg);
     }
-    let place = search::seek(pool, k, Link::Root, reg.root, PATH_BOUND);
+    let place = search::seek(pool, k, Link::Root, reg.root, numbers::PATH_BOUND);
     match place {
         Place::Held(l, n) => accepts::delete_at(pool, reg, k, l, n),
         Place::Empty(_) => accepts::refused(9, reg),

@@ -5,6 +5,7 @@ use datatypes::ReaderAnswer;
 ghost use mathlib.Core.Path.{_≡_};
 ghost use Prim.Native.Nat.{ℕ, _<_};
 ghost use lib.ListN.{length};
+ghost use Rattle.spec.specs.Numbers.{poolLimit, slots};
 ghost use Rattle.spec.specs.Calls.{readerSays};
 ghost use Rattle.lookups.specs.Looked.{loadAnswer, lookAnswer, lookNode, readerAt, Leaves};
 
@@ -50,7 +51,7 @@ pub fn look(pool: &[u32], root: u32, k: u32, n: u32) -> Looked
 
 // The head after slot s loaded node n: the reading ends at 0.
 pub fn leave(pool: &mut [u32], h: Head, s: u32, n: u32) -> Head
-    requires { ⌜ (length (now pool) < 8192) × (s < 8) ⌝ }
+    requires { ⌜ (length (now pool) < poolLimit) × (s < slots) ⌝ }
     ensures { λ r. ⌜ Leaves s n (now (pool .entry)) h (now (pool .exit)) r ⌝ }
 {
     if n == 0 {

@@ -14,13 +14,14 @@ ghost use mathlib.Core.List.{[], _∷_};
 ghost use mathlib.Core.Bool.{not, cond};
 ghost use Rattle.datatypes.specs.declared.Ending.the-variants.{Balanced};
 ghost use Rattle.datatypes.specs.Side.{owner};
+ghost use Rattle.spec.specs.Numbers.{mostStores};
 ghost use Rattle.spec.specs.Pool.{isRed};
 ghost use Rattle.spec.specs.Search.{pathTo};
 ghost use Prim.Native.Nat.{ℕ, _<_, _≤_, _+_};
 ghost use lib.ListN.{length};
 ghost use Rattle.spec.specs.Register.{state, writeOf};
 ghost use Rattle.spec.specs.Plan.{store, rotationStores, endingStores, missing, fixupResult, insertFixup, insertPlan, unlinkPlan, successorPlan, deletePlan};
-ghost use Rattle.paths.specs.Upward.{upward};
+ghost use Rattle.paths.specs.Upward.{mostLinks, upward};
 ghost use Rattle.plans.specs.Pushed.{pushed, pushAll};
 
 // what a write plans: whether all its steps find their nodes, and its stores as the write in hand
@@ -38,13 +39,13 @@ fn no_write() -> Write
         step: Step::Vacant,
     };
     Write {
-        stores: [vacant; 7],
+        stores: [vacant; numbers::MOST_STORES],
         count: 0,
     }
 }
 
 fn push(w: Write, link: Link, step: Step) -> Write
-    requires { ⌜ w .count < 7 ⌝ }
+    requires { ⌜ w .count < mostStores ⌝ }
     ensures { λ r. ⌜ r ≡ pushed w (store link step) ⌝ }
 {
     let i = w.count as usize;
@@ -69,7 +70,7 @@ fn two_stores(l: Link, s: Step, t: Step) -> Write
 
 // the stores of a rotation
 fn push_rotation(w: Write, t: Rotation) -> Write
-    requires { ⌜ w .count + length (rotationStores t) ≤ 7 ⌝ }
+    requires { ⌜ w .count + length (rotationStores t) ≤ mostStores ⌝ }
     ensures { λ r. ⌜ r ≡ pushAll w (rotationStores t) ⌝ }
 {
     let link = t.link;
@@ -93,17 +94,17 @@ fn push_rotation(w: Write, t: Rotation) -> Write
 pub fn fixup_after_insert(pool: &[u32], root: u32, k: u32, l: Link) -> Fixup
     ensures { λ r. ⌜ r ≡ cond (isRed (now (pool .entry)) (owner l)) (insertFixup (now (pool .entry)) 0 (pathTo (now (pool .entry)) root k l)) (fixupResult 0 Balanced) ⌝ }
 {
-    if pool::is_red(pool, register::owner(l)) {} else {
+    if pool::is_red(pool, links::owner(l)) {} else {
         return fixups::fixup_result(0, Ending::Balanced);
     }
-    let mut path: [u64; paths::MOST_LINKS] = [0; paths::MOST_LINKS];
-    let c = paths::path_to(pool, root, k, l, &mut path);
-    fixups::insert_fixup(pool, &path, c, 0)
+    let mut path: [u64; numbers::MOST_LINKS] = [0; numbers::MOST_LINKS];
+    let depth = paths::path_to(pool, root, k, l, &mut path);
+    fixups::insert_fixup(pool, &path, depth, 0)
 }
 
 // the stores that a fix-up's ending plans
 fn push_ending(w: Write, e: Ending) -> Write
-    requires { ⌜ w .count + length (endingStores e) ≤ 7 ⌝ }
+    requires { ⌜ w .count + length (endingStores e) ≤ mostStores ⌝ }
     ensures { λ r. ⌜ r ≡ pushAll w (endingStores e) ⌝ }
 {
     match e {
@@ -120,7 +121,7 @@ fn push_ending(w: Write, e: Ending) -> Write
 
 // the stores so far with those of a fix-up's ending
 fn plan(w: Write, e: Ending) -> Planned
-    requires { ⌜ w .count + length (endingStores e) ≤ 7 ⌝ }
+    requires { ⌜ w .count + length (endingStores e) ≤ mostStores ⌝ }
     ensures { λ r. ⌜ r .possible ≡ not (missing e) ⌝ }
     ensures { λ r. ⌜ r .write ≡ pushAll w (endingStores e) ⌝ }
 {
@@ -137,38 +138,44 @@ pub fn insert_plan(pool: &[u32], reg: Register, k: u32, v: u32, l: Link) -> Plan
     ensures { λ r. ⌜ r .possible ≡ insertPlan (state (now (pool .entry)) reg) k v l .possible ⌝ }
     ensures { λ r. ⌜ r .write ≡ writeOf (insertPlan (state (now (pool .entry)) reg) k v l .stores) ⌝ }
 {
-    let c = fixup_after_insert(pool, reg.root, k, l);
-    let ending = c.ending;
+    let fix = fixup_after_insert(pool, reg.root, k, l);
+    let ending = fix.ending;
     plan(one_store(l, Step::Insert(k, v)), ending)
 }
 
-// Delete of node b, which has at most one child, at the end of a path of c links.
-fn unlink_plan(pool: &[u32], reg: Register, l: Link, b: u32, path: &[u64], c: u32) -> Planned
-    requires { ⌜ (c ≤ length (now path)) × (c ≤ 66) ⌝ }
-    ensures { λ r. ⌜ r .possible ≡ unlinkPlan (state (now (pool .entry)) reg) l b (upward (now (path .entry)) c) .possible ⌝ }
-    ensures { λ r. ⌜ r .write ≡ writeOf (unlinkPlan (state (now (pool .entry)) reg) l b (upward (now (path .entry)) c) .stores) ⌝ }
+// Delete of node b, which has at most one child, at the end of a path of that depth.
+fn unlink_plan(pool: &[u32], reg: Register, l: Link, b: u32, path: &[u64], depth: u32) -> Planned
+    requires { ⌜ (depth ≤ length (now path)) × (depth ≤ mostLinks) ⌝ }
+    ensures { λ r. ⌜ r .possible ≡ unlinkPlan (state (now (pool .entry)) reg) l b (upward (now (path .entry)) depth) .possible ⌝ }
+    ensures { λ r. ⌜ r .write ≡ writeOf (unlinkPlan (state (now (pool .entry)) reg) l b (upward (now (path .entry)) depth) .stores) ⌝ }
 {
     let x = delete_fixups::only_child(pool, b);
-    let k = delete_fixups::fixup_after_removal(pool, b, x, path, c);
-    let ending = k.ending;
+    let fix = delete_fixups::fixup_after_removal(pool, b, x, path, depth);
+    let ending = fix.ending;
     plan(one_store(l, Step::Unlink), ending)
 }
 
-// Delete of node b, which has two children; the path of c links leads to the next key's node.
-fn successor_plan(pool: &[u32], reg: Register, l: Link, b: u32, path: &[u64], c: u32) -> Planned
-    requires { ⌜ (c ≤ length (now path)) × (c ≤ 66) ⌝ }
-    ensures { λ r. ⌜ r .possible ≡ successorPlan (state (now (pool .entry)) reg) l b (upward (now (path .entry)) c) .possible ⌝ }
-    ensures { λ r. ⌜ r .write ≡ writeOf (successorPlan (state (now (pool .entry)) reg) l b (upward (now (path .entry)) c) .stores) ⌝ }
+// Delete of node b, which has two children; the path of that depth leads to the next key's node.
+fn successor_plan(pool: &[u32], reg: Register, l: Link, b: u32, path: &[u64], depth: u32) -> Planned
+    requires { ⌜ (depth ≤ length (now path)) × (depth ≤ mostLinks) ⌝ }
+    ensures { λ r. ⌜ r .possible ≡ successorPlan (state (now (pool .entry)) reg) l b (upward (now (path .entry)) depth) .possible ⌝ }
+    ensures { λ r. ⌜ r .write ≡ writeOf (successorPlan (state (now (pool .entry)) reg) l b (upward (now (path .entry)) depth) .stores) ⌝ }
 {
-    if c == 0 {
+    if depth == 0 {
         return Planned {
             possible: false,
             write: no_write(),
         };
     }
-    let n = register::node_at(pool, reg.root, paths::nearest(path, c));
-    let k = delete_fixups::fixup_after_removal(pool, n, pool::child(pool, Side::R, n), path, c);
-    let ending = k.ending;
+    let n = pool::node_at(pool, reg.root, paths::nearest(path, depth));
+    let fix = delete_fixups::fixup_after_removal(
+        pool,
+        n,
+        pool::child(pool, Side::R, n),
+        path,
+        depth,
+    );
+    let ending = fix.ending;
     let right = pool::child(pool, Side::R, b);
     if pool::child(pool, Side::L, right) == 0 {
         return plan(two_stores(l, Step::Adopt, Step::Replace), ending);
@@ -182,12 +189,12 @@ pub fn delete_plan(pool: &[u32], reg: Register, l: Link, b: u32) -> Planned
     ensures { λ r. ⌜ r .possible ≡ deletePlan (state (now (pool .entry)) reg) l b .possible ⌝ }
     ensures { λ r. ⌜ r .write ≡ writeOf (deletePlan (state (now (pool .entry)) reg) l b .stores) ⌝ }
 {
-    let mut path: [u64; paths::MOST_LINKS] = [0; paths::MOST_LINKS];
+    let mut path: [u64; numbers::MOST_LINKS] = [0; numbers::MOST_LINKS];
     let key = pool::word(pool, b, pool::KEY);
-    let c = paths::path_to(pool, reg.root, key, l, &mut path);
+    let depth = paths::path_to(pool, reg.root, key, l, &mut path);
     if delete_fixups::two_children(pool, b) {
-        let d = paths::successor_path(pool, b, &mut path, c);
+        let d = paths::successor_path(pool, b, &mut path, depth);
         return successor_plan(pool, reg, l, b, &path, d);
     }
-    unlink_plan(pool, reg, l, b, &path, c)
+    unlink_plan(pool, reg, l, b, &path, depth)
 }

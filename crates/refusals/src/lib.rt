@@ -25,7 +25,11 @@ pub fn lent_refusal(pool: &[u32], reg: Register) -> u32
 pub fn slot_index(s: u32) -> usize
     ensures { λ r. ⌜ (r ≡ slotIndex s) × (r < slots) ⌝ }
 {
-    if s < register::SLOTS { s as usize } else { 0 }
+    if s < numbers::SLOT_LIMIT {
+        s as usize
+    } else {
+        0
+    }
 }
 
 // The tests of a call that names slot s, from the number of tests 1 and 2 and the call's own cause with its number.
@@ -35,8 +39,8 @@ pub fn slot_refusal(lent: u32, s: u32, cause: bool, number: u32) -> u32
     if lent != 0 {
         return lent;
     }
-    if register::SLOTS <= s {
+    if numbers::SLOT_LIMIT <= s {
         return 3;
     }
-    register::choose(cause, number, 0)
+    counts::choose(cause, number, 0)
 }

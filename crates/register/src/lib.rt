@@ -1,21 +1,15 @@
-// The register: fields changed, links read and stored, slots as bits, the test of ranges.
+// The register: the write in hand changed, slots as bits, the test of ranges.
 use datatypes::Link;
 use datatypes::Register;
-use datatypes::Side;
 use datatypes::Step;
 use datatypes::Store;
 use datatypes::Write;
 ghost use mathlib.Core.Path.{_≡_};
 ghost use Prim.Native.Nat.{ℕ, _<_, _≤_, _+_, _*_};
 ghost use mathlib.Core.Bool.{cond, _&&_};
-ghost use Rattle.datatypes.specs.Side.{linkAt, owner, sideOf, sameSide};
-ghost use Rattle.spec.specs.Numbers.{slots, mostStores};
-ghost use Rattle.spec.specs.Register.{withWrite, countUp, countDown, nodeAt, hasSlot, putSlot, dropSlot, readingSlots, nodeNumber, linkInRange, stepInRange, isRoot, isVacant, storeInRange, readerInRange, registerInRange};
+ghost use Rattle.spec.specs.Numbers.{slots, wordBits, mostStores};
+ghost use Rattle.spec.specs.Register.{withWrite, hasSlot, putSlot, dropSlot, readingSlots, nodeNumber, linkInRange, stepInRange, isRoot, isVacant, storeInRange, readerInRange, registerInRange};
 ghost use Rattle.base.specs.Walk.{allIn};
-
-pub const SLOTS: u32 = 8;
-
-pub const MOST_STORES: u32 = 7;
 
 pub fn with_write(reg: Register, w: Write) -> Register
     ensures { λ r. ⌜ r ≡ withWrite reg w ⌝ }
@@ -25,84 +19,23 @@ pub fn with_write(reg: Register, w: Write) -> Register
     r
 }
 
-// one of two numbers
-pub fn choose(test: bool, x: u32, y: u32) -> u32
-    ensures { λ r. ⌜ r ≡ cond test x y ⌝ }
-{
-    if test { x } else { y }
-}
-
-// A count at an end of its range goes no further.
-pub fn count_up(capacity: u32, n: u32) -> u32
-    ensures { λ r. ⌜ r ≡ countUp capacity n ⌝ }
-{
-    if n < capacity { n + 1 } else { n }
-}
-
-pub fn count_down(n: u32) -> u32
-    ensures { λ r. ⌜ r ≡ countDown n ⌝ }
-{
-    if n == 0 { 0 } else { n - 1 }
-}
-
-// a node's link on a side; the node and the side of a link
-pub fn link_at(s: Side, n: u32) -> Link
-    ensures { λ r. ⌜ r ≡ linkAt s n ⌝ }
-{
-    match s {
-        Side::L => Link::Left(n),
-        Side::R => Link::Right(n),
-    }
-}
-
-pub fn owner(l: Link) -> u32
-    ensures { λ r. ⌜ r ≡ owner l ⌝ }
-{
-    match l {
-        Link::Root => 0,
-        Link::Left(n) => n,
-        Link::Right(n) => n,
-    }
-}
-
-pub fn side_of(l: Link) -> Side
-    ensures { λ r. ⌜ r ≡ sideOf l ⌝ }
-{
-    match l {
-        Link::Root => Side::L,
-        Link::Left(_) => Side::L,
-        Link::Right(_) => Side::R,
-    }
-}
-
-// the node that a link holds
-pub fn node_at(pool: &[u32], root: u32, l: Link) -> u32
-    ensures { λ r. ⌜ r ≡ nodeAt (now (pool .entry)) root l ⌝ }
-{
-    match l {
-        Link::Root => root,
-        Link::Left(n) => pool::word(pool, n, pool::LEFT),
-        Link::Right(n) => pool::word(pool, n, pool::RIGHT),
-    }
-}
-
 // whether slot s is in a mask, and the mask with it and without it
 pub fn has_slot(m: u32, s: u32) -> bool
-    requires { ⌜ s < 32 ⌝ }
+    requires { ⌜ s < wordBits ⌝ }
     ensures { λ r. ⌜ r ≡ hasSlot m s ⌝ }
 {
     (m >> s) % 2 == 1
 }
 
 pub fn put_slot(m: u32, s: u32) -> u32
-    requires { ⌜ s < 32 ⌝ }
+    requires { ⌜ s < wordBits ⌝ }
     ensures { λ r. ⌜ r ≡ putSlot m s ⌝ }
 {
     if has_slot(m, s) { m } else { m + (1 << s) }
 }
 
 pub fn drop_slot(m: u32, s: u32) -> u32
-    requires { ⌜ s < 32 ⌝ }
+    requires { ⌜ s < wordBits ⌝ }
     ensures { λ r. ⌜ r ≡ dropSlot m s ⌝ }
 {
     if has_slot(m, s) { m - (1 << s) } else { m }
@@ -110,7 +43,7 @@ pub fn drop_slot(m: u32, s: u32) -> u32
 
 // the mask with slot s too, if it reads
 fn add_slot(m: u32, s: u32, reading: bool) -> u32
-    requires { ⌜ s < 32 ⌝ }
+    requires { ⌜ s < wordBits ⌝ }
     ensures { λ r. ⌜ r ≡ cond reading (putSlot m s) m ⌝ }
 {
     if reading { put_slot(m, s) } else { m }
@@ -122,7 +55,7 @@ pub fn reading_slots(reg: Register) -> u32
 {
     let mut m: u32 = 0;
     let mut s: u32 = 0;
-    while s < SLOTS {
+    while s < numbers::SLOT_LIMIT {
         let i = s as usize;
         m = add_slot(m, s, reg.readers[i].reading);
         s += 1;
@@ -212,7 +145,7 @@ fn readers_in_range(reg: Register, capacity: u32) -> bool
 {
     let mut ok = true;
     let mut s: u32 = 0;
-    while s < SLOTS {
+    while s < numbers::SLOT_LIMIT {
         let i = s as usize;
         ok = ok & (reg.readers[i].node <= capacity);
         s += 1;
@@ -225,7 +158,7 @@ fn stores_in_range(w: Write, capacity: u32) -> bool
 {
     let count = w.count;
     let mut i: u32 = 0;
-    while i < MOST_STORES {
+    while i < numbers::STORE_LIMIT {
         let at = i as usize;
         let x = w.stores[at];
         if store_in_range(x, i < count, capacity) {} else {
@@ -241,9 +174,9 @@ pub fn register_in_range(reg: Register, capacity: u32) -> bool
     ensures { λ r. ⌜ r ≡ registerInRange capacity reg ⌝ }
 {
     let a = (reg.root <= capacity) & (reg.first <= capacity) & (reg.last <= capacity);
-    let b = (reg.free <= capacity) & (reg.held <= capacity) & (reg.awaited <= pool::ALL_SLOTS);
+    let b = (reg.free <= capacity) & (reg.held <= capacity) & (reg.awaited <= numbers::ALL_SLOTS);
     let w = reg.write;
-    if a & b & (w.count <= MOST_STORES) & readers_in_range(reg, capacity) {} else {
+    if a & b & (w.count <= numbers::STORE_LIMIT) & readers_in_range(reg, capacity) {} else {
         return false;
     }
     stores_in_range(w, capacity)

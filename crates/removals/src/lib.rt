@@ -8,6 +8,7 @@ ghost use mathlib.Core.Path.{_≡_};
 ghost use Prim.Native.Nat.{ℕ, _<_, _≤_};
 ghost use lib.ListN.{length};
 ghost use Rattle.datatypes.specs.declared.Step.the-variants.{Unlink, Replace, Detach};
+ghost use Rattle.spec.specs.Numbers.{poolLimit};
 ghost use Rattle.spec.specs.Register.{setLink};
 ghost use Rattle.spec.specs.Free.{retire};
 ghost use Rattle.spec.specs.Plan.{paintDeleteFixup};
@@ -15,21 +16,21 @@ ghost use Rattle.spec.specs.Turn.{oneLess, painted};
 ghost use Rattle.heads.specs.Head.{Follows, FollowsReading, TriesReading};
 ghost use Rattle.paths.specs.Upward.{upward};
 
-// The colours of a fix-up along a path of c links, where x came; then n is retired.
+// The colours of a fix-up along a path of that depth, where x came; then n is retired.
 fn colour_and_retire(
     pool: &mut [u32],
     h: Head,
     reading: u32,
-    k: Fixup,
+    fix: Fixup,
     x: u32,
     path: &[u64],
-    c: u32,
+    depth: u32,
     n: u32,
 ) -> Head
-    requires { ⌜ (length (now pool) < 8192) × (c ≤ length (now path)) ⌝ }
-    ensures { λ r. ⌜ FollowsReading reading (λ st. retire (paintDeleteFixup st k x (upward (now (path .entry)) c)) n) (now (pool .entry)) h (now (pool .exit)) r ⌝ }
+    requires { ⌜ (length (now pool) < poolLimit) × (depth ≤ length (now path)) ⌝ }
+    ensures { λ r. ⌜ FollowsReading reading (λ st. retire (paintDeleteFixup st fix x (upward (now (path .entry)) depth)) n) (now (pool .entry)) h (now (pool .exit)) r ⌝ }
 {
-    delete_fixups::paint_delete_fixup(pool, h.root, k, x, path, c);
+    delete_fixups::paint_delete_fixup(pool, h.root, fix, x, path, depth);
     queue::retire(pool, h, reading, n)
 }
 
@@ -38,27 +39,27 @@ fn store_one_less(pool: &mut [u32], h: Head, l: Link, v: u32) -> Head
     ensures { λ r. ⌜ Follows (λ st. oneLess (setLink st l v)) (now (pool .entry)) h (now (pool .exit)) r ⌝ }
 {
     let mut r = heads::set_link(pool, h, l, v);
-    r.held = register::count_down(r.held);
+    r.held = counts::count_down(r.held);
     r
 }
 
 // B's link from above := its only child, or 0.
 pub fn unlink(pool: &mut [u32], h: Head, reading: u32, l: Link) -> StepResult
-    requires { ⌜ length (now pool) < 8192 ⌝ }
+    requires { ⌜ length (now pool) < poolLimit ⌝ }
     ensures { λ r. ⌜ TriesReading reading l Unlink (now (pool .entry)) h (now (pool .exit)) r ⌝ }
 {
-    let b = register::node_at(pool, h.root, l);
+    let b = pool::node_at(pool, h.root, l);
     let x = delete_fixups::only_child(pool, b);
-    let mut path: [u64; paths::MOST_LINKS] = [0; paths::MOST_LINKS];
+    let mut path: [u64; numbers::MOST_LINKS] = [0; numbers::MOST_LINKS];
     let key = pool::word(pool, b, pool::KEY);
-    let c = paths::path_to(pool, h.root, key, l, &mut path);
-    let k = delete_fixups::fixup_after_removal(pool, b, x, &path, c);
-    let found = (b != 0) & fixups::nodes_found(k);
+    let depth = paths::path_to(pool, h.root, key, l, &mut path);
+    let fix = delete_fixups::fixup_after_removal(pool, b, x, &path, depth);
+    let found = (b != 0) & fixups::nodes_found(fix);
     if found {} else {
         return heads::missed(h);
     }
     let less = store_one_less(pool, h, l, x);
-    let head = colour_and_retire(pool, less, reading, k, x, &path, c, b);
+    let head = colour_and_retire(pool, less, reading, fix, x, &path, depth, b);
     StepResult {
         found,
         link: l,
@@ -78,24 +79,24 @@ fn store_successor(pool: &mut [u32], h: Head, l: Link, n: u32, colour: u32) -> H
 
 // B's link from above := C, its right child, which has no left child but B's.
 pub fn replace(pool: &mut [u32], h: Head, reading: u32, l: Link) -> StepResult
-    requires { ⌜ length (now pool) < 8192 ⌝ }
+    requires { ⌜ length (now pool) < poolLimit ⌝ }
     ensures { λ r. ⌜ TriesReading reading l Replace (now (pool .entry)) h (now (pool .exit)) r ⌝ }
 {
-    let b = register::node_at(pool, h.root, l);
+    let b = pool::node_at(pool, h.root, l);
     let n = pool::child(pool, Side::R, b);
     let x = pool::child(pool, Side::R, n);
-    let mut path: [u64; paths::MOST_LINKS] = [0; paths::MOST_LINKS];
+    let mut path: [u64; numbers::MOST_LINKS] = [0; numbers::MOST_LINKS];
     let key = pool::word(pool, b, pool::KEY);
     let above = paths::path_to(pool, h.root, key, l, &mut path);
-    let c = paths::below_right(&mut path, b, above);
-    let k = delete_fixups::fixup_after_removal(pool, n, x, &path, c);
-    let found = (n != 0) & fixups::nodes_found(k);
+    let depth = paths::below_right(&mut path, b, above);
+    let fix = delete_fixups::fixup_after_removal(pool, n, x, &path, depth);
+    let found = (n != 0) & fixups::nodes_found(fix);
     if found {} else {
         return heads::missed(h);
     }
     let colour = pool::word(pool, b, pool::COLOUR);
     let less = store_successor(pool, h, l, n, colour);
-    let head = colour_and_retire(pool, less, reading, k, x, &path, c, b);
+    let head = colour_and_retire(pool, less, reading, fix, x, &path, depth, b);
     StepResult {
         found,
         link: l,
@@ -106,23 +107,23 @@ pub fn replace(pool: &mut [u32], h: Head, reading: u32, l: Link) -> StepResult
 
 // F's left := C's right, where C is found by the key from the link l.
 pub fn detach(pool: &mut [u32], h: Head, reading: u32, l: Link, key: u32) -> StepResult
-    requires { ⌜ length (now pool) < 8192 ⌝ }
+    requires { ⌜ length (now pool) < poolLimit ⌝ }
     ensures { λ r. ⌜ TriesReading reading l (Detach key) (now (pool .entry)) h (now (pool .exit)) r ⌝ }
 {
-    let b = register::node_at(pool, h.root, l);
-    let mut path: [u64; paths::MOST_LINKS] = [0; paths::MOST_LINKS];
+    let b = pool::node_at(pool, h.root, l);
+    let mut path: [u64; numbers::MOST_LINKS] = [0; numbers::MOST_LINKS];
     let above = paths::path_to(pool, h.root, key, l, &mut path);
-    let c = paths::successor_path(pool, b, &mut path, above);
-    let link = paths::nearest(&path, c);
-    let n = register::node_at(pool, h.root, link);
+    let depth = paths::successor_path(pool, b, &mut path, above);
+    let link = paths::nearest(&path, depth);
+    let n = pool::node_at(pool, h.root, link);
     let x = pool::child(pool, Side::R, n);
-    let k = delete_fixups::fixup_after_removal(pool, n, x, &path, c);
-    let found = (c != 0) & (n != 0) & fixups::nodes_found(k);
+    let fix = delete_fixups::fixup_after_removal(pool, n, x, &path, depth);
+    let found = (depth != 0) & (n != 0) & fixups::nodes_found(fix);
     if found {} else {
         return heads::missed(h);
     }
     let stored = heads::set_link(pool, h, link, x);
-    let head = colour_and_retire(pool, stored, reading, k, x, &path, c, n);
+    let head = colour_and_retire(pool, stored, reading, fix, x, &path, depth, n);
     StepResult {
         found,
         link,

@@ -10,6 +10,7 @@ ghost use mathlib.Core.Bool.{true};
 ghost use Prim.Native.Nat.{ℕ, _<_};
 ghost use lib.ListN.{length};
 ghost use Rattle.datatypes.specs.declared.Step.the-variants.{DiagLower, DiagRaise, ZigLowerA, ZigLowerC, ZigRaise};
+ghost use Rattle.spec.specs.Numbers.{poolLimit};
 ghost use Rattle.spec.specs.Pool.{paint, blackColour};
 ghost use Rattle.spec.specs.Register.{state, setLink};
 ghost use Rattle.spec.specs.Turn.{painted, copyNode, copyColour, risenColour, underCopy, endDiag, endDiagFinds, endZig};
@@ -50,7 +51,7 @@ fn risen_colour(pool: &[u32], purpose: Purpose, c: u32) -> u32
 pub fn diag_lower(pool: &mut [u32], h: Head, l: Link, s: Side, purpose: Purpose) -> StepResult
     ensures { λ r. ⌜ Tries l (DiagLower s purpose) (now (pool .entry)) h (now (pool .exit)) r ⌝ }
 {
-    let c = register::node_at(pool, h.root, l);
+    let c = pool::node_at(pool, h.root, l);
     let b = pool::child(pool, s, c);
     if b == 0 {
         return heads::missed(h);
@@ -58,10 +59,10 @@ pub fn diag_lower(pool: &mut [u32], h: Head, l: Link, s: Side, purpose: Purpose)
     if h.first == 0 {
         return heads::missed(h);
     }
-    let z = pool::other(s);
+    let z = links::other(s);
     let x = pool::child(pool, z, b);
     let y = pool::child(pool, z, c);
-    let link = register::link_at(z, b);
+    let link = links::link_at(z, b);
     let taken = take_copy(pool, h, c, s, x, y, copy_colour(purpose));
     let head = heads::set_link(pool, taken, link, h.first);
     StepResult {
@@ -76,8 +77,8 @@ pub fn diag_lower(pool: &mut [u32], h: Head, l: Link, s: Side, purpose: Purpose)
 pub fn zig_lower_a(pool: &mut [u32], h: Head, l: Link, s: Side, purpose: Purpose) -> StepResult
     ensures { λ r. ⌜ Tries l (ZigLowerA s purpose) (now (pool .entry)) h (now (pool .exit)) r ⌝ }
 {
-    let a = pool::child(pool, s, register::node_at(pool, h.root, l));
-    let b = pool::child(pool, pool::other(s), a);
+    let a = pool::child(pool, s, pool::node_at(pool, h.root, l));
+    let b = pool::child(pool, links::other(s), a);
     if b == 0 {
         return heads::missed(h);
     }
@@ -86,7 +87,7 @@ pub fn zig_lower_a(pool: &mut [u32], h: Head, l: Link, s: Side, purpose: Purpose
     }
     let x = pool::child(pool, s, a);
     let y = pool::child(pool, s, b);
-    let link = register::link_at(s, b);
+    let link = links::link_at(s, b);
     let taken = take_copy(pool, h, a, s, x, y, copy_colour(purpose));
     let head = heads::set_link(pool, taken, link, h.first);
     StepResult {
@@ -101,8 +102,8 @@ pub fn zig_lower_a(pool: &mut [u32], h: Head, l: Link, s: Side, purpose: Purpose
 pub fn zig_lower_c(pool: &mut [u32], h: Head, l: Link, s: Side, purpose: Purpose) -> StepResult
     ensures { λ r. ⌜ Tries l (ZigLowerC s purpose) (now (pool .entry)) h (now (pool .exit)) r ⌝ }
 {
-    let z = pool::other(s);
-    let c = register::node_at(pool, h.root, l);
+    let z = links::other(s);
+    let c = pool::node_at(pool, h.root, l);
     let b = pool::child(pool, z, pool::child(pool, s, c));
     if b == 0 {
         return heads::missed(h);
@@ -112,7 +113,7 @@ pub fn zig_lower_c(pool: &mut [u32], h: Head, l: Link, s: Side, purpose: Purpose
     }
     let x = pool::child(pool, z, b);
     let y = pool::child(pool, z, c);
-    let link = register::link_at(z, b);
+    let link = links::link_at(z, b);
     let taken = take_copy(pool, h, c, s, x, y, copy_colour(purpose));
     let head = heads::set_link(pool, taken, link, h.first);
     StepResult {
@@ -151,7 +152,7 @@ fn end_diag(pool: &mut [u32], root: u32, purpose: Purpose, s: Side, b: u32)
     match purpose {
         Purpose::ForInsert => pool::set_word(pool, root, pool::COLOUR, pool::BLACK),
         Purpose::RedSibling => {
-            let copy = pool::child(pool, pool::other(s), b);
+            let copy = pool::child(pool, links::other(s), b);
             under_copy(pool, s, copy);
         }
         Purpose::BlackSibling => {
@@ -167,7 +168,7 @@ fn end_diag_finds(pool: &[u32], purpose: Purpose, s: Side, b: u32) -> bool
 {
     match purpose {
         Purpose::ForInsert => true,
-        Purpose::RedSibling => pool::child(pool, s, pool::child(pool, pool::other(s), b)) != 0,
+        Purpose::RedSibling => pool::child(pool, s, pool::child(pool, links::other(s), b)) != 0,
         Purpose::BlackSibling => pool::child(pool, s, b) != 0,
     }
 }
@@ -181,10 +182,10 @@ pub fn diag_raise(
     s: Side,
     purpose: Purpose,
 ) -> StepResult
-    requires { ⌜ length (now pool) < 8192 ⌝ }
+    requires { ⌜ length (now pool) < poolLimit ⌝ }
     ensures { λ r. ⌜ TriesReading reading l (DiagRaise s purpose) (now (pool .entry)) h (now (pool .exit)) r ⌝ }
 {
-    let c = register::node_at(pool, h.root, l);
+    let c = pool::node_at(pool, h.root, l);
     let b = pool::child(pool, s, c);
     if b == 0 {
         return heads::missed(h);
@@ -224,12 +225,12 @@ pub fn zig_raise(
     s: Side,
     purpose: Purpose,
 ) -> StepResult
-    requires { ⌜ length (now pool) < 8192 ⌝ }
+    requires { ⌜ length (now pool) < poolLimit ⌝ }
     ensures { λ r. ⌜ TriesReading reading l (ZigRaise s purpose) (now (pool .entry)) h (now (pool .exit)) r ⌝ }
 {
-    let c = register::node_at(pool, h.root, l);
+    let c = pool::node_at(pool, h.root, l);
     let a = pool::child(pool, s, c);
-    let b = pool::child(pool, pool::other(s), a);
+    let b = pool::child(pool, links::other(s), a);
     if b == 0 {
         return heads::missed(h);
     }

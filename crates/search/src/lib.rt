@@ -41,5 +41,5 @@ pub fn seek(pool: &[u32], k: u32, l: Link, n: u32, allowed: u32) -> Place
     }
     let s = towards(pool, k, n);
     let next = pool::child(pool, s, n);
-    seek(pool, k, register::link_at(s, n), next, allowed - 1)
+    seek(pool, k, links::link_at(s, n), next, allowed - 1)
 }

@@ -9,6 +9,7 @@ ghost use Prim.Native.Nat.{_≤_, _<_, _+_, _-_, _*_};
 ghost use lib.ListN.{length};
 ghost use Rattle.lines.specs.Text.{room};
 ghost use Rattle.session.specs.Steps.{Sound, workLeft, Onward};
+ghost use Rattle.spec.specs.Numbers.{nodeWords, poolLimit};
 
 // room enough for any line
 pub const ROOM: usize = 96;
@@ -53,11 +54,11 @@ pub fn start() -> Run
 
 // how many nodes the command's answer is followed by
 fn to_show(c: Command, said: Said, lent: usize) -> usize
-    ensures { λ r. ⌜ r * 8 ≤ lent ⌝ }
+    ensures { λ r. ⌜ r * nodeWords ≤ lent ⌝ }
 {
     if let Command::Show = c {
         if let Said::Ok = said {
-            return lent / pool::NODE_WORDS;
+            return lent / numbers::NODE_WORDS;
         }
     }
     0
@@ -65,7 +66,7 @@ fn to_show(c: Command, said: Said, lent: usize) -> usize
 
 // what a run keeps after a command's answer
 fn after(number: u64, lent: usize, c: Command, said: Said) -> Session
-    requires { ⌜ lent ≤ 8192 ⌝ }
+    requires { ⌜ lent ≤ poolLimit ⌝ }
     ensures { λ r. ⌜ Sound r ⌝ }
 {
     let reading = lines::start();
@@ -89,11 +90,11 @@ fn next_number(number: u64) -> u64 {
 
 // the line of the next node that T has to show
 fn show_node(words: &[u32], out: &mut [u8], at: usize, lent: usize, pending: usize) -> usize
-    requires { ⌜ (lent ≤ 8192) × (pending * 8 ≤ lent) × (0 < pending) ⌝ }
-    requires { ⌜ (length (now words) ≡ 8192) × (at + room ≤ length (now out)) ⌝ }
+    requires { ⌜ (lent ≤ poolLimit) × (pending * nodeWords ≤ lent) × (0 < pending) ⌝ }
+    requires { ⌜ (length (now words) ≡ poolLimit) × (at + room ≤ length (now out)) ⌝ }
     ensures { λ r. ⌜ r ≤ length (now (out .exit)) ⌝ }
 {
-    let node = lent / pool::NODE_WORDS - pending + 1;
+    let node = lent / numbers::NODE_WORDS - pending + 1;
     lines::write_node(out, at, &words[..lent], node as u32)
 }
 
@@ -184,7 +185,7 @@ fn answer(
     register: Register,
     c: Command,
 ) -> Answered
-    requires { ⌜ Sound s × (length (now words) ≡ 8192) × (at + room ≤ length (now out)) ⌝ }
+    requires { ⌜ Sound s × (length (now words) ≡ poolLimit) × (at + room ≤ length (now out)) ⌝ }
     ensures { λ r. ⌜ Sound (r .session) × (r .at ≤ length (now (out .exit))) ⌝ }
 {
     let number = next_number(s.number);
@@ -214,7 +215,7 @@ pub fn left(pending: usize, input: &[u8], from: usize) -> usize
 
 // a run on its input, as far as there is room for the output; with room for a line at first it gets on
 pub fn advance(words: &mut [u32], out: &mut [u8], r: Run, input: &[u8]) -> Run
-    requires { ⌜ Sound (r .session) × (length (now words) ≡ 8192) × (r .at ≤ length (now out)) × (r .from ≤ length (now input)) ⌝ }
+    requires { ⌜ Sound (r .session) × (length (now words) ≡ poolLimit) × (r .at ≤ length (now out)) × (r .from ≤ length (now input)) ⌝ }
     ensures { λ q. ⌜ Sound (q .session) × (q .at ≤ length (now (out .exit))) × (q .from ≤ length (now (input .entry))) ⌝ }
     ensures { λ q. ⌜ Onward (length (now (input .entry))) (length (now (out .entry))) r q ⌝ }
 {

@@ -9,6 +9,7 @@ use Rattle.datatypes.specs.declared.Head.{Head}
 use Rattle.datatypes.specs.declared.Register.{Register}
 use Rattle.datatypes.specs.declared.StepResult.{StepResult}
 use Rattle.datatypes.specs.declared.Step.the-variants.{Publish}
+use Rattle.spec.specs.Numbers.{slots}
 use Rattle.spec.specs.Pool.{child}
 use Rattle.spec.specs.Register.{State, state, nodeAt, setLink, withHeld, withAwaited, withWrite, countDown, readingSlots}
 use Rattle.spec.specs.Free.{retire}

@@ -15,6 +15,7 @@ ghost use Rattle.datatypes.specs.declared.Register.{Register};
 ghost use Rattle.datatypes.specs.declared.Side.the-variants.{L};
 ghost use Rattle.datatypes.specs.declared.Step.the-variants.{Insert, Adopt};
 ghost use Rattle.datatypes.specs.Side.{owner};
+ghost use Rattle.spec.specs.Numbers.{poolLimit};
 ghost use Rattle.spec.specs.Pool.{isRed, redColour};
 ghost use Rattle.spec.specs.Register.{state, setLink};
 ghost use Rattle.spec.specs.Free.{takeNode};
@@ -24,14 +25,14 @@ ghost use Rattle.stores.specs.Published.{Publishes, awaiting};
 
 // The link l := a new red node; one key more is held.
 fn link_new(pool: &mut [u32], h: Head, l: Link, k: u32, v: u32) -> Head
-    requires { ⌜ length (now pool) < 8192 ⌝ }
+    requires { ⌜ length (now pool) < poolLimit ⌝ }
     ensures { λ r. ⌜ Follows (λ st. oneMore (setLink (takeNode st k v L 0 0 redColour) l (h .first))) (now (pool .entry)) h (now (pool .exit)) r ⌝ }
 {
     let first = h.first;
     let taken = queue::take_node(pool, h, k, v, Side::L, 0, 0, pool::RED);
     let mut r = heads::set_link(pool, taken, l, first);
     let capacity = pool::nodes(pool);
-    r.held = register::count_up(capacity, r.held);
+    r.held = counts::count_up(capacity, r.held);
     r
 }
 
@@ -50,7 +51,7 @@ fn end_insert(pool: &mut [u32], root: u32, e: Ending)
 
 // an insert under a black parent, or at the root
 fn insert_under_black(pool: &mut [u32], h: Head, l: Link, k: u32, v: u32) -> StepResult
-    requires { ⌜ (length (now pool) < 8192) × (isRed (now pool) (owner l) ≡ false) × (h .first ≡ 0 → ⊥) ⌝ }
+    requires { ⌜ (length (now pool) < poolLimit) × (isRed (now pool) (owner l) ≡ false) × (h .first ≡ 0 → ⊥) ⌝ }
     ensures { λ r. ⌜ Tries l (Insert k v) (now (pool .entry)) h (now (pool .exit)) r ⌝ }
 {
     let first = h.first;
@@ -66,10 +67,10 @@ fn insert_under_black(pool: &mut [u32], h: Head, l: Link, k: u32, v: u32) -> Ste
 
 // an insert under a red parent
 fn insert_under_red(pool: &mut [u32], h: Head, l: Link, k: u32, v: u32) -> StepResult
-    requires { ⌜ (length (now pool) < 8192) × (isRed (now pool) (owner l) ≡ true) × (h .first ≡ 0 → ⊥) ⌝ }
+    requires { ⌜ (length (now pool) < poolLimit) × (isRed (now pool) (owner l) ≡ true) × (h .first ≡ 0 → ⊥) ⌝ }
     ensures { λ r. ⌜ Tries l (Insert k v) (now (pool .entry)) h (now (pool .exit)) r ⌝ }
 {
-    let mut path: [u64; paths::MOST_LINKS] = [0; paths::MOST_LINKS];
+    let mut path: [u64; numbers::MOST_LINKS] = [0; numbers::MOST_LINKS];
     let c = paths::path_to(pool, h.root, k, l, &mut path);
     let fixup_result = fixups::insert_fixup(pool, &path, c, 0);
     let ending = fixup_result.ending;
@@ -90,13 +91,13 @@ fn insert_under_red(pool: &mut [u32], h: Head, l: Link, k: u32, v: u32) -> StepR
 
 // Links a new red node at the link l, then the fix-up's colours.
 pub fn insert(pool: &mut [u32], h: Head, l: Link, k: u32, v: u32) -> StepResult
-    requires { ⌜ length (now pool) < 8192 ⌝ }
+    requires { ⌜ length (now pool) < poolLimit ⌝ }
     ensures { λ r. ⌜ Tries l (Insert k v) (now (pool .entry)) h (now (pool .exit)) r ⌝ }
 {
     if h.first == 0 {
         return heads::missed(h);
     }
-    if pool::is_red(pool, register::owner(l)) {
+    if pool::is_red(pool, links::owner(l)) {
         return insert_under_red(pool, h, l, k, v);
     }
     insert_under_black(pool, h, l, k, v)
@@ -106,7 +107,7 @@ pub fn insert(pool: &mut [u32], h: Head, l: Link, k: u32, v: u32) -> StepResult
 pub fn adopt(pool: &mut [u32], h: Head, l: Link) -> StepResult
     ensures { λ r. ⌜ Tries l Adopt (now (pool .entry)) h (now (pool .exit)) r ⌝ }
 {
-    let b = register::node_at(pool, h.root, l);
+    let b = pool::node_at(pool, h.root, l);
     let c = pool::child(pool, Side::R, b);
     if c == 0 {
         return heads::missed(h);
@@ -129,7 +130,7 @@ fn moved_link(b: u32, n: u32, l: Link) -> Link
     match l {
         Link::Root => l,
         Link::Left(_) => l,
-        Link::Right(m) => Link::Right(register::choose(m == b, n, m)),
+        Link::Right(m) => Link::Right(counts::choose(m == b, n, m)),
     }
 }
 
@@ -147,7 +148,7 @@ pub fn moved_write(b: u32, n: u32, w: Write) -> Write
 {
     let mut r = w;
     let mut i: u32 = 0;
-    while i < register::MOST_STORES {
+    while i < numbers::STORE_LIMIT {
         let at = i as usize;
         let x = r.stores[at];
         r.stores[at] = moved_store(b, n, x);
@@ -161,7 +162,7 @@ fn await_readers(h: Head, reading: u32) -> Head
     ensures { λ r. ⌜ r ≡ awaiting h reading ⌝ }
 {
     let mut r = h;
-    r.held = register::count_down(h.held);
+    r.held = counts::count_down(h.held);
     r.awaited = reading;
     r
 }
@@ -169,10 +170,10 @@ fn await_readers(h: Head, reading: u32) -> Head
 // B's link from above := a copy of C with B's colour and links; B retired; all reading slots are awaited. The write in hand is to be
 // moved to the copy by moved_write.
 pub fn publish(pool: &mut [u32], h: Head, reading: u32, l: Link, c: u32) -> StepResult
-    requires { ⌜ length (now pool) < 8192 ⌝ }
+    requires { ⌜ length (now pool) < poolLimit ⌝ }
     ensures { λ r. ⌜ Publishes reading l c (now (pool .entry)) h (now (pool .exit)) r ⌝ }
 {
-    let b = register::node_at(pool, h.root, l);
+    let b = pool::node_at(pool, h.root, l);
     if b == 0 {
         return heads::missed(h);
     }

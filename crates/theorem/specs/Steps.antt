@@ -9,6 +9,7 @@ use lib.ListN.{length}
 use Rattle.datatypes.specs.declared.Link.{Link}
 use Rattle.datatypes.specs.declared.Register.{Register}
 use Rattle.datatypes.specs.Side.{owner}
+use Rattle.spec.specs.Numbers.{slots}
 use Rattle.spec.specs.Pool.{standingLinked}
 use Rattle.spec.specs.Register.{State, state, setLink}
 use Rattle.spec.specs.Turn.{Made}

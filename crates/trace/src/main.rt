@@ -7,6 +7,7 @@ ghost use mathlib.Core.Path.{_≡_};
 ghost use lib.ListN.{length};
 ghost use Rattle.session.specs.Steps.{Sound};
 ghost use Rattle.lines.specs.Text.{room};
+ghost use Rattle.spec.specs.Numbers.{poolLimit};
 
 // the output up to a position is written out
 fn write_out(out: &[u8], at: usize)
@@ -17,7 +18,7 @@ fn write_out(out: &[u8], at: usize)
 
 // all of an input, its output written out
 fn run(words: &mut [u32], out: &mut [u8], r: Run, input: &[u8]) -> Run
-    requires { ⌜ Sound (r .session) × (length (now words) ≡ 8192) × (room ≤ length (now out)) ⌝ }
+    requires { ⌜ Sound (r .session) × (length (now words) ≡ poolLimit) × (room ≤ length (now out)) ⌝ }
     ensures { λ q. ⌜ Sound (q .session) ⌝ }
 {
     let mut run = r;
@@ -43,7 +44,7 @@ fn turns_left(turns: u64, read: usize, ended: bool) -> u64
 
 // standard input to its end, or to an ill-formed line; the output of each read is written before the next
 fn run_all(words: &mut [u32], input: &mut [u8], out: &mut [u8])
-    requires { ⌜ (length (now words) ≡ 8192) × (room ≤ length (now out)) ⌝ }
+    requires { ⌜ (length (now words) ≡ poolLimit) × (room ≤ length (now out)) ⌝ }
 {
     let mut r = session::start();
     let mut turns = u64::MAX;

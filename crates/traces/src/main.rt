@@ -4,6 +4,7 @@ ghost use Prim.Native.Nat.{_≤_, _<_};
 ghost use mathlib.Core.Path.{_≡_};
 ghost use lib.ListN.{length};
 ghost use Rattle.io.specs.Counts.{Counts};
+ghost use Rattle.spec.specs.Numbers.{poolLimit};
 
 const NEWLINE: u8 = b'\n';
 
@@ -24,7 +25,7 @@ fn load(argument: usize, buf: &mut [u8]) -> usize
 
 // the output of a stored input, as far as there is room for it; a last line without a newline is run too
 fn output(words: &mut [u32], out: &mut [u8], input: &[u8]) -> usize
-    requires { ⌜ length (now words) ≡ 8192 ⌝ }
+    requires { ⌜ length (now words) ≡ poolLimit ⌝ }
     ensures { λ r. ⌜ r ≤ length (now (out .exit)) ⌝ }
 {
     let r = session::advance(words, out, session::start(), input);
@@ -85,7 +86,7 @@ fn compare(
     out: &mut [u8],
     argument: usize,
 ) -> u64
-    requires { ⌜ (length (now words) ≡ 8192) × (argument < 18446744073709551615) ⌝ }
+    requires { ⌜ (length (now words) ≡ poolLimit) × (argument < 18446744073709551615) ⌝ }
     ensures { λ r. ⌜ r ≤ 1 ⌝ }
 {
     let n = load(argument, input);
@@ -112,7 +113,7 @@ fn total(runs: u64, same: u64) {
 
 // all runs that the arguments name; the program's own name is the first of `count`
 fn compare_all(words: &mut [u32], input: &mut [u8], want: &mut [u8], out: &mut [u8], count: usize)
-    requires { ⌜ length (now words) ≡ 8192 ⌝ }
+    requires { ⌜ length (now words) ≡ poolLimit ⌝ }
 {
     let mut left = count;
     let mut runs: u64 = 0;

@@ -13,6 +13,7 @@ ghost use mathlib.Core.Bool.{true};
 ghost use mathlib.Core.List.{List};
 ghost use Prim.Native.Nat.{ℕ, _<_};
 ghost use lib.ListN.{length};
+ghost use Rattle.spec.specs.Numbers.{poolLimit};
 ghost use Rattle.spec.specs.Register.{state, withWrite, lessFirst};
 ghost use Rattle.spec.specs.Calls.{writerSays, refused, stored, writeInHand, writerTurn};
 ghost use Rattle.laws.specs.Tests.{lentNumber};
@@ -21,7 +22,7 @@ ghost use Rattle.turns.specs.Made.{publishes, TriesAny, FirstTold};
 
 // Tries the step x at the link l.
 pub fn try_step(pool: &mut [u32], h: Head, reading: u32, l: Link, x: Step) -> StepResult
-    requires { ⌜ length (now pool) < 8192 ⌝ }
+    requires { ⌜ length (now pool) < poolLimit ⌝ }
     ensures { λ r. ⌜ TriesAny reading l x (now (pool .entry)) h (now (pool .exit)) r ⌝ }
 {
     match x {
@@ -55,7 +56,7 @@ pub fn less_first(w: Write) -> Write
         link: Link::Root,
         step: Step::Vacant,
     };
-    r.count = register::count_down(w.count);
+    r.count = counts::count_down(w.count);
     r
 }
 
@@ -110,7 +111,7 @@ pub fn refused(number: u32, register: Register) -> WriterReply
 
 // The step of the first store, tried.
 fn first_step(pool: &mut [u32], reg: Register) -> StepResult
-    requires { ⌜ length (now pool) < 8192 ⌝ }
+    requires { ⌜ length (now pool) < poolLimit ⌝ }
     ensures { λ r. ⌜ FirstTold (now (pool .entry)) reg (now (pool .exit)) r ⌝ }
 {
     let hand = reg.write;
@@ -138,7 +139,7 @@ pub fn make_first(pool: &mut [u32], reg: Register) -> WriterReply
     let link = x.link;
     let step = x.step;
     if publishes(step) {
-        let b = register::node_at(pool, reg.root, link);
+        let b = pool::node_at(pool, reg.root, link);
         let t = first_step(pool, reg);
         if t.found {} else {
             return refused(12, reg);

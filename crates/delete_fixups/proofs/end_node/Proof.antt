@@ -9,14 +9,14 @@ use Rattle.delete_fixups.proofs.end_node.Tie as tie
 use Rattle.delete_fixups.proofs.end_node.Reads as reads
 use Rattle.delete_fixups.proofs.end_node.Lts as lts
 use Rattle.paths.proofs.link_in.Reads as link-in-reads
-use Rattle.register.proofs.node_at.Reads as node-at-reads
+use Rattle.pool.proofs.node_at.Reads as node-at-reads
 
 returns : tie.Need-returns
-returns c = rw (eq-eqb (c .before .before .before .args .m) 0 (c .if1 .taken))
+returns c = rw (eq-eqb (c .before .before .before .args .levels) 0 (c .if1 .taken))
 
 returns-2 : tie.Need-returns-2
 unfolding nodeAt
-returns-2 c = rw (ne-eqb (c .before .before .before .before .args .m) 0 (c .before .if1 .left), link-past (c .before .before .before .before .args .path .now) (c .before .before .before .before .args .c) (c .before .before .before .before .args .m) (c .if2 .taken))
+returns-2 c = rw (ne-eqb (c .before .before .before .before .args .levels) 0 (c .before .if1 .left), link-past (c .before .before .before .before .args .path .now) (c .before .before .before .before .args .depth) (c .before .before .before .before .args .levels) (c .if2 .taken))
 
 sub-link-in : tie.Need-sub-link-in
 sub-link-in c = search needs
@@ -31,7 +31,7 @@ node-at-requires : tie.Need-node-at-requires
 node-at-requires c κs = search needs
 
 returns-3 : tie.Need-returns-3
-returns-3 c = rw (ne-eqb (c .before .before .before .before .before .before .args .m) 0 (c .before .before .before .if1 .left), link-at-level (c .before .before .before .before .before .before .args .path .now) (c .before .before .before .before .before .before .args .c) (c .before .before .before .before .before .before .args .m) (c .before .before .if2 .left), c .node-at .ensures, c .before .link-in .ensures)
+returns-3 c = rw (ne-eqb (c .before .before .before .before .before .before .args .levels) 0 (c .before .before .before .if1 .left), link-at-level (c .before .before .before .before .before .before .args .path .now) (c .before .before .before .before .before .before .args .depth) (c .before .before .before .before .before .before .args .levels) (c .before .before .if2 .left), c .node-at .ensures, c .before .link-in .ensures)
 
 pub end-node-spec : {M : Type 1} → statement M
 end-node-spec =

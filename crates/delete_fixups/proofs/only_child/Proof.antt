@@ -7,7 +7,7 @@ use Rattle.delete_fixups.proofs.only_child.Tie as tie
 use Rattle.delete_fixups.proofs.only_child.Reads as reads
 use Rattle.delete_fixups.proofs.only_child.Lts as lts
 use Rattle.pool.proofs.child.Reads as child-reads
-use Rattle.register.proofs.choose.Reads as choose-reads
+use Rattle.counts.proofs.choose.Reads as choose-reads
 
 child-requires : tie.Need-child-requires
 child-requires c κs = search needs

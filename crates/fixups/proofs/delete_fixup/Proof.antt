@@ -20,9 +20,9 @@ use Rattle.fixups.proofs.red_sibling.Reads as red-sibling-reads
 use Rattle.paths.proofs.link_in.Reads as link-in-reads
 use Rattle.pool.proofs.child.Reads as child-reads
 use Rattle.pool.proofs.is_red.Reads as is-red-reads
-use Rattle.pool.proofs.other.Reads as other-reads
-use Rattle.register.proofs.owner.Reads as owner-reads
-use Rattle.register.proofs.side_of.Reads as side-of-reads
+use Rattle.links.proofs.other.Reads as other-reads
+use Rattle.links.proofs.owner.Reads as owner-reads
+use Rattle.links.proofs.side_of.Reads as side-of-reads
 
 abbrev Inv-loop : tie.InvT-loop
 Inv-loop pool path c m x d₀ e₀ node₀ d e node = (d ≤ length path) × (e + d ≤ 66) × (deleteFixup pool e node (upward path d) ≡ deleteFixup pool e₀ node₀ (upward path d₀))

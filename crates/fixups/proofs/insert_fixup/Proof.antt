@@ -18,9 +18,9 @@ use Rattle.fixups.proofs.form_of.Reads as form-of-reads
 use Rattle.paths.proofs.link_in.Reads as link-in-reads
 use Rattle.pool.proofs.child.Reads as child-reads
 use Rattle.pool.proofs.is_red.Reads as is-red-reads
-use Rattle.pool.proofs.other.Reads as other-reads
-use Rattle.register.proofs.owner.Reads as owner-reads
-use Rattle.register.proofs.side_of.Reads as side-of-reads
+use Rattle.links.proofs.other.Reads as other-reads
+use Rattle.links.proofs.owner.Reads as owner-reads
+use Rattle.links.proofs.side_of.Reads as side-of-reads
 
 abbrev Inv-loop : tie.InvT-loop
 Inv-loop pool path c m d₀ e₀ d e = (d ≤ length path) × (e + d ≤ 66) × (insertFixup pool e (upward path d) ≡ insertFixup pool e₀ (upward path d₀))

@@ -12,10 +12,10 @@ use Rattle.fixups.proofs.paint_delete_levels.Reads as reads
 use Rattle.fixups.proofs.paint_delete_levels.Lts as lts
 use Rattle.paths.proofs.link_in.Reads as link-in-reads
 use Rattle.pool.proofs.child.Reads as child-reads
-use Rattle.pool.proofs.other.Reads as other-reads
+use Rattle.links.proofs.other.Reads as other-reads
 use Rattle.pool.proofs.set_word.Reads as set-word-reads
-use Rattle.register.proofs.owner.Reads as owner-reads
-use Rattle.register.proofs.side_of.Reads as side-of-reads
+use Rattle.links.proofs.owner.Reads as owner-reads
+use Rattle.links.proofs.side_of.Reads as side-of-reads
 
 abbrev Inv-loop : tie.InvT-loop
 Inv-loop pool₀ path c m d₀ e₀ pool d e = (d ≤ length path) × (length pool ≡ length pool₀) × (paintDeleteLevels e (upward path d) pool ≡ paintDeleteLevels e₀ (upward path d₀) pool₀)

@@ -13,9 +13,9 @@ use Rattle.fixups.proofs.paint_insert_fixup.Lts as lts
 use Rattle.fixups.proofs.paint_level.Reads as paint-level-reads
 use Rattle.paths.proofs.link_in.Reads as link-in-reads
 use Rattle.pool.proofs.child.Reads as child-reads
-use Rattle.pool.proofs.other.Reads as other-reads
-use Rattle.register.proofs.owner.Reads as owner-reads
-use Rattle.register.proofs.side_of.Reads as side-of-reads
+use Rattle.links.proofs.other.Reads as other-reads
+use Rattle.links.proofs.owner.Reads as owner-reads
+use Rattle.links.proofs.side_of.Reads as side-of-reads
 
 abbrev Inv-loop : tie.InvT-loop
 Inv-loop pool₀ path c m d₀ e₀ pool d e = (d ≤ length path) × (length pool ≡ length pool₀) × (paintInsertFixup e (upward path d) pool ≡ paintInsertFixup e₀ (upward path d₀) pool₀)

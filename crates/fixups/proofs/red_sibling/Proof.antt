@@ -14,8 +14,8 @@ use Rattle.fixups.proofs.red_sibling.Lts as lts
 use Rattle.fixups.proofs.borrow.Reads as black-sibling-reads
 use Rattle.fixups.proofs.red_child.Reads as red-child-reads
 use Rattle.pool.proofs.child.Reads as child-reads
-use Rattle.pool.proofs.other.Reads as other-reads
-use Rattle.register.proofs.link_at.Reads as link-at-reads
+use Rattle.links.proofs.other.Reads as other-reads
+use Rattle.links.proofs.link_at.Reads as link-at-reads
 
 other-requires : tie.Need-other-requires
 other-requires c κs = search needs

@@ -13,7 +13,7 @@ use Rattle.fixups.proofs.fixup_result.Reads as fixup-result-reads
 use Rattle.fixups.proofs.insert_fixup.Reads as insert-fixup-reads
 use Rattle.paths.proofs.path_to.Reads as path-to-reads
 use Rattle.pool.proofs.is_red.Reads as is-red-reads
-use Rattle.register.proofs.owner.Reads as owner-reads
+use Rattle.links.proofs.owner.Reads as owner-reads
 
 owner-requires : tie.Need-owner-requires
 owner-requires c κs = search needs

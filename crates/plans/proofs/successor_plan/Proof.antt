@@ -22,13 +22,13 @@ use Rattle.plans.proofs.plan.Reads as plan-reads
 use Rattle.plans.proofs.two_stores.Reads as two-stores-reads
 use Rattle.pool.proofs.child.Reads as child-reads
 use Rattle.pool.proofs.word.Reads as word-reads
-use Rattle.register.proofs.node_at.Reads as node-at-reads
+use Rattle.pool.proofs.node_at.Reads as node-at-reads
 
 no-write-requires : tie.Need-no-write-requires
 no-write-requires c κs = search needs
 
 returns : tie.Need-returns
-returns c = rw (upward-zero (c .before .before .before .before .args .path .now) (c .before .before .before .before .args .c) (c .before .if1 .taken)) (refl, c .no-write .ensures)
+returns c = rw (upward-zero (c .before .before .before .before .args .path .now) (c .before .before .before .before .args .depth) (c .before .if1 .taken)) (refl, c .no-write .ensures)
 
 nearest-requires : tie.Need-nearest-requires
 nearest-requires c κs = search needs
@@ -53,15 +53,15 @@ two-stores-requires c κs = search needs
 
 plan-requires : tie.Need-plan-requires
 unfolding writeOf
-plan-requires c κs = let a = c .before .before .before .before .before .before .before .before .before .before .before .args in rw (c .two-stores .ensures, c .before .before .before .before .removal-fixup .ensures) (omega (arith, removal-short (a .pool .now) (c .before .before .before .before .before .before .node-at .result) (c .before .before .before .before .before .child .result) (upward (a .path .now) (a .c))))
+plan-requires c κs = let a = c .before .before .before .before .before .before .before .before .before .before .before .args in rw (c .two-stores .ensures, c .before .before .before .before .removal-fixup .ensures) (omega (arith, removal-short (a .pool .now) (c .before .before .before .before .before .before .node-at .result) (c .before .before .before .before .before .child .result) (upward (a .path .now) (a .depth))))
 
 returns-2 : tie.Need-returns-2
-returns-2 c = let a = c .before .before .before .before .before .before .before .before .before .before .before .before .args in let p = a .pool .now in let st = state p (a .reg) in let path = upward (a .path .now) (a .c) in
+returns-2 c = let a = c .before .before .before .before .before .before .before .before .before .before .before .before .args in let p = a .pool .now in let st = state p (a .reg) in let path = upward (a .path .now) (a .depth) in
     let n : c .before .before .before .before .before .before .before .node-at .result ≡ nextNode st path = rw (c .before .before .before .before .before .before .before .node-at .ensures, c .before .before .before .before .before .before .before .before .nearest .ensures) in
     let i : c .before .before .before .before .before .removal-fixup .result .ending ≡ nextRemoval st path = rw (c .before .before .before .before .before .removal-fixup .ensures, c .before .before .before .before .before .before .child .ensures, n) in
     let z : child p L (child p R (a .b)) ≡ 0 = rw (← (c .before .before .before .before .child2 .ensures), ← (c .before .before .before .child3 .ensures)) (c .before .before .if2 .taken) in
     let h = removal-short p (nextNode st path) (child p R (nextNode st path)) path in
-    rw (successor-near st (a .l) (a .b) path (upward-some (a .path .now) (a .c) (c .before .before .before .before .before .before .before .before .before .if1 .left)) z)
+    rw (successor-near st (a .l) (a .b) path (upward-some (a .path .now) (a .depth) (c .before .before .before .before .before .before .before .before .before .if1 .left)) z)
     (rw (c .plan .ensures .0, i), rw (c .plan .ensures .1, c .before .two-stores .ensures, i) (push-write (store (a .l) Adopt ∷ store (a .l) Replace ∷ []) (endingStores (nextRemoval st path)) (omega arith)))
 
 word-requires : tie.Need-word-requires
@@ -72,15 +72,15 @@ two-stores-requires-2 c κs = search needs
 
 plan-requires-2 : tie.Need-plan-requires-2
 unfolding writeOf
-plan-requires-2 c κs = let a = c .before .before .before .before .before .before .before .before .before .before .before .before .args in rw (c .two-stores2 .ensures, c .before .before .before .before .before .removal-fixup .ensures) (omega (arith, removal-short (a .pool .now) (c .before .before .before .before .before .before .before .node-at .result) (c .before .before .before .before .before .before .child .result) (upward (a .path .now) (a .c))))
+plan-requires-2 c κs = let a = c .before .before .before .before .before .before .before .before .before .before .before .before .args in rw (c .two-stores2 .ensures, c .before .before .before .before .before .removal-fixup .ensures) (omega (arith, removal-short (a .pool .now) (c .before .before .before .before .before .before .before .node-at .result) (c .before .before .before .before .before .before .child .result) (upward (a .path .now) (a .depth))))
 
 returns-3 : tie.Need-returns-3
-returns-3 c = let a = c .before .before .before .before .before .before .before .before .before .before .before .before .before .args in let p = a .pool .now in let st = state p (a .reg) in let path = upward (a .path .now) (a .c) in
+returns-3 c = let a = c .before .before .before .before .before .before .before .before .before .before .before .before .before .args in let p = a .pool .now in let st = state p (a .reg) in let path = upward (a .path .now) (a .depth) in
     let n : c .before .before .before .before .before .before .before .before .node-at .result ≡ nextNode st path = rw (c .before .before .before .before .before .before .before .before .node-at .ensures, c .before .before .before .before .before .before .before .before .before .nearest .ensures) in
     let i : c .before .before .before .before .before .before .removal-fixup .result .ending ≡ nextRemoval st path = rw (c .before .before .before .before .before .before .removal-fixup .ensures, c .before .before .before .before .before .before .before .child .ensures, n) in
     let z : child p L (child p R (a .b)) ≡ 0 → ⊥ = rw (← (c .before .before .before .before .before .child2 .ensures), ← (c .before .before .before .before .child3 .ensures)) (c .before .before .before .if2 .left) in
     let h = removal-short p (nextNode st path) (child p R (nextNode st path)) path in
-    rw (successor-far st (a .l) (a .b) path (upward-some (a .path .now) (a .c) (c .before .before .before .before .before .before .before .before .before .before .if1 .left)) z)
+    rw (successor-far st (a .l) (a .b) path (upward-some (a .path .now) (a .depth) (c .before .before .before .before .before .before .before .before .before .before .if1 .left)) z)
     (rw (c .plan2 .ensures .0, i), rw (c .plan2 .ensures .1, c .before .two-stores2 .ensures, c .before .before .word .ensures, n, i) (push-write (store (a .l) (Publish (nextNode st path)) ∷ store (a .l) (Detach (word p (a .b) keyWord)) ∷ []) (endingStores (nextRemoval st path)) (omega arith)))
 
 pub successor-plan-spec : {M : Type 1} → statement M

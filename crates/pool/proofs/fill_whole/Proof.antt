@@ -11,7 +11,7 @@ use Rattle.pool.proofs.fill_whole.Tie as tie
 use Rattle.pool.proofs.fill_whole.Reads as reads
 use Rattle.pool.proofs.fill_whole.Lts as lts
 use Rattle.pool.proofs.link_place.Reads as link-place-reads
-use Rattle.pool.proofs.other.Reads as other-reads
+use Rattle.links.proofs.other.Reads as other-reads
 
 mul-i : tie.Need-mul-i
 mul-i c = search needs

@@ -4,7 +4,7 @@ use Rattle.refusals.proofs.slot_refusal.Statement.{statement}
 use Rattle.refusals.proofs.slot_refusal.Tie as tie
 use Rattle.refusals.proofs.slot_refusal.Reads as reads
 use Rattle.refusals.proofs.slot_refusal.Lts as lts
-use Rattle.register.proofs.choose.Reads as choose-reads
+use Rattle.counts.proofs.choose.Reads as choose-reads
 
 returns : tie.Need-returns
 returns c = rw (ne-eqb _ _ (c .if1 .taken))

@@ -16,7 +16,7 @@ use Rattle.paths.proofs.nearest.Reads as nearest-reads
 use Rattle.paths.proofs.path_to.Reads as path-to-reads
 use Rattle.paths.proofs.successor_path.Reads as successor-path-reads
 use Rattle.pool.proofs.child.Reads as child-reads
-use Rattle.register.proofs.node_at.Reads as node-at-reads
+use Rattle.pool.proofs.node_at.Reads as node-at-reads
 use Rattle.heads.proofs.set_link.Reads as set-link-reads
 use Rattle.fixups.proofs.nodes_found.Reads as nodes-found-reads
 use Rattle.heads.proofs.missed.Reads as missed-reads

@@ -6,7 +6,7 @@ use Rattle.removals.proofs.store_one_less.Statement.{statement}
 use Rattle.removals.proofs.store_one_less.Tie as tie
 use Rattle.removals.proofs.store_one_less.Reads as reads
 use Rattle.removals.proofs.store_one_less.Lts as lts
-use Rattle.register.proofs.count_down.Reads as count-down-reads
+use Rattle.counts.proofs.count_down.Reads as count-down-reads
 use Rattle.heads.proofs.set_link.Reads as set-link-reads
 
 set-link-requires : tie.Need-set-link-requires

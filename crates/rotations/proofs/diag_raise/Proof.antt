@@ -15,7 +15,7 @@ use Rattle.rotations.proofs.diag_raise.Reads as reads
 use Rattle.rotations.proofs.diag_raise.Lts as lts
 use Rattle.pool.proofs.child.Reads as child-reads
 use Rattle.queue.proofs.retire.Reads as retire-reads
-use Rattle.register.proofs.node_at.Reads as node-at-reads
+use Rattle.pool.proofs.node_at.Reads as node-at-reads
 use Rattle.rotations.proofs.end_diag.Reads as end-diag-reads
 use Rattle.rotations.proofs.end_diag_finds.Reads as end-diag-finds-reads
 use Rattle.heads.proofs.missed.Reads as missed-reads

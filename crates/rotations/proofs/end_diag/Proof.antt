@@ -7,7 +7,7 @@ use Rattle.rotations.proofs.end_diag.Tie as tie
 use Rattle.rotations.proofs.end_diag.Reads as reads
 use Rattle.rotations.proofs.end_diag.Lts as lts
 use Rattle.pool.proofs.child.Reads as child-reads
-use Rattle.pool.proofs.other.Reads as other-reads
+use Rattle.links.proofs.other.Reads as other-reads
 use Rattle.pool.proofs.set_word.Reads as set-word-reads
 use Rattle.rotations.proofs.under_copy.Reads as under-copy-reads
 

@@ -7,7 +7,7 @@ use Rattle.rotations.proofs.end_diag_finds.Tie as tie
 use Rattle.rotations.proofs.end_diag_finds.Reads as reads
 use Rattle.rotations.proofs.end_diag_finds.Lts as lts
 use Rattle.pool.proofs.child.Reads as child-reads
-use Rattle.pool.proofs.other.Reads as other-reads
+use Rattle.links.proofs.other.Reads as other-reads
 
 enum-told : tie.Need-enum-told
 enum-told c = search needs

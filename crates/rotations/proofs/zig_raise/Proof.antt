@@ -12,9 +12,9 @@ use Rattle.rotations.proofs.zig_raise.Tie as tie
 use Rattle.rotations.proofs.zig_raise.Reads as reads
 use Rattle.rotations.proofs.zig_raise.Lts as lts
 use Rattle.pool.proofs.child.Reads as child-reads
-use Rattle.pool.proofs.other.Reads as other-reads
+use Rattle.links.proofs.other.Reads as other-reads
 use Rattle.queue.proofs.retire_two.Reads as retire-two-reads
-use Rattle.register.proofs.node_at.Reads as node-at-reads
+use Rattle.pool.proofs.node_at.Reads as node-at-reads
 use Rattle.rotations.proofs.end_zig.Reads as end-zig-reads
 use Rattle.heads.proofs.missed.Reads as missed-reads
 use Rattle.rotations.proofs.raise.Reads as raise-reads

@@ -14,7 +14,7 @@ use Rattle.search.proofs.seek.Kinds as seek-kinds
 use Rattle.search.proofs.+seek.Lts-seek as seek-lts
 use Rattle.pool.proofs.child.Reads as child-reads
 use Rattle.pool.proofs.word.Reads as word-reads
-use Rattle.register.proofs.link_at.Reads as link-at-reads
+use Rattle.links.proofs.link_at.Reads as link-at-reads
 use Rattle.search.proofs.towards.Reads as towards-reads
 use Rattle.search.proofs.+seek.{statement}
 use Rattle.search.proofs.+seek.Tie.{close}

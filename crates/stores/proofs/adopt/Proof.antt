@@ -12,7 +12,7 @@ use Rattle.stores.proofs.adopt.Tie as tie
 use Rattle.stores.proofs.adopt.Reads as reads
 use Rattle.stores.proofs.adopt.Lts as lts
 use Rattle.pool.proofs.child.Reads as child-reads
-use Rattle.register.proofs.node_at.Reads as node-at-reads
+use Rattle.pool.proofs.node_at.Reads as node-at-reads
 use Rattle.heads.proofs.set_link.Reads as set-link-reads
 use Rattle.heads.proofs.missed.Reads as missed-reads
 

@@ -3,7 +3,7 @@ use Rattle.stores.proofs.await_readers.Statement.{statement}
 use Rattle.stores.proofs.await_readers.Tie as tie
 use Rattle.stores.proofs.await_readers.Reads as reads
 use Rattle.stores.proofs.await_readers.Lts as lts
-use Rattle.register.proofs.count_down.Reads as count-down-reads
+use Rattle.counts.proofs.count_down.Reads as count-down-reads
 
 count-down-requires : tie.Need-count-down-requires
 count-down-requires c κs = search needs

@@ -12,7 +12,7 @@ use Rattle.stores.proofs.insert.Tie as tie
 use Rattle.stores.proofs.insert.Reads as reads
 use Rattle.stores.proofs.insert.Lts as lts
 use Rattle.pool.proofs.is_red.Reads as is-red-reads
-use Rattle.register.proofs.owner.Reads as owner-reads
+use Rattle.links.proofs.owner.Reads as owner-reads
 use Rattle.heads.proofs.missed.Reads as missed-reads
 use Rattle.stores.proofs.insert_under_black.Reads as insert-under-black-reads
 use Rattle.stores.proofs.insert_under_red.Reads as insert-under-red-reads

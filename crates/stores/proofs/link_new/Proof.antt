@@ -8,7 +8,7 @@ use Rattle.stores.proofs.link_new.Reads as reads
 use Rattle.stores.proofs.link_new.Lts as lts
 use Rattle.pool.proofs.nodes.Reads as nodes-reads
 use Rattle.queue.proofs.take_node.Reads as take-node-reads
-use Rattle.register.proofs.count_up.Reads as count-up-reads
+use Rattle.counts.proofs.count_up.Reads as count-up-reads
 use Rattle.heads.proofs.set_link.Reads as set-link-reads
 
 take-node-requires : tie.Need-take-node-requires

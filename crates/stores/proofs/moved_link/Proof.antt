@@ -6,7 +6,7 @@ use Rattle.stores.proofs.moved_link.Statement.{statement}
 use Rattle.stores.proofs.moved_link.Tie as tie
 use Rattle.stores.proofs.moved_link.Reads as reads
 use Rattle.stores.proofs.moved_link.Lts as lts
-use Rattle.register.proofs.choose.Reads as choose-reads
+use Rattle.counts.proofs.choose.Reads as choose-reads
 
 enum-told : tie.Need-enum-told
 enum-told c = search needs

@@ -19,7 +19,7 @@ use Rattle.heads.proofs.set_link.Reads as set-link-reads
 use Rattle.pool.proofs.child.Reads as child-reads
 use Rattle.pool.proofs.word.Reads as word-reads
 use Rattle.queue.proofs.retire.Reads as retire-reads
-use Rattle.register.proofs.node_at.Reads as node-at-reads
+use Rattle.pool.proofs.node_at.Reads as node-at-reads
 use Rattle.rotations.proofs.take_copy.Reads as take-copy-reads
 use Rattle.stores.proofs.await_readers.Reads as await-readers-reads
 

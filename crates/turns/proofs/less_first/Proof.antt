@@ -9,7 +9,7 @@ use Rattle.turns.proofs.less_first.Statement.{statement}
 use Rattle.turns.proofs.less_first.Tie as tie
 use Rattle.turns.proofs.less_first.Reads as reads
 use Rattle.turns.proofs.less_first.Lts as lts
-use Rattle.register.proofs.count_down.Reads as count-down-reads
+use Rattle.counts.proofs.count_down.Reads as count-down-reads
 
 element-copy-out-r : tie.Need-element-copy-out-r
 element-copy-out-r c = search needs

@@ -2,10 +2,10 @@ use mathlib.Core.Path.{_≡_, refl, sym, ap, _∙_}
 use native.Mathlib.Omega.{arith}
 use borrow.Author.Tests.{eq-eqb, ne-eqb, lt-ltb, le-ltb, lt-leb, le-leb, not-true, not-false}
 use borrow.Author.Needs.{needs}
-use Rattle.register.proofs.link_at.Statement.{statement}
-use Rattle.register.proofs.link_at.Tie as tie
-use Rattle.register.proofs.link_at.Reads as reads
-use Rattle.register.proofs.link_at.Lts as lts
+use Rattle.links.proofs.link_at.Statement.{statement}
+use Rattle.links.proofs.link_at.Tie as tie
+use Rattle.links.proofs.link_at.Reads as reads
+use Rattle.links.proofs.link_at.Lts as lts
 
 enum-told : tie.Need-enum-told
 enum-told c = search needs

@@ -3,11 +3,11 @@ use mathlib.Core.Path.{_≡_, refl, sym, ap, _∙_}
 use native.Mathlib.Omega.{arith}
 use borrow.Author.Tests.{eq-eqb, ne-eqb, lt-ltb, le-ltb, lt-leb, le-leb, not-true, not-false}
 use borrow.Author.Needs.{needs}
-use Rattle.register.proofs.node_at.Statement.{statement}
-use Rattle.register.proofs.node_at.Tie as tie
-use Rattle.register.proofs.node_at.Reads as reads
-use Rattle.register.proofs.node_at.Lts as lts
+use Rattle.pool.proofs.node_at.Statement.{statement}
+use Rattle.pool.proofs.node_at.Tie as tie
+use Rattle.pool.proofs.node_at.Reads as reads
+use Rattle.pool.proofs.node_at.Lts as lts
 use Rattle.pool.proofs.word.Reads as word-reads
 
 enum-told : tie.Need-enum-told
 enum-told c = search needs

@@ -2,10 +2,10 @@ use mathlib.Core.Path.{_≡_, refl, sym, ap, _∙_}
 use native.Mathlib.Omega.{arith}
 use borrow.Author.Tests.{eq-eqb, ne-eqb, lt-ltb, le-ltb, lt-leb, le-leb, not-true, not-false}
 use borrow.Author.Needs.{needs}
-use Rattle.register.proofs.count_up.Statement.{statement}
-use Rattle.register.proofs.count_up.Tie as tie
-use Rattle.register.proofs.count_up.Reads as reads
-use Rattle.register.proofs.count_up.Lts as lts
+use Rattle.counts.proofs.count_up.Statement.{statement}
+use Rattle.counts.proofs.count_up.Tie as tie
+use Rattle.counts.proofs.count_up.Reads as reads
+use Rattle.counts.proofs.count_up.Lts as lts
 
 add-result : tie.Need-add-result
 add-result c = search needs

@@ -1,0 +1,24 @@
+// Counts that stay in their ranges, and one of two numbers.
+ghost use mathlib.Core.Path.{_≡_};
+ghost use mathlib.Core.Bool.{cond};
+ghost use Rattle.spec.specs.Register.{countUp, countDown};
+
+// one of two numbers
+pub fn choose(test: bool, x: u32, y: u32) -> u32
+    ensures { λ r. ⌜ r ≡ cond test x y ⌝ }
+{
+    if test { x } else { y }
+}
+
+// A count at an end of its range goes no further.
+pub fn count_up(most: u32, n: u32) -> u32
+    ensures { λ r. ⌜ r ≡ countUp most n ⌝ }
+{
+    if n < most { n + 1 } else { n }
+}
+
+pub fn count_down(n: u32) -> u32
+    ensures { λ r. ⌜ r ≡ countDown n ⌝ }
+{
+    if n == 0 { 0 } else { n - 1 }
+}

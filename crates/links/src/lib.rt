@@ -1,0 +1,43 @@
+// Sides and links: the other side, a node's link on a side, the node and the side of a link.
+use datatypes::Link;
+use datatypes::Side;
+ghost use mathlib.Core.Path.{_≡_};
+ghost use Rattle.datatypes.specs.Side.{other, linkAt, owner, sideOf};
+
+pub fn other(s: Side) -> Side
+    ensures { λ r. ⌜ r ≡ other s ⌝ }
+{
+    match s {
+        Side::L => Side::R,
+        Side::R => Side::L,
+    }
+}
+
+pub fn link_at(s: Side, n: u32) -> Link
+    ensures { λ r. ⌜ r ≡ linkAt s n ⌝ }
+{
+    match s {
+        Side::L => Link::Left(n),
+        Side::R => Link::Right(n),
+    }
+}
+
+pub fn owner(l: Link) -> u32
+    ensures { λ r. ⌜ r ≡ owner l ⌝ }
+{
+    match l {
+        Link::Root => 0,
+        Link::Left(n) => n,
+        Link::Right(n) => n,
+    }
+}
+
+pub fn side_of(l: Link) -> Side
+    ensures { λ r. ⌜ r ≡ sideOf l ⌝ }
+{
+    match l {
+        Link::Root => Side::L,
+        Link::Left(_) => Side::L,
+        Link::Right(_) => Side::R,
+    }
+}
