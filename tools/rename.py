@@ -128,7 +128,8 @@ def rename_text(text, is_proof, is_code, home):
     def one(m):
         w = m.group(0)
         after = m.string[m.end():m.end() + 8]
-        if w == "borrow" and after.startswith("."):
+        before = m.string[max(0, m.start() - 7):m.start()]
+        if w == "borrow" and after.startswith(".") and before != "proofs.":
             return w
         if w in double:
             return double[w]
@@ -136,8 +137,11 @@ def rename_text(text, is_proof, is_code, home):
             p = prover_name(w)
             if p:
                 return p
-            if m.string[max(0, m.start() - 7):m.start()] == "proofs." and w in FUNCTIONS:
+            if before == "proofs." and w in FUNCTIONS:
                 return FUNCTIONS[w]
+            f = re.match(r"^(.*?)(\d*)$", w)
+            if before.endswith(" .") and f.group(1).replace("-", "_") in FUNCTIONS:
+                return FUNCTIONS[f.group(1).replace("-", "_")].replace("_", "-") + f.group(2)
         if w in NAMES:
             return NAMES[w]
         return part_name(w)

@@ -25,7 +25,7 @@ same-length c = search needs
 
 returns : tie.Need-returns
 unfolding paintDeleteFixup
-returns c = λ reg e. rw (c .before .before .paint-end .ensures reg, c .before .before .before .before .before .before .paint-deleteFixup .ensures, c .before .before .before .before .before .before .before .before .end-node .ensures, e)
+returns c = λ reg e. rw (c .before .before .paint-end .ensures reg, c .before .before .before .before .before .before .paint-delete-levels .ensures, c .before .before .before .before .before .before .before .before .end-node .ensures, e)
 
 pub paint-delete-fixup-spec : {M : Type 1} → statement M
 paint-delete-fixup-spec =

@@ -2,10 +2,10 @@ use mathlib.Core.Path.{_≡_, refl, sym, ap, _∙_}
 use native.Mathlib.Omega.{arith}
 use borrow.Author.Tests.{eq-eqb, ne-eqb, lt-ltb, le-ltb, lt-leb, le-leb, not-true, not-false}
 use borrow.Author.Needs.{needs}
-use Rattle.fixups.proofs.borrow.Statement.{statement}
-use Rattle.fixups.proofs.borrow.Tie as tie
-use Rattle.fixups.proofs.borrow.Reads as reads
-use Rattle.fixups.proofs.borrow.Lts as lts
+use Rattle.fixups.proofs.black_sibling.Statement.{statement}
+use Rattle.fixups.proofs.black_sibling.Tie as tie
+use Rattle.fixups.proofs.black_sibling.Reads as reads
+use Rattle.fixups.proofs.black_sibling.Lts as lts
 use Rattle.fixups.proofs.form_if.Reads as form-if-reads
 use Rattle.pool.proofs.child.Reads as child-reads
 use Rattle.pool.proofs.is_red.Reads as is-red-reads

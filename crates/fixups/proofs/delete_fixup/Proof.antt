@@ -13,7 +13,7 @@ use Rattle.fixups.proofs.delete_fixup.Statement.{statement}
 use Rattle.fixups.proofs.delete_fixup.Tie as tie
 use Rattle.fixups.proofs.delete_fixup.Reads as reads
 use Rattle.fixups.proofs.delete_fixup.Lts as lts
-use Rattle.fixups.proofs.borrow.Reads as black-sibling-reads
+use Rattle.fixups.proofs.black_sibling.Reads as black-sibling-reads
 use Rattle.fixups.proofs.fixup_result.Reads as fixup-result-reads
 use Rattle.fixups.proofs.red_child.Reads as red-child-reads
 use Rattle.fixups.proofs.red_sibling.Reads as red-sibling-reads
@@ -40,19 +40,19 @@ fixup-result-requires : tie.Need-fixup-result-requires Inv-loop μ-loop
 fixup-result-requires c κs = search needs
 
 returns : tie.Need-returns Inv-loop μ-loop
-returns c = let l = c .before .before .before .loop in let a = c .before .before .before .before .before .before .args in let p = a .pool .now in let q = a .path .now in let e : isRed p (l .node) ≡ true = sym (c .before .before .is-red .ensures) ∙ c .before .if1 .taken in c .fixupResult .ensures ∙ (sym (deleteFixup-red p (l .e) (l .node) q (l .d) e) ∙ l .inv .2)
+returns c = let l = c .before .before .before .loop in let a = c .before .before .before .before .before .before .args in let p = a .pool .now in let q = a .path .now in let e : isRed p (l .node) ≡ true = sym (c .before .before .is-red .ensures) ∙ c .before .if1 .taken in c .fixup-result .ensures ∙ (sym (deleteFixup-red p (l .e) (l .node) q (l .d) e) ∙ l .inv .2)
 
 fixup-result-requires-2 : tie.Need-fixup-result-requires-2 Inv-loop μ-loop
 fixup-result-requires-2 c κs = search needs
 
 returns-2 : tie.Need-returns-2 Inv-loop μ-loop
-returns-2 c = let l = c .before .before .before .before .loop in let a = c .before .before .before .before .before .before .before .args in let p = a .pool .now in let q = a .path .now in let e : isRed p (l .node) ≡ false = sym (c .before .before .before .is-red .ensures) ∙ c .before .before .if1 .left in c .climb2 .ensures ∙ (sym (deleteFixup-none p (l .e) (l .node) q (l .d) e (c .before .if2 .taken)) ∙ l .inv .2)
+returns-2 c = let l = c .before .before .before .before .loop in let a = c .before .before .before .before .before .before .before .args in let p = a .pool .now in let q = a .path .now in let e : isRed p (l .node) ≡ false = sym (c .before .before .before .is-red .ensures) ∙ c .before .before .if1 .left in c .fixup-result2 .ensures ∙ (sym (deleteFixup-none p (l .e) (l .node) q (l .d) e (c .before .if2 .taken)) ∙ l .inv .2)
 
 fixup-result-requires-3 : tie.Need-fixup-result-requires-3 Inv-loop μ-loop
 fixup-result-requires-3 c κs = search needs
 
 returns-3 : tie.Need-returns-3 Inv-loop μ-loop
-returns-3 c = let l = c .before .before .before .before .before .loop in let a = c .before .before .before .before .before .before .before .before .args in let p = a .pool .now in let q = a .path .now in let e : isRed p (l .node) ≡ false = sym (c .before .before .before .before .is-red .ensures) ∙ c .before .before .before .if1 .left in c .climb3 .ensures ∙ (sym (deleteFixup-root p (l .e) (l .node) q (l .d) e (c .before .if3 .taken)) ∙ l .inv .2)
+returns-3 c = let l = c .before .before .before .before .before .loop in let a = c .before .before .before .before .before .before .before .before .args in let p = a .pool .now in let q = a .path .now in let e : isRed p (l .node) ≡ false = sym (c .before .before .before .before .is-red .ensures) ∙ c .before .before .before .if1 .left in c .fixup-result3 .ensures ∙ (sym (deleteFixup-root p (l .e) (l .node) q (l .d) e (c .before .if3 .taken)) ∙ l .inv .2)
 
 sub-link-in : tie.Need-sub-link-in Inv-loop μ-loop
 sub-link-in c = search needs
@@ -76,7 +76,7 @@ fixup-result-requires-4 : tie.Need-fixup-result-requires-4 Inv-loop μ-loop
 fixup-result-requires-4 c κs = search needs
 
 returns-4 : tie.Need-returns-4 Inv-loop μ-loop
-returns-4 c = let l = c .before .before .before .before .before .before .before .before .before .before .before .loop in let a = c .before .before .before .before .before .before .before .before .before .before .before .before .before .before .args in let p = a .pool .now in let q = a .path .now in let e : isRed p (l .node) ≡ false = sym (c .before .before .before .before .before .before .before .before .before .before .is-red .ensures) ∙ c .before .before .before .before .before .before .before .before .before .if1 .left in let g = c .before .before .before .before .before .before .before .before .if2 .left in let h = c .before .before .before .before .before .before .before .if3 .left in let z : child p (other (sideOf (linkIn q (l .d - 1)))) (owner (linkIn q (l .d - 1))) ≡ 0 = rw (← (c .before .before .before .before .before .before .link-in .ensures), ← (c .before .before .before .before .before .side-of .ensures), ← (c .before .before .before .before .other .ensures), ← (c .before .before .before .owner .ensures), ← (c .before .before .child .ensures)) (c .before .if4 .taken) in c .climb4 .ensures ∙ (sym (deleteFixup-missing p (l .e) (l .node) q (l .d) e (omega arith) z) ∙ l .inv .2)
+returns-4 c = let l = c .before .before .before .before .before .before .before .before .before .before .before .loop in let a = c .before .before .before .before .before .before .before .before .before .before .before .before .before .before .args in let p = a .pool .now in let q = a .path .now in let e : isRed p (l .node) ≡ false = sym (c .before .before .before .before .before .before .before .before .before .before .is-red .ensures) ∙ c .before .before .before .before .before .before .before .before .before .if1 .left in let g = c .before .before .before .before .before .before .before .before .if2 .left in let h = c .before .before .before .before .before .before .before .if3 .left in let z : child p (other (sideOf (linkIn q (l .d - 1)))) (owner (linkIn q (l .d - 1))) ≡ 0 = rw (← (c .before .before .before .before .before .before .link-in .ensures), ← (c .before .before .before .before .before .side-of .ensures), ← (c .before .before .before .before .other .ensures), ← (c .before .before .before .owner .ensures), ← (c .before .before .child .ensures)) (c .before .if4 .taken) in c .fixup-result4 .ensures ∙ (sym (deleteFixup-missing p (l .e) (l .node) q (l .d) e (omega arith) z) ∙ l .inv .2)
 
 sub-link-in-2 : tie.Need-sub-link-in-2 Inv-loop μ-loop
 sub-link-in-2 c = search needs
@@ -94,7 +94,7 @@ fixup-result-requires-5 : tie.Need-fixup-result-requires-5 Inv-loop μ-loop
 fixup-result-requires-5 c κs = search needs
 
 returns-5 : tie.Need-returns-5 Inv-loop μ-loop
-returns-5 c = let l = c .before .before .before .before .before .before .before .before .before .before .before .before .before .before .before .loop in let a = c .before .before .before .before .before .before .before .before .before .before .before .before .before .before .before .before .before .before .args in let p = a .pool .now in let q = a .path .now in let e : isRed p (l .node) ≡ false = sym (c .before .before .before .before .before .before .before .before .before .before .before .before .before .before .is-red .ensures) ∙ c .before .before .before .before .before .before .before .before .before .before .before .before .before .if1 .left in let g = c .before .before .before .before .before .before .before .before .before .before .before .before .if2 .left in let h = c .before .before .before .before .before .before .before .before .before .before .before .if3 .left in let d : (child p (other (sideOf (linkIn q (l .d - 1)))) (owner (linkIn q (l .d - 1))) ≡ 0) → ⊥ = rw (← (c .before .before .before .before .before .before .before .before .before .before .link-in .ensures), ← (c .before .before .before .before .before .before .before .before .before .side-of .ensures), ← (c .before .before .before .before .before .before .before .before .other .ensures), ← (c .before .before .before .before .before .before .before .owner .ensures), ← (c .before .before .before .before .before .before .child .ensures)) (c .before .before .before .before .before .if4 .left) in let r : isRed p (child p (other (sideOf (linkIn q (l .d - 1)))) (owner (linkIn q (l .d - 1)))) ≡ true = rw (← (c .before .before .before .before .before .before .before .before .before .before .link-in .ensures), ← (c .before .before .before .before .before .before .before .before .before .side-of .ensures), ← (c .before .before .before .before .before .before .before .before .other .ensures), ← (c .before .before .before .before .before .before .before .owner .ensures), ← (c .before .before .before .before .before .before .child .ensures), ← (c .before .before .before .is-red2 .ensures)) (c .before .before .if5 .taken) in rw (c .climb5 .ensures, c .before .red-sibling .ensures, c .before .before .before .before .before .before .child .ensures, c .before .before .before .before .before .before .before .before .other .ensures, c .before .before .before .before .before .before .before .before .before .side-of .ensures, c .before .before .before .before .before .before .before .owner .ensures, c .before .before .before .before .link-in2 .ensures, c .before .before .before .before .before .before .before .before .before .before .link-in .ensures) (sym (deleteFixup-sibling p (l .e) (l .node) q (l .d) e (omega arith) d r) ∙ l .inv .2)
+returns-5 c = let l = c .before .before .before .before .before .before .before .before .before .before .before .before .before .before .before .loop in let a = c .before .before .before .before .before .before .before .before .before .before .before .before .before .before .before .before .before .before .args in let p = a .pool .now in let q = a .path .now in let e : isRed p (l .node) ≡ false = sym (c .before .before .before .before .before .before .before .before .before .before .before .before .before .before .is-red .ensures) ∙ c .before .before .before .before .before .before .before .before .before .before .before .before .before .if1 .left in let g = c .before .before .before .before .before .before .before .before .before .before .before .before .if2 .left in let h = c .before .before .before .before .before .before .before .before .before .before .before .if3 .left in let d : (child p (other (sideOf (linkIn q (l .d - 1)))) (owner (linkIn q (l .d - 1))) ≡ 0) → ⊥ = rw (← (c .before .before .before .before .before .before .before .before .before .before .link-in .ensures), ← (c .before .before .before .before .before .before .before .before .before .side-of .ensures), ← (c .before .before .before .before .before .before .before .before .other .ensures), ← (c .before .before .before .before .before .before .before .owner .ensures), ← (c .before .before .before .before .before .before .child .ensures)) (c .before .before .before .before .before .if4 .left) in let r : isRed p (child p (other (sideOf (linkIn q (l .d - 1)))) (owner (linkIn q (l .d - 1)))) ≡ true = rw (← (c .before .before .before .before .before .before .before .before .before .before .link-in .ensures), ← (c .before .before .before .before .before .before .before .before .before .side-of .ensures), ← (c .before .before .before .before .before .before .before .before .other .ensures), ← (c .before .before .before .before .before .before .before .owner .ensures), ← (c .before .before .before .before .before .before .child .ensures), ← (c .before .before .before .is-red2 .ensures)) (c .before .before .if5 .taken) in rw (c .fixup-result5 .ensures, c .before .red-sibling .ensures, c .before .before .before .before .before .before .child .ensures, c .before .before .before .before .before .before .before .before .other .ensures, c .before .before .before .before .before .before .before .before .before .side-of .ensures, c .before .before .before .before .before .before .before .owner .ensures, c .before .before .before .before .link-in2 .ensures, c .before .before .before .before .before .before .before .before .before .before .link-in .ensures) (sym (deleteFixup-sibling p (l .e) (l .node) q (l .d) e (omega arith) d r) ∙ l .inv .2)
 
 red-child-requires : tie.Need-red-child-requires Inv-loop μ-loop
 red-child-requires c κs = search needs
@@ -106,7 +106,7 @@ fixup-result-requires-6 : tie.Need-fixup-result-requires-6 Inv-loop μ-loop
 fixup-result-requires-6 c κs = search needs
 
 returns-6 : tie.Need-returns-6 Inv-loop μ-loop
-returns-6 c = let l = c .before .before .before .before .before .before .before .before .before .before .before .before .before .before .before .before .before .loop in let a = c .before .before .before .before .before .before .before .before .before .before .before .before .before .before .before .before .before .before .before .before .args in let p = a .pool .now in let q = a .path .now in let e : isRed p (l .node) ≡ false = sym (c .before .before .before .before .before .before .before .before .before .before .before .before .before .before .before .before .is-red .ensures) ∙ c .before .before .before .before .before .before .before .before .before .before .before .before .before .before .before .if1 .left in let g = c .before .before .before .before .before .before .before .before .before .before .before .before .before .before .if2 .left in let h = c .before .before .before .before .before .before .before .before .before .before .before .before .before .if3 .left in let d : (child p (other (sideOf (linkIn q (l .d - 1)))) (owner (linkIn q (l .d - 1))) ≡ 0) → ⊥ = rw (← (c .before .before .before .before .before .before .before .before .before .before .before .before .link-in .ensures), ← (c .before .before .before .before .before .before .before .before .before .before .before .side-of .ensures), ← (c .before .before .before .before .before .before .before .before .before .before .other .ensures), ← (c .before .before .before .before .before .before .before .before .before .owner .ensures), ← (c .before .before .before .before .before .before .before .before .child .ensures)) (c .before .before .before .before .before .before .before .if4 .left) in let r : isRed p (child p (other (sideOf (linkIn q (l .d - 1)))) (owner (linkIn q (l .d - 1)))) ≡ false = rw (← (c .before .before .before .before .before .before .before .before .before .before .before .before .link-in .ensures), ← (c .before .before .before .before .before .before .before .before .before .before .before .side-of .ensures), ← (c .before .before .before .before .before .before .before .before .before .before .other .ensures), ← (c .before .before .before .before .before .before .before .before .before .owner .ensures), ← (c .before .before .before .before .before .before .before .before .child .ensures), ← (c .before .before .before .before .before .is-red2 .ensures)) (c .before .before .before .before .if5 .left) in let t : redChild p (child p (other (sideOf (linkIn q (l .d - 1)))) (owner (linkIn q (l .d - 1)))) ≡ true = rw (← (c .before .before .before .before .before .before .before .before .before .before .before .before .link-in .ensures), ← (c .before .before .before .before .before .before .before .before .before .before .before .side-of .ensures), ← (c .before .before .before .before .before .before .before .before .before .before .other .ensures), ← (c .before .before .before .before .before .before .before .before .before .owner .ensures), ← (c .before .before .before .before .before .before .before .before .child .ensures), ← (c .before .before .before .red-child .ensures)) (c .before .before .if6 .taken) in rw (c .climb6 .ensures, c .before .blackSibling .ensures, c .before .before .before .before .before .before .before .before .child .ensures, c .before .before .before .before .before .before .before .before .before .before .other .ensures, c .before .before .before .before .before .before .before .before .before .before .before .side-of .ensures, c .before .before .before .before .before .before .before .before .before .owner .ensures, c .before .before .before .before .before .before .link-in2 .ensures, c .before .before .before .before .before .before .before .before .before .before .before .before .link-in .ensures) (sym (deleteFixup-blackSibling p (l .e) (l .node) q (l .d) e (omega arith) d r t) ∙ l .inv .2)
+returns-6 c = let l = c .before .before .before .before .before .before .before .before .before .before .before .before .before .before .before .before .before .loop in let a = c .before .before .before .before .before .before .before .before .before .before .before .before .before .before .before .before .before .before .before .before .args in let p = a .pool .now in let q = a .path .now in let e : isRed p (l .node) ≡ false = sym (c .before .before .before .before .before .before .before .before .before .before .before .before .before .before .before .before .is-red .ensures) ∙ c .before .before .before .before .before .before .before .before .before .before .before .before .before .before .before .if1 .left in let g = c .before .before .before .before .before .before .before .before .before .before .before .before .before .before .if2 .left in let h = c .before .before .before .before .before .before .before .before .before .before .before .before .before .if3 .left in let d : (child p (other (sideOf (linkIn q (l .d - 1)))) (owner (linkIn q (l .d - 1))) ≡ 0) → ⊥ = rw (← (c .before .before .before .before .before .before .before .before .before .before .before .before .link-in .ensures), ← (c .before .before .before .before .before .before .before .before .before .before .before .side-of .ensures), ← (c .before .before .before .before .before .before .before .before .before .before .other .ensures), ← (c .before .before .before .before .before .before .before .before .before .owner .ensures), ← (c .before .before .before .before .before .before .before .before .child .ensures)) (c .before .before .before .before .before .before .before .if4 .left) in let r : isRed p (child p (other (sideOf (linkIn q (l .d - 1)))) (owner (linkIn q (l .d - 1)))) ≡ false = rw (← (c .before .before .before .before .before .before .before .before .before .before .before .before .link-in .ensures), ← (c .before .before .before .before .before .before .before .before .before .before .before .side-of .ensures), ← (c .before .before .before .before .before .before .before .before .before .before .other .ensures), ← (c .before .before .before .before .before .before .before .before .before .owner .ensures), ← (c .before .before .before .before .before .before .before .before .child .ensures), ← (c .before .before .before .before .before .is-red2 .ensures)) (c .before .before .before .before .if5 .left) in let t : redChild p (child p (other (sideOf (linkIn q (l .d - 1)))) (owner (linkIn q (l .d - 1)))) ≡ true = rw (← (c .before .before .before .before .before .before .before .before .before .before .before .before .link-in .ensures), ← (c .before .before .before .before .before .before .before .before .before .before .before .side-of .ensures), ← (c .before .before .before .before .before .before .before .before .before .before .other .ensures), ← (c .before .before .before .before .before .before .before .before .before .owner .ensures), ← (c .before .before .before .before .before .before .before .before .child .ensures), ← (c .before .before .before .red-child .ensures)) (c .before .before .if6 .taken) in rw (c .fixup-result6 .ensures, c .before .black-sibling .ensures, c .before .before .before .before .before .before .before .before .child .ensures, c .before .before .before .before .before .before .before .before .before .before .other .ensures, c .before .before .before .before .before .before .before .before .before .before .before .side-of .ensures, c .before .before .before .before .before .before .before .before .before .owner .ensures, c .before .before .before .before .before .before .link-in2 .ensures, c .before .before .before .before .before .before .before .before .before .before .before .before .link-in .ensures) (sym (deleteFixup-blackSibling p (l .e) (l .node) q (l .d) e (omega arith) d r t) ∙ l .inv .2)
 
 sub-d : tie.Need-sub-d Inv-loop μ-loop
 sub-d c = search needs

@@ -48,14 +48,14 @@ fixup-result-requires c κs = search needs
 
 returns : tie.Need-returns Inv-loop μ-loop
 returns c = let l = c .before .before .before .before .before .before .loop in let a = c .before .before .before .before .before .before .before .before .before .args in let g : isRed (a .pool .now) (owner (linkIn (a .path .now) (l .d - 1))) ≡ false = rw (← (c .before .before .before .before .link-in .ensures), ← (c .before .before .before .owner .ensures), ← (c .before .before .is-red .ensures)) (c .before .if1 .left) in
-    c .fixupResult .ensures ∙ (sym (insertFixup-balanced (a .pool .now) (l .e) (a .path .now) (l .d) (omega arith) g) ∙ l .inv .2)
+    c .fixup-result .ensures ∙ (sym (insertFixup-balanced (a .pool .now) (l .e) (a .path .now) (l .d) (omega arith) g) ∙ l .inv .2)
 
 fixup-result-requires-2 : tie.Need-fixup-result-requires-2 Inv-loop μ-loop
 fixup-result-requires-2 c κs = search needs
 
 returns-2 : tie.Need-returns-2 Inv-loop μ-loop
 returns-2 c = let l = c .before .before .before .before .before .before .before .loop in let a = c .before .before .before .before .before .before .before .before .before .before .args in let g : isRed (a .pool .now) (owner (linkIn (a .path .now) (l .d - 1))) ≡ true = rw (← (c .before .before .before .before .before .link-in .ensures), ← (c .before .before .before .before .owner .ensures), ← (c .before .before .before .is-red .ensures)) (c .before .before .if1 .taken) in
-    c .climb2 .ensures ∙ (sym (insertFixup-top (a .pool .now) (l .e) (a .path .now) (l .d) (c .before .if2 .taken) g) ∙ l .inv .2)
+    c .fixup-result2 .ensures ∙ (sym (insertFixup-top (a .pool .now) (l .e) (a .path .now) (l .d) (c .before .if2 .taken) g) ∙ l .inv .2)
 
 sub-link-in-2 : tie.Need-sub-link-in-2 Inv-loop μ-loop
 sub-link-in-2 c = search needs
@@ -95,7 +95,7 @@ fixup-result-requires-3 c κs = search needs
 
 returns-3 : tie.Need-returns-3 Inv-loop μ-loop
 returns-3 c = let l = c .before .before .before .before .before .before .before .before .before .before .before .before .before .before .before .before .before .loop in let a = c .before .before .before .before .before .before .before .before .before .before .before .before .before .before .before .before .before .before .before .before .args in let h = c .before .before .before .before .before .before .before .before .before .before .before .if2 .left in let g : isRed (a .pool .now) (owner (linkIn (a .path .now) (l .d - 1))) ≡ true = rw (← (c .before .before .before .before .before .before .before .before .before .before .before .before .before .before .before .link-in .ensures), ← (c .before .before .before .before .before .before .before .before .before .before .before .before .before .before .owner .ensures), ← (c .before .before .before .before .before .before .before .before .before .before .before .before .before .is-red .ensures)) (c .before .before .before .before .before .before .before .before .before .before .before .before .if1 .taken) in let i : isRed (a .pool .now) (child (a .pool .now) (other (sideOf (linkIn (a .path .now) (l .d - 2)))) (owner (linkIn (a .path .now) (l .d - 2)))) ≡ false = rw (← (c .before .before .before .before .before .before .before .before .before .before .link-in2 .ensures), ← (c .before .before .before .before .before .before .before .before .before .side-of .ensures), ← (c .before .before .before .before .before .before .before .before .other .ensures), ← (c .before .before .before .before .before .before .before .owner2 .ensures), ← (c .before .before .before .before .before .before .child .ensures), ← (c .before .before .before .before .before .is-red2 .ensures)) (c .before .before .before .before .if3 .left) in
-    rw (c .climb3 .ensures, c .before .form-of .ensures, c .before .before .side-of2 .ensures, c .before .before .before .before .before .before .before .before .before .side-of .ensures, c .before .before .before .link-in3 .ensures, c .before .before .before .before .before .before .before .before .before .before .link-in2 .ensures, c .before .before .before .before .before .before .before .before .before .before .before .before .before .before .before .link-in .ensures)
+    rw (c .fixup-result3 .ensures, c .before .form-of .ensures, c .before .before .side-of2 .ensures, c .before .before .before .before .before .before .before .before .before .side-of .ensures, c .before .before .before .link-in3 .ensures, c .before .before .before .before .before .before .before .before .before .before .link-in2 .ensures, c .before .before .before .before .before .before .before .before .before .before .before .before .before .before .before .link-in .ensures)
     (sym (insertFixup-turn (a .pool .now) (l .e) (a .path .now) (l .d) (omega arith) g i) ∙ l .inv .2)
 
 sub-d : tie.Need-sub-d Inv-loop μ-loop
@@ -115,13 +115,13 @@ fixup-result-requires-4 : tie.Need-fixup-result-requires-4 Inv-loop μ-loop
 fixup-result-requires-4 c κs = search needs
 
 returns-4 : tie.Need-returns-4 Inv-loop μ-loop
-returns-4 c = let l = c .before .before .before .loop in let a = c .before .before .before .before .before .before .args in c .climb4 .ensures ∙ (sym (insertFixup-none (a .pool .now) (l .e) (a .path .now) (l .d) (c .before .if4 .taken)) ∙ l .inv .2)
+returns-4 c = let l = c .before .before .before .loop in let a = c .before .before .before .before .before .before .args in c .fixup-result4 .ensures ∙ (sym (insertFixup-none (a .pool .now) (l .e) (a .path .now) (l .d) (c .before .if4 .taken)) ∙ l .inv .2)
 
 fixup-result-requires-5 : tie.Need-fixup-result-requires-5 Inv-loop μ-loop
 fixup-result-requires-5 c κs = search needs
 
 returns-5 : tie.Need-returns-5 Inv-loop μ-loop
-returns-5 c = let l = c .before .before .before .loop in let a = c .before .before .before .before .before .before .args in let h = c .before .if4 .left in c .climb5 .ensures ∙ (sym (insertFixup-root (a .pool .now) (l .e) (a .path .now) (l .d) (omega arith)) ∙ l .inv .2)
+returns-5 c = let l = c .before .before .before .loop in let a = c .before .before .before .before .before .before .args in let h = c .before .if4 .left in c .fixup-result5 .ensures ∙ (sym (insertFixup-root (a .pool .now) (l .e) (a .path .now) (l .d) (omega arith)) ∙ l .inv .2)
 
 pub insert-fixup-spec : {M : Type 1} → statement M
 insert-fixup-spec =

@@ -11,7 +11,7 @@ use Rattle.fixups.proofs.red_sibling.Statement.{statement}
 use Rattle.fixups.proofs.red_sibling.Tie as tie
 use Rattle.fixups.proofs.red_sibling.Reads as reads
 use Rattle.fixups.proofs.red_sibling.Lts as lts
-use Rattle.fixups.proofs.borrow.Reads as black-sibling-reads
+use Rattle.fixups.proofs.black_sibling.Reads as black-sibling-reads
 use Rattle.fixups.proofs.red_child.Reads as red-child-reads
 use Rattle.pool.proofs.child.Reads as child-reads
 use Rattle.links.proofs.other.Reads as other-reads
@@ -40,7 +40,7 @@ returns-2 : tie.Need-returns-2
 unfolding redSibling
 returns-2 c = let a = c .before .before .before .before .before .before .before .before .args in let e : (child (a .pool .now) (other (a .z)) (a .w) ≡ 0) → ⊥ = rw (← (c .before .before .before .before .before .before .other .ensures), ← (c .before .before .before .before .before .child .ensures)) (c .before .before .before .before .if1 .left) in
     let f : redChild (a .pool .now) (child (a .pool .now) (other (a .z)) (a .w)) ≡ true = rw (← (c .before .before .before .before .before .before .other .ensures), ← (c .before .before .before .before .before .child .ensures), ← (c .before .before .before .red-child .ensures)) (c .before .before .if2 .taken) in
-    rw (ne-eqb _ _ e, f, c .blackSibling .ensures, c .before .link-at .ensures, c .before .before .before .before .before .child .ensures, c .before .before .before .before .before .before .other .ensures)
+    rw (ne-eqb _ _ e, f, c .black-sibling .ensures, c .before .link-at .ensures, c .before .before .before .before .before .child .ensures, c .before .before .before .before .before .before .other .ensures)
 
 returns-3 : tie.Need-returns-3
 unfolding redSibling

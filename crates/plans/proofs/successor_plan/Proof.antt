@@ -53,12 +53,12 @@ two-stores-requires c κs = search needs
 
 plan-requires : tie.Need-plan-requires
 unfolding writeOf
-plan-requires c κs = let a = c .before .before .before .before .before .before .before .before .before .before .before .args in rw (c .two-stores .ensures, c .before .before .before .before .removal-fixup .ensures) (omega (arith, removal-short (a .pool .now) (c .before .before .before .before .before .before .node-at .result) (c .before .before .before .before .before .child .result) (upward (a .path .now) (a .depth))))
+plan-requires c κs = let a = c .before .before .before .before .before .before .before .before .before .before .before .args in rw (c .two-stores .ensures, c .before .before .before .before .fixup-after-removal .ensures) (omega (arith, removal-short (a .pool .now) (c .before .before .before .before .before .before .node-at .result) (c .before .before .before .before .before .child .result) (upward (a .path .now) (a .depth))))
 
 returns-2 : tie.Need-returns-2
 returns-2 c = let a = c .before .before .before .before .before .before .before .before .before .before .before .before .args in let p = a .pool .now in let st = state p (a .reg) in let path = upward (a .path .now) (a .depth) in
     let n : c .before .before .before .before .before .before .before .node-at .result ≡ nextNode st path = rw (c .before .before .before .before .before .before .before .node-at .ensures, c .before .before .before .before .before .before .before .before .nearest .ensures) in
-    let i : c .before .before .before .before .before .removal-fixup .result .ending ≡ nextRemoval st path = rw (c .before .before .before .before .before .removal-fixup .ensures, c .before .before .before .before .before .before .child .ensures, n) in
+    let i : c .before .before .before .before .before .fixup-after-removal .result .ending ≡ nextRemoval st path = rw (c .before .before .before .before .before .fixup-after-removal .ensures, c .before .before .before .before .before .before .child .ensures, n) in
     let z : child p L (child p R (a .b)) ≡ 0 = rw (← (c .before .before .before .before .child2 .ensures), ← (c .before .before .before .child3 .ensures)) (c .before .before .if2 .taken) in
     let h = removal-short p (nextNode st path) (child p R (nextNode st path)) path in
     rw (successor-near st (a .l) (a .b) path (upward-some (a .path .now) (a .depth) (c .before .before .before .before .before .before .before .before .before .if1 .left)) z)
@@ -72,12 +72,12 @@ two-stores-requires-2 c κs = search needs
 
 plan-requires-2 : tie.Need-plan-requires-2
 unfolding writeOf
-plan-requires-2 c κs = let a = c .before .before .before .before .before .before .before .before .before .before .before .before .args in rw (c .two-stores2 .ensures, c .before .before .before .before .before .removal-fixup .ensures) (omega (arith, removal-short (a .pool .now) (c .before .before .before .before .before .before .before .node-at .result) (c .before .before .before .before .before .before .child .result) (upward (a .path .now) (a .depth))))
+plan-requires-2 c κs = let a = c .before .before .before .before .before .before .before .before .before .before .before .before .args in rw (c .two-stores2 .ensures, c .before .before .before .before .before .fixup-after-removal .ensures) (omega (arith, removal-short (a .pool .now) (c .before .before .before .before .before .before .before .node-at .result) (c .before .before .before .before .before .before .child .result) (upward (a .path .now) (a .depth))))
 
 returns-3 : tie.Need-returns-3
 returns-3 c = let a = c .before .before .before .before .before .before .before .before .before .before .before .before .before .args in let p = a .pool .now in let st = state p (a .reg) in let path = upward (a .path .now) (a .depth) in
     let n : c .before .before .before .before .before .before .before .before .node-at .result ≡ nextNode st path = rw (c .before .before .before .before .before .before .before .before .node-at .ensures, c .before .before .before .before .before .before .before .before .before .nearest .ensures) in
-    let i : c .before .before .before .before .before .before .removal-fixup .result .ending ≡ nextRemoval st path = rw (c .before .before .before .before .before .before .removal-fixup .ensures, c .before .before .before .before .before .before .before .child .ensures, n) in
+    let i : c .before .before .before .before .before .before .fixup-after-removal .result .ending ≡ nextRemoval st path = rw (c .before .before .before .before .before .before .fixup-after-removal .ensures, c .before .before .before .before .before .before .before .child .ensures, n) in
     let z : child p L (child p R (a .b)) ≡ 0 → ⊥ = rw (← (c .before .before .before .before .before .child2 .ensures), ← (c .before .before .before .before .child3 .ensures)) (c .before .before .before .if2 .left) in
     let h = removal-short p (nextNode st path) (child p R (nextNode st path)) path in
     rw (successor-far st (a .l) (a .b) path (upward-some (a .path .now) (a .depth) (c .before .before .before .before .before .before .before .before .before .before .if1 .left)) z)

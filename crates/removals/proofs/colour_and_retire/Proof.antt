@@ -20,7 +20,7 @@ same-length c = search needs
 
 returns : tie.Need-returns
 unfolding paintDeleteFixup
-returns c = λ q r. c .before .before .retire .ensures q r ∙ rw (c .before .before .before .before .before .before .paint-removal .ensures (withHead q (c .before .before .before .before .before .before .before .before .before .before .args .h)) refl)
+returns c = λ q r. c .before .before .retire .ensures q r ∙ rw (c .before .before .before .before .before .before .paint-delete-fixup .ensures (withHead q (c .before .before .before .before .before .before .before .before .before .before .args .h)) refl)
 
 pub colour-and-retire-spec : {M : Type 1} → statement M
 colour-and-retire-spec = tie.close (tie.spec paint-delete-fixup-requires retire-requires same-length returns)

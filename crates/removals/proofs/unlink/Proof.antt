@@ -53,7 +53,7 @@ same-length c = search needs
 returns : tie.Need-returns
 unfolding stepFinds
 returns c = let a = c .before .before .before .before .before .before .before .before .before .before .before .before .before .before .before .before .before .args in λ q r. let st : State = at (a .pool .now) (a .h) q in
-    let f : stepFinds st (a .l) Unlink ≡ false = rw (← (c .before .before .before .before .before .before .before .before .before .before .before .before .before .before .node-at .ensures), ← (c .before .before .before .before .before .before .before .before .before .before .before .before .only-child .ensures), ← (c .before .before .before .before .before .before .before .before .before .before .word .ensures), ← (c .before .before .before .before .before .before .before .path-to .ensures .0), ← (c .before .before .before .removal-fixup .ensures), ← (c .before .before .nodesFound .ensures)) (c .before .if1 .left) in
+    let f : stepFinds st (a .l) Unlink ≡ false = rw (← (c .before .before .before .before .before .before .before .before .before .before .before .before .before .before .node-at .ensures), ← (c .before .before .before .before .before .before .before .before .before .before .before .before .only-child .ensures), ← (c .before .before .before .before .before .before .before .before .before .before .word .ensures), ← (c .before .before .before .before .before .before .before .path-to .ensures .0), ← (c .before .before .before .fixup-after-removal .ensures), ← (c .before .before .nodes-found .ensures)) (c .before .if1 .left) in
     tells-missed (a .pool .now) (a .h) (a .l) Unlink q (c .missed .result) f (c .missed .ensures)
 
 store-one-less-requires : tie.Need-store-one-less-requires
@@ -63,7 +63,7 @@ slice-aggregate-colour-and-retire : tie.Need-slice-aggregate-colour-and-retire
 slice-aggregate-colour-and-retire c = search needs
 
 colour-and-retire-requires : tie.Need-colour-and-retire-requires
-colour-and-retire-requires c κs = (omega (arith, c .before .before .before .before .before .before .before .before .before .before .before .before .before .before .before .before .before .before .before .before .before .before .pre, c .before .before .before .before .store-less .kept .0), search needs)
+colour-and-retire-requires c κs = (omega (arith, c .before .before .before .before .before .before .before .before .before .before .before .before .before .before .before .before .before .before .before .before .before .before .pre, c .before .before .before .before .store-one-less .kept .0), search needs)
 
 same-length-2 : tie.Need-same-length-2
 same-length-2 c = search needs
@@ -71,8 +71,8 @@ same-length-2 c = search needs
 returns-2 : tie.Need-returns-2
 unfolding stepFinds stepMade unlinkStore
 returns-2 c = let a = c .before .before .before .before .before .before .before .before .before .before .before .before .before .before .before .before .before .before .before .before .before .before .before .before .before .args in λ q r. let st : State = at (a .pool .now) (a .h) q in
-    let f : stepFinds st (a .l) Unlink ≡ true = rw (← (c .before .before .before .before .before .before .before .before .before .before .before .before .before .before .before .before .before .before .before .before .before .before .node-at .ensures), ← (c .before .before .before .before .before .before .before .before .before .before .before .before .before .before .before .before .before .before .before .before .only-child .ensures), ← (c .before .before .before .before .before .before .before .before .before .before .before .before .before .before .before .before .before .before .word .ensures), ← (c .before .before .before .before .before .before .before .before .before .before .before .before .before .before .before .path-to .ensures .0), ← (c .before .before .before .before .before .before .before .before .before .before .before .removal-fixup .ensures), ← (c .before .before .before .before .before .before .before .before .before .before .nodesFound .ensures)) (c .before .before .before .before .before .before .before .before .before .if1 .taken) in
-    tells-made (a .pool .now) (a .h) (a .l) Unlink q _ _ f (c .before .before .before .before .before .before .before .before .before .if1 .taken) (rw (c .before .before .settle .ensures q r, c .before .before .before .before .before .before .before .store-less .ensures q, c .before .before .before .before .before .before .before .before .before .before .before .removal-fixup .ensures, c .before .before .before .before .before .before .before .before .before .before .before .before .before .before .before .path-to .ensures .0, c .before .before .before .before .before .before .before .before .before .before .before .before .before .before .before .before .before .before .word .ensures, c .before .before .before .before .before .before .before .before .before .before .before .before .before .before .before .before .before .before .before .before .only-child .ensures, c .before .before .before .before .before .before .before .before .before .before .before .before .before .before .before .before .before .before .before .before .before .before .node-at .ensures))
+    let f : stepFinds st (a .l) Unlink ≡ true = rw (← (c .before .before .before .before .before .before .before .before .before .before .before .before .before .before .before .before .before .before .before .before .before .before .node-at .ensures), ← (c .before .before .before .before .before .before .before .before .before .before .before .before .before .before .before .before .before .before .before .before .only-child .ensures), ← (c .before .before .before .before .before .before .before .before .before .before .before .before .before .before .before .before .before .before .word .ensures), ← (c .before .before .before .before .before .before .before .before .before .before .before .before .before .before .before .path-to .ensures .0), ← (c .before .before .before .before .before .before .before .before .before .before .before .fixup-after-removal .ensures), ← (c .before .before .before .before .before .before .before .before .before .before .nodes-found .ensures)) (c .before .before .before .before .before .before .before .before .before .if1 .taken) in
+    tells-made (a .pool .now) (a .h) (a .l) Unlink q _ _ f (c .before .before .before .before .before .before .before .before .before .if1 .taken) (rw (c .before .before .colour-and-retire .ensures q r, c .before .before .before .before .before .before .before .store-one-less .ensures q, c .before .before .before .before .before .before .before .before .before .before .before .fixup-after-removal .ensures, c .before .before .before .before .before .before .before .before .before .before .before .before .before .before .before .path-to .ensures .0, c .before .before .before .before .before .before .before .before .before .before .before .before .before .before .before .before .before .before .word .ensures, c .before .before .before .before .before .before .before .before .before .before .before .before .before .before .before .before .before .before .before .before .only-child .ensures, c .before .before .before .before .before .before .before .before .before .before .before .before .before .before .before .before .before .before .before .before .before .before .node-at .ensures))
 
 pub unlink-spec : {M : Type 1} → statement M
 unlink-spec =

@@ -36,7 +36,7 @@ same-length : tie.Need-same-length
 same-length c = search needs
 
 returns-2 : tie.Need-returns-2
-returns-2 c = c .before .before .insert-climbing .ensures
+returns-2 c = c .before .before .insert-under-red .ensures
 
 insert-under-black-requires : tie.Need-insert-under-black-requires
 insert-under-black-requires c κs = let a = c .before .before .before .before .before .before .before .before .args in let e : isRed (a .pool .now) (owner (a .l)) ≡ false = rw (← (c .before .before .before .owner .ensures), ← (c .before .before .is-red .ensures)) (c .before .if2 .left) in (c .before .before .before .before .before .before .before .before .pre, e, c .before .before .before .before .before .if1 .left)
@@ -45,7 +45,7 @@ same-length-2 : tie.Need-same-length-2
 same-length-2 c = search needs
 
 returns-3 : tie.Need-returns-3
-returns-3 c = c .before .before .insert-balanced .ensures
+returns-3 c = c .before .before .insert-under-black .ensures
 
 pub insert-spec : {M : Type 1} → statement M
 insert-spec =
