@@ -116,3 +116,18 @@ module _ {A : Type 0} (f : A → ℕ → A) (P : A → Type 0) where
   pub fold-keeps : (n e : ℕ) (a : A) → ((a : A) (i : ℕ) → n ≤ i → i < e → P a → P (f a i)) → P a → P (foldIn f n e a)
   unfolding foldIn
   fold-keeps n e a step p = keeps-from (e - n) n a (λ a i l h. step a i l (omega arith)) p
+
+-- what each step takes on, the walk takes through
+module _ {A : Type 0} (f : A → ℕ → A) (P : ℕ → A → Type 0) where
+  leads-from : (k n : ℕ) (a : A) → ((a : A) (i : ℕ) → n ≤ i → i < n + k → P i a → P (i + 1) (f a i)) → P n a → P (n + k) (foldFrom f k n a)
+  unfolding foldFrom
+  leads-from zero n a step p = let e : n + 0 ≡ n = omega arith in rw e p
+  leads-from (suc k) n a step p =
+      let e : n + suc k ≡ n + 1 + k = omega arith in
+      rw e (leads-from k (n + 1) (f a n) (λ a i l h. step a i (omega arith) (omega arith)) (step a n (omega arith) (omega arith) p))
+
+  pub fold-leads : (n e : ℕ) (a : A) → n ≤ e → ((a : A) (i : ℕ) → n ≤ i → i < e → P i a → P (i + 1) (f a i)) → P n a → P e (foldIn f n e a)
+  unfolding foldIn
+  fold-leads n e a l step p =
+      let q : n + (e - n) ≡ e = omega arith in
+      rw q at (leads-from (e - n) n a (λ a i x y. step a i x (omega arith)) p)

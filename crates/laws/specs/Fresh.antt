@@ -1,86 +1,72 @@
--- The fresh pool, word by word.
+-- The fresh pool word by word, by one law over node and word; and no slot of the fresh register reads.
 use mathlib.Core.Path.{_≡_, refl, sym, ap, _∙_}
-use mathlib.Core.List.{List, [], _∷_}
-use mathlib.Core.Bool.{Bool, cond, _&&_}
+use mathlib.Core.List.{List, [], _++_}
+use mathlib.Core.Bool.{Bool, true, false, cond, not, _&&_}
 use lib.Dec.{eqb, ltb}
-use lib.ListN.{length, getD, set}
-use lib.Seq.{getD-set-same, getD-set-other, ext-getD}
+use lib.ListN.{length, getD, set, replicate, length-append, getD-replicate, List·getD-append}
+use lib.Seq.{getD-set-same, getD-set-other, getD-append-add, ext-getD}
 use native.Mathlib.Decide.{decLt, ℕ-discrete}
 use borrow.Author.Tests.{lt-ltb, le-ltb, ne-eqb}
 use native.Mathlib.Omega.{arith}
-use Prim.Native.Nat.{ℕ, zero, suc, _+_, _-_, _*_, _/_, _%_, _<_}
-use Rattle.spec.specs.Pool.{freshNodes, freshPool}
+use Prim.Native.Nat.{ℕ, zero, suc, _+_, _*_, _/_, _%_, _<_}
+use Rattle.spec.specs.Numbers.{nodeWords, slots}
+use Rattle.spec.specs.Pool.{nextWord, freshNode, freshNodes, freshPool}
+use Rattle.spec.specs.Register.{noReader, readerOf, freshRegister}
 
--- word j of the k nodes from n on: next free is the node after, but of the last node 0; every other word is 0
-abbrev pub freshWord : ℕ → ℕ → ℕ → ℕ
-freshWord k n j = cond (eqb (j % 8) 7 && ltb (j / 8 + 1) k) (n + j / 8 + 1) 0
-
-pub fresh-length : (k n : ℕ) → length (freshNodes k n) ≡ k * 8
+pub fresh-length : (k n : ℕ) → length (freshNodes k n) ≡ k * nodeWords
 unfolding freshNodes
 fresh-length zero n = refl
-fresh-length (suc zero) n = refl
-fresh-length (suc (suc k)) n = let h = fresh-length (suc k) (n + 1) in omega arith
+fresh-length (suc k) n =
+    let h = fresh-length k (n + 1) in
+    length-append (freshNode (cond (eqb k 0) 0 (n + 1))) (freshNodes k (n + 1)) ∙ omega arith
 
-less-suc : (x y : ℕ) → ltb (x + 1) (suc y) ≡ ltb x y
+-- a word of the first node, and one of the nodes after it
+first-word : (x f : ℕ) (l : List ℕ) → f < nodeWords → getD (freshNode x ++ l) f 0 ≡ cond (eqb f nextWord) x 0
+first-word x f l h =
+    List·getD-append (freshNode x) l 0 f h
+    ∙ (elim (ℕ-discrete f nextWord) [
+      | yes e ↦ rw e
+      | no d ↦ rw (ne-eqb f nextWord d) (getD-set-other (replicate nodeWords 0) nextWord f x 0 d ∙ getD-replicate nodeWords f 0 0 h)
+    ])
+
+later-word : (x j : ℕ) (l : List ℕ) → getD (freshNode x ++ l) (nodeWords + j) 0 ≡ getD l j 0
+later-word x j l = getD-append-add (freshNode x) l j 0
+
+-- there is a next node unless this is the last
+choice : (b c : Bool) (x : ℕ) → cond b (cond c 0 x) 0 ≡ cond (b && not c) x 0
+choice true true x = refl
+choice true false x = refl
+choice false c x = refl
+
+more : (k : ℕ) → not (eqb k 0) ≡ ltb 1 (suc k)
+more zero = refl
+more (suc k) = rw (ne-eqb (suc k) 0 (omega arith), lt-ltb 1 (suc (suc k)) (omega arith))
+
+less-suc : (x y : ℕ) → ltb x y ≡ ltb (suc x) (suc y)
 less-suc x y =
     elim (decLt x y) [
-      | yes h ↦ lt-ltb (x + 1) (suc y) (omega arith) ∙ sym (lt-ltb x y h)
-      | no h ↦ le-ltb (x + 1) (suc y) (omega arith) ∙ sym (le-ltb x y (omega arith))
+      | yes h ↦ lt-ltb x y h ∙ sym (lt-ltb (suc x) (suc y) (omega arith))
+      | no h ↦ le-ltb x y (omega arith) ∙ sym (le-ltb (suc x) (suc y) (omega arith))
     ]
 
--- the words of the nodes after the first
-later : (k n j : ℕ) → freshWord (suc (suc k)) n (8 + j) ≡ freshWord (suc k) (n + 1) j
-later k n j =
-    let a : (8 + j) % 8 ≡ j % 8 = omega arith in
-    let b : (8 + j) / 8 ≡ j / 8 + 1 = omega arith in
-    let c : n + (j / 8 + 1) + 1 ≡ n + 1 + j / 8 + 1 = omega arith in
-    ap (λ (x : ℕ). cond (eqb x 7 && ltb ((8 + j) / 8 + 1) (suc (suc k))) (n + (8 + j) / 8 + 1) 0) a
-    ∙ (ap (λ (x : ℕ). cond (eqb (j % 8) 7 && ltb (x + 1) (suc (suc k))) (n + x + 1) 0) b
-    ∙ (ap (λ (x : Bool). cond (eqb (j % 8) 7 && x) (n + (j / 8 + 1) + 1) 0) (less-suc (j / 8 + 1) (suc k))
-    ∙ ap (λ (x : ℕ). cond (eqb (j % 8) 7 && ltb (j / 8 + 1) (suc k)) x 0) c))
+-- Word f of the i-th of k nodes from n on, counted from 0: next free is the node after, but of the last node 0; every other word is 0.
+abbrev pub freshWord : ℕ → ℕ → ℕ → ℕ → ℕ
+freshWord k n i f = cond (eqb f nextWord && ltb (suc i) k) (n + suc i) 0
 
--- seven zeros, and then x: below the eighth word 0, at it x, above it the others
-seven : (x : ℕ) (l : List ℕ) (j : ℕ) → getD (0 ∷ 0 ∷ 0 ∷ 0 ∷ 0 ∷ 0 ∷ 0 ∷ x ∷ l) j 0 ≡ cond (ltb j 7) 0 (getD (x ∷ l) (j - 7) 0)
-seven x l zero = refl
-seven x l (suc zero) = refl
-seven x l (suc (suc zero)) = refl
-seven x l (suc (suc (suc zero))) = refl
-seven x l (suc (suc (suc (suc zero)))) = refl
-seven x l (suc (suc (suc (suc (suc zero))))) = refl
-seven x l (suc (suc (suc (suc (suc (suc zero)))))) = refl
-seven x l (suc (suc (suc (suc (suc (suc (suc j))))))) =
-    let e : suc (suc (suc (suc (suc (suc (suc j)))))) - 7 ≡ j = omega arith in
-    rw (le-ltb (suc (suc (suc (suc (suc (suc (suc j))))))) 7 (omega arith), e)
-
--- a word below the eighth of the first node
-low : (k n j : ℕ) → j < 7 → freshWord k n j ≡ 0
-low k n j h =
-    let e : j % 8 ≡ j = omega arith in
-    rw (e, ne-eqb j 7 (omega arith))
-
-pub fresh-at : (k n j : ℕ) → j < k * 8 → getD (freshNodes k n) j 0 ≡ freshWord k n j
+pub fresh-word : (k n i f : ℕ) → i < k → f < nodeWords → getD (freshNodes k n) (i * nodeWords + f) 0 ≡ freshWord k n i f
 unfolding freshNodes
-fresh-at zero n j h = absurd (omega arith)
-fresh-at (suc zero) n j h =
-    seven 0 [] j
-    ∙ (elim (decLt j 7) [
-      | yes l ↦ rw (lt-ltb j 7 l) (sym (low 1 n j l))
-      | no l ↦ (let e : j ≡ 7 = omega arith in rw e)
-    ])
-fresh-at (suc (suc k)) n j h =
-    seven (n + 1) (freshNodes (suc k) (n + 1)) j
-    ∙ (elim (decLt j 7) [
-      | yes l ↦ rw (lt-ltb j 7 l) (sym (low (suc (suc k)) n j l))
-      | no l ↦
-          elim (ℕ-discrete j 7) [
-            | yes e ↦ rw (e, lt-ltb 1 (suc (suc k)) (omega arith)) (omega arith)
-            | no d ↦
-                (let m = j - 8 in
-                let a : j - 7 ≡ suc m = omega arith in
-                let b : 8 + m ≡ j = omega arith in
-                rw (le-ltb j 7 (omega arith), a) (fresh-at (suc k) (n + 1) m (omega arith) ∙ (sym (later k n m) ∙ ap (freshWord (suc (suc k)) n) b)))
-          ]
-    ])
+fresh-word zero n i f a b = absurd (omega arith)
+fresh-word (suc k) n zero f a b =
+    let e : 0 * nodeWords + f ≡ f = omega arith in
+    rw (e, first-word (cond (eqb k 0) 0 (n + 1)) f (freshNodes k (n + 1)) b, choice (eqb f nextWord) (eqb k 0) (n + 1), more k)
+fresh-word (suc k) n (suc i) f a b =
+    let e : suc i * nodeWords + f ≡ nodeWords + (i * nodeWords + f) = omega arith in
+    let m : n + 1 + suc i ≡ n + suc (suc i) = omega arith in
+    rw (e, later-word (cond (eqb k 0) 0 (n + 1)) (i * nodeWords + f) (freshNodes k (n + 1)), fresh-word k (n + 1) i f (omega arith) b, less-suc (suc i) k, m)
+
+-- the same by a word's place in the pool
+abbrev pub freshAt : ℕ → ℕ → ℕ
+freshAt k j = freshWord k 1 (j / nodeWords) (j % nodeWords)
 
 -- a list filled word by word
 pub fill-next : (p : List ℕ) (f : ℕ → ℕ) (j v : ℕ) → j < length p → v ≡ f j → ((i : ℕ) → i < j → getD p i 0 ≡ f i) → (i : ℕ) → i < j + 1
@@ -91,7 +77,20 @@ fill-next p f j v h e old i l =
       | no d ↦ getD-set-other p j i v 0 d ∙ old i (omega arith)
     ]
 
-pub filled : (p : List ℕ) (capacity : ℕ) → length p ≡ capacity * 8 → ((i : ℕ) → i < length p → getD p i 0 ≡ freshWord capacity 1 i) → p ≡ freshPool capacity
+pub filled : (p : List ℕ) (k : ℕ) → length p ≡ k * nodeWords → ((j : ℕ) → j < length p → getD p j 0 ≡ freshAt k j) → p ≡ freshPool k
 unfolding freshPool
-filled p capacity e h =
-    ext-getD 0 p (freshNodes capacity 1) (e ∙ sym (fresh-length capacity 1)) (λ i l. h i l ∙ sym (fresh-at capacity 1 i (rw e at l)))
+filled p k e h =
+    ext-getD 0 p (freshNodes k 1) (e ∙ sym (fresh-length k 1)) (λ j l.
+    let b : j < k * nodeWords = rw e at l in
+    let whole : j / nodeWords * nodeWords + j % nodeWords ≡ j = omega arith in
+    h j l ∙ (sym (fresh-word k 1 (j / nodeWords) (j % nodeWords) (omega arith) (omega arith)) ∙ ap (λ x. getD (freshNodes k 1) x 0) whole))
+
+-- every record of a row is that of a slot which doesn't read, and so is any past its end
+same-all : {A : Type 0} (n i : ℕ) (a : A) → getD (replicate n a) i a ≡ a
+same-all zero i a = refl
+same-all (suc n) zero a = refl
+same-all (suc n) (suc i) a = same-all n i a
+
+pub fresh-reader : (N s : ℕ) → readerOf (freshRegister N) s ≡ noReader
+unfolding freshRegister
+fresh-reader N s = same-all slots s noReader

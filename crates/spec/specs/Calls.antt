@@ -7,6 +7,7 @@ use Rattle.datatypes.specs.declared.Link.{Link}
 use Rattle.datatypes.specs.declared.Link.the-variants.{Root}
 use Rattle.datatypes.specs.declared.Place.{Place}
 use Rattle.datatypes.specs.declared.Place.the-variants.{Held, Empty, TooDeep}
+use Rattle.datatypes.specs.declared.Reader.{Reader}
 use Rattle.datatypes.specs.declared.Acceptance.{Acceptance}
 use Rattle.datatypes.specs.declared.Acceptance.the-variants as acceptance
 use Rattle.datatypes.specs.declared.WriterAnswer.{WriterAnswer}
@@ -14,8 +15,8 @@ use Rattle.datatypes.specs.declared.WriterAnswer.the-variants as writer
 use Rattle.datatypes.specs.declared.ReaderAnswer.{ReaderAnswer}
 use Rattle.datatypes.specs.declared.ReaderAnswer.the-variants as reader
 use Rattle.spec.specs.Numbers.{slots, pathBound, reserve, freeForInsert, freeForDelete}
-use Rattle.spec.specs.Pool.{word, child, keyWord, recordWord, nodes, poolInRange, lengthRight}
-use Rattle.spec.specs.Register.{State, state, fresh, withReader, withWrite, readerOf, storeOf, registerInRange, writeOf, lessFirst}
+use Rattle.spec.specs.Pool.{word, child, recordAt, keyWord, nodes, poolInRange, lengthRight}
+use Rattle.spec.specs.Register.{State, state, fresh, begunReader, movedReader, withReader, withWrite, readerOf, storeOf, registerInRange, writeOf, lessFirst}
 use Rattle.spec.specs.Free.{endReading}
 use Rattle.spec.specs.Search.{towards, seek}
 use Rattle.spec.specs.Plan.{Plan, insertPlan, deletePlan}
@@ -117,41 +118,39 @@ insertAt st k v (Held l n) = record { possible = false; stores = [] }
 insertAt st k v (Empty l) = insertPlan st k v l
 insertAt st k v TooDeep = record { possible = false; stores = [] }
 
-unfoldable pub insert : State → ℕ → ℕ → Outcome
-insert st k v =
-    let w = insertAt st k v (placeOf st k) in
-    unless
-    (wrongLength st gives 1
+abbrev pub insertTests : State → ℕ → ℕ → List Test
+insertTests st k v =
+    wrongLength st gives 1
     ∷ outOfRange st gives 2
     ∷ writeInHand st gives 6
     ∷ tooDeep (placeOf st k) gives 12
     ∷ isHeld (placeOf st k) gives 8
     ∷ full st gives 10
     ∷ fewerFree st freeForInsert gives 11
-    ∷ not (w .possible) gives 12
-    ∷ [])
-    st
-    (acceptedPlan st w)
+    ∷ not (insertAt st k v (placeOf st k) .possible) gives 12
+    ∷ []
+
+unfoldable pub insert : State → ℕ → ℕ → Outcome
+insert st k v = unless (insertTests st k v) st (acceptedPlan st (insertAt st k v (placeOf st k)))
 
 abbrev pub deleteAt : State → Place → Plan
 deleteAt st (Held l n) = deletePlan st l n
 deleteAt st (Empty l) = record { possible = false; stores = [] }
 deleteAt st TooDeep = record { possible = false; stores = [] }
 
-unfoldable pub delete : State → ℕ → Outcome
-delete st k =
-    let w = deleteAt st (placeOf st k) in
-    unless
-    (wrongLength st gives 1
+abbrev pub deleteTests : State → ℕ → List Test
+deleteTests st k =
+    wrongLength st gives 1
     ∷ outOfRange st gives 2
     ∷ writeInHand st gives 6
     ∷ tooDeep (placeOf st k) gives 12
     ∷ not (isHeld (placeOf st k)) gives 9
     ∷ fewerFree st freeForDelete gives 11
-    ∷ not (w .possible) gives 12
-    ∷ [])
-    st
-    (acceptedPlan st w)
+    ∷ not (deleteAt st (placeOf st k) .possible) gives 12
+    ∷ []
+
+unfoldable pub delete : State → ℕ → Outcome
+delete st k = unless (deleteTests st k) st (acceptedPlan st (deleteAt st (placeOf st k)))
 
 -- A writer's turn makes the first store still to come. It answers done if no store is left after it, more otherwise.
 unfoldable pub stored : Made → Outcome
@@ -161,18 +160,24 @@ stored m =
     outcome (cond (eqb (left .count) 0) (done (m .link) (m .node)) (more (m .link) (m .node))) (state (m .after .pool) (withWrite r left))
 
 -- While the register's awaited slots aren't 0 a turn answers wait, changing nothing; then its own step is tested.
+abbrev pub waiting : State → Bool
+waiting st = not (eqb (st .register .awaited) 0)
+
+abbrev pub firstFinds : State → Bool
+firstFinds st = let x = storeOf (st .register) 0 in stepFinds st (x .link) (x .step)
+
+abbrev pub writerTests : State → List Test
+writerTests st =
+    wrongLength st gives 1
+    ∷ outOfRange st gives 2
+    ∷ not (writeInHand st) gives 7
+    ∷ (not (waiting st) && not (firstFinds st)) gives 12
+    ∷ []
+
 unfoldable pub writerTurn : State → Outcome
 writerTurn st =
     let x = storeOf (st .register) 0 in
-    let waiting = not (eqb (st .register .awaited) 0) in
-    unless
-    (wrongLength st gives 1
-    ∷ outOfRange st gives 2
-    ∷ not (writeInHand st) gives 7
-    ∷ (not waiting && not (stepFinds st (x .link) (x .step))) gives 12
-    ∷ [])
-    st
-    (cond waiting (outcome wait st) (stored (stepMade st (x .link) (x .step))))
+    unless (writerTests st) st (cond (waiting st) (outcome wait st) (stored (stepMade st (x .link) (x .step))))
 
 -- Begin: the slot reads, with the wanted key, before any node.
 abbrev pub beginTests : State → ℕ → List Test
@@ -185,14 +190,12 @@ beginTests st s =
 
 unfoldable pub begin : State → ℕ → ℕ → Outcome
 begin st s k =
-    unless (beginTests st s) st (outcome ok (state (st .pool) (withReader (st .register) s (record { reading = true; key = k; node = 0 }))))
+    unless (beginTests st s) st (outcome ok (state (st .pool) (withReader (st .register) s (begunReader k))))
 
 -- A loaded 0 answers absent and ends the reading, else go.
-abbrev pub loaded : State → ℕ → ℕ → ℕ → Outcome
-loaded st s k n =
-    cond (eqb n 0)
-    (outcome absent (endReading st s))
-    (outcome go (state (st .pool) (withReader (st .register) s (record { reading = true; key = k; node = n }))))
+abbrev pub loaded : State → ℕ → Reader → ℕ → Outcome
+loaded st s x n =
+    cond (eqb n 0) (outcome absent (endReading st s)) (outcome go (state (st .pool) (withReader (st .register) s (movedReader x n))))
 
 -- Reader's turn. Before any node: load the root. At a node: an equal key answers found with the record; a smaller wanted key loads left,
 -- a greater one right.
@@ -203,8 +206,8 @@ readerStep st s =
     let n = x .node in
     let p = st .pool in
     cond (eqb n 0)
-    (loaded st s k (st .register .root))
-    (cond (eqb k (word p n keyWord)) (outcome (found (word p n recordWord)) (endReading st s)) (loaded st s k (child p (towards p k n) n)))
+    (loaded st s x (st .register .root))
+    (cond (eqb k (word p n keyWord)) (outcome (found (recordAt p n)) (endReading st s)) (loaded st s x (child p (towards p k n) n)))
 
 abbrev pub readerTests : State → ℕ → List Test
 readerTests st s =

@@ -30,7 +30,7 @@ abbrev pub fixupResult : ℕ → Ending → Fixup
 fixupResult m e = record { levels = m; ending = e }
 
 abbrev pub rotation : Link → Form → Side → Purpose → Rotation
-rotation l f s c = record { link = l; form = f; side = s; purpose = c }
+rotation l f s purpose = record { link = l; form = f; side = s; purpose = purpose }
 
 -- 'Insert', after the new red node is linked. x, y and z are the links of the red node, its parent and its grandparent; m levels are
 -- passed. Red parent, red aunt: go on from the grandparent. Red parent, black or no aunt: on the outer side a diag with the parent
@@ -114,19 +114,19 @@ paintEnd (RotateTwice t u) st n = st .pool
 paintEnd Missing st n = st .pool
 
 unfoldable pub paintDeleteFixup : State → Fixup → ℕ → List Link → State
-paintDeleteFixup st c x path =
-    let m = c .levels in
+paintDeleteFixup st fix x path =
+    let m = fix .levels in
     let end = cond (eqb m 0) x (linkNode st (getD path m Root)) in
     let after = state (paintDeleteLevels m path (st .pool)) (st .register) in
-    state (paintEnd (c .ending) after end) (st .register)
+    state (paintEnd (fix .ending) after end) (st .register)
 
 -- The planned stores.
 abbrev pub store : Link → Step → Store
 store l s = record { link = l; step = s }
 
 abbrev pub turnStores : Form → Link → Side → Purpose → List Store
-turnStores Diag l s c = store l (DiagLower s c) ∷ store l (DiagRaise s c) ∷ []
-turnStores Zig l s c = store l (ZigLowerA s c) ∷ store l (ZigLowerC s c) ∷ store l (ZigRaise s c) ∷ []
+turnStores Diag l s purpose = store l (DiagLower s purpose) ∷ store l (DiagRaise s purpose) ∷ []
+turnStores Zig l s purpose = store l (ZigLowerA s purpose) ∷ store l (ZigLowerC s purpose) ∷ store l (ZigRaise s purpose) ∷ []
 
 abbrev pub rotationStores : Rotation → List Store
 rotationStores t = turnStores (t .form) (t .link) (t .side) (t .purpose)

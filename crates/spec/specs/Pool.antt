@@ -1,9 +1,9 @@
 -- 01, 'Pool and register': the pool's words.
--- A pool is lent as 32-bit words, eight a node. Nodes are numbered from 1; 0 is no node.
+-- A pool is lent as 32-bit words, so many a node. Nodes are numbered from 1; 0 is no node.
 use Prim.Native.Nat.{ℕ, zero, suc, _+_, _-_, _*_, _/_, _%_}
 use mathlib.Core.Bool.{Bool, cond, _&&_}
-use mathlib.Core.List.{List, [], _∷_}
-use lib.ListN.{length, getD, set}
+use mathlib.Core.List.{List, [], _++_}
+use lib.ListN.{length, getD, set, replicate}
 use lib.Dec.{eqb, leb}
 use Rattle.base.specs.Walk.{allIn}
 use Rattle.datatypes.specs.declared.Side.{Side}
@@ -73,6 +73,13 @@ word p n f = cond (eqb n 0) 0 (getD p (place n f) 0)
 unfoldable pub setWord : List ℕ → ℕ → ℕ → ℕ → List ℕ
 setWord p n f v = cond (eqb n 0) p (set p (place n f) v)
 
+-- node n's record, which is one word; the pool with it changed to v
+abbrev pub recordAt : List ℕ → ℕ → ℕ
+recordAt p n = word p n recordWord
+
+abbrev pub setRecord : List ℕ → ℕ → ℕ → List ℕ
+setRecord p n v = setWord p n recordWord v
+
 -- node n's child on a side
 abbrev pub child : List ℕ → Side → ℕ → ℕ
 child p s n = word p n (linkWord s)
@@ -82,7 +89,7 @@ abbrev pub isRed : List ℕ → ℕ → Bool
 isRed p n = eqb (word p n colourWord) redColour
 
 abbrev pub paint : List ℕ → ℕ → ℕ → List ℕ
-paint p n c = setWord p n colourWord c
+paint p n colour = setWord p n colourWord colour
 
 -- Key and record are any 32-bit numbers. Links are 0 to N; colour 0 or 1; standing 0 to 2; holders 0 to 255; next free a link.
 unfoldable pub nodeInRange : List ℕ → ℕ → ℕ → Bool
@@ -98,11 +105,13 @@ poolInRange p = allIn (nodeInRange p (nodes p)) 1 (nodes p + 1)
 unfoldable pub lengthRight : List ℕ → Bool
 lengthRight p = eqb (length p % nodeWords) 0 && leb leastNodes (nodes p) && leb (nodes p) mostNodes
 
--- Fresh: nodes 1 to N queued free in that order, every other word 0. The k nodes from n on:
+-- Fresh: nodes 1 to N queued free in that order, every other word 0. A node by its next free, and the k nodes from n on:
+abbrev pub freshNode : ℕ → List ℕ
+freshNode next = set (replicate nodeWords 0) nextWord next
+
 unfoldable pub freshNodes : ℕ → ℕ → List ℕ
 freshNodes zero n = []
-freshNodes (suc zero) n = 0 ∷ 0 ∷ 0 ∷ 0 ∷ 0 ∷ 0 ∷ 0 ∷ 0 ∷ []
-freshNodes (suc (suc k)) n = 0 ∷ 0 ∷ 0 ∷ 0 ∷ 0 ∷ 0 ∷ 0 ∷ (n + 1) ∷ freshNodes (suc k) (n + 1)
+freshNodes (suc k) n = freshNode (cond (eqb k 0) 0 (n + 1)) ++ freshNodes k (n + 1)
 
 unfoldable pub freshPool : ℕ → List ℕ
 freshPool capacity = freshNodes capacity 1

@@ -24,8 +24,19 @@ pub record State : Type 0 where
 abbrev pub state : List ℕ → Register → State
 state p r = record { pool = p; register = r }
 
+-- A reader record: of a slot that doesn't read, all 0; of one that reads the key k and is at node n, 0 before any.
 abbrev pub noReader : Reader
 noReader = record { reading = false; key = 0; node = 0 }
+
+abbrev pub readingAt : ℕ → ℕ → Reader
+readingAt k n = record { reading = true; key = k; node = n }
+
+-- as begin makes it, and as it is after a turn that loaded node n
+abbrev pub begunReader : ℕ → Reader
+begunReader k = readingAt k 0
+
+abbrev pub movedReader : Reader → ℕ → Reader
+movedReader x n = readingAt (x .key) n
 
 abbrev pub vacant : Store
 vacant = record { link = Root; step = Vacant }
@@ -113,11 +124,11 @@ linkInRange capacity (Right n) = nodeNumber capacity n
 abbrev pub stepInRange : ℕ → Step → Bool
 stepInRange capacity Vacant = false
 stepInRange capacity (Insert k v) = true
-stepInRange capacity (DiagLower s c) = true
-stepInRange capacity (DiagRaise s c) = true
-stepInRange capacity (ZigLowerA s c) = true
-stepInRange capacity (ZigLowerC s c) = true
-stepInRange capacity (ZigRaise s c) = true
+stepInRange capacity (DiagLower s purpose) = true
+stepInRange capacity (DiagRaise s purpose) = true
+stepInRange capacity (ZigLowerA s purpose) = true
+stepInRange capacity (ZigLowerC s purpose) = true
+stepInRange capacity (ZigRaise s purpose) = true
 stepInRange capacity Unlink = true
 stepInRange capacity Adopt = true
 stepInRange capacity Replace = true
@@ -132,11 +143,11 @@ isRoot (Right n) = false
 abbrev pub isVacant : Step → Bool
 isVacant Vacant = true
 isVacant (Insert k v) = false
-isVacant (DiagLower s c) = false
-isVacant (DiagRaise s c) = false
-isVacant (ZigLowerA s c) = false
-isVacant (ZigLowerC s c) = false
-isVacant (ZigRaise s c) = false
+isVacant (DiagLower s purpose) = false
+isVacant (DiagRaise s purpose) = false
+isVacant (ZigLowerA s purpose) = false
+isVacant (ZigLowerC s purpose) = false
+isVacant (ZigRaise s purpose) = false
 isVacant Unlink = false
 isVacant Adopt = false
 isVacant Replace = false

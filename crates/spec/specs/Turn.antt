@@ -18,7 +18,7 @@ use Rattle.datatypes.specs.declared.Step.the-variants.{Vacant, Insert, DiagLowe
 use Rattle.datatypes.specs.declared.Store.{Store}
 use Rattle.datatypes.specs.declared.Write.{Write}
 use Rattle.datatypes.specs.Side.{other, linkAt}
-use Rattle.spec.specs.Pool.{word, child, paint, keyWord, recordWord, colourWord, blackColour, redColour, nodes}
+use Rattle.spec.specs.Pool.{word, child, paint, recordAt, keyWord, colourWord, blackColour, redColour, nodes}
 use Rattle.spec.specs.Register.{State, state, withHeld, withAwaited, withWrite, countUp, countDown, linkNode, setLink, readingSlots}
 use Rattle.spec.specs.Free.{queueEmpty, takeNode, retire, retireTwo}
 use Rattle.spec.specs.Search.{pathTo}
@@ -34,7 +34,7 @@ abbrev pub made : State → Link → ℕ → Made
 made st l n = record { after = st; link = l; node = n }
 
 abbrev pub painted : State → ℕ → ℕ → State
-painted st n c = state (paint (st .pool) n c) (st .register)
+painted st n colour = state (paint (st .pool) n colour) (st .register)
 
 abbrev pub colourOf : State → ℕ → ℕ
 colourOf st n = word (st .pool) n colourWord
@@ -60,12 +60,12 @@ endInsert Missing st = st
 
 unfoldable pub insertStore : State → Link → ℕ → ℕ → Made
 insertStore st l k v =
-    let c = fixupAfterInsert st k l in
+    let fix = fixupAfterInsert st k l in
     let path = pathTo (st .pool) (st .register .root) k l in
     let n = st .register .first in
     let linked = oneMore (setLink (takeNode st k v L 0 0 redColour) l n) in
-    let coloured = state (paintInsertFixup (c .levels) path (linked .pool)) (linked .register) in
-    made (endInsert (c .ending) coloured) l n
+    let coloured = state (paintInsertFixup (fix .levels) path (linked .pool)) (linked .register) in
+    made (endInsert (fix .ending) coloured) l n
 
 -- The colours that a rotation ends with. Copies get theirs when made, other nodes at its last store.
 abbrev pub copyColour : Purpose → ℕ
@@ -81,7 +81,7 @@ risenColour BlackSibling st c = colourOf st c
 
 -- a copy of node n, with x on the side s and y on the other side
 abbrev pub copyNode : State → ℕ → Side → ℕ → ℕ → ℕ → State
-copyNode st n s x y colour = takeNode st (word (st .pool) n keyWord) (word (st .pool) n recordWord) s x y colour
+copyNode st n s x y colour = takeNode st (word (st .pool) n keyWord) (recordAt (st .pool) n) s x y colour
 
 -- Diag (top C, rising child B on the side s, D above): copy C' takes B's inner child on B's side; B's inner link := C'.
 unfoldable pub diagLower : State → Link → Side → Purpose → Made
@@ -242,7 +242,7 @@ reached [] = false
 reached (l ∷ up) = true
 
 abbrev pub nodesFound : Fixup → Bool
-nodesFound c = not (missing (c .ending))
+nodesFound fix = not (missing (fix .ending))
 
 -- B of a diag and of a zig
 abbrev pub diagChild : State → Link → Side → ℕ
@@ -260,11 +260,11 @@ endDiagFinds BlackSibling st s b = isNode (child (st .pool) s b)
 unfoldable pub stepFinds : State → Link → Step → Bool
 stepFinds st l Vacant = false
 stepFinds st l (Insert k v) = nodesFound (fixupAfterInsert st k l) && not (queueEmpty st)
-stepFinds st l (DiagLower s c) = isNode (diagChild st l s) && not (queueEmpty st)
-stepFinds st l (DiagRaise s c) = isNode (diagChild st l s) && endDiagFinds c st s (diagChild st l s)
-stepFinds st l (ZigLowerA s c) = isNode (zigChild st l s) && not (queueEmpty st)
-stepFinds st l (ZigLowerC s c) = isNode (zigChild st l s) && not (queueEmpty st)
-stepFinds st l (ZigRaise s c) = isNode (zigChild st l s)
+stepFinds st l (DiagLower s purpose) = isNode (diagChild st l s) && not (queueEmpty st)
+stepFinds st l (DiagRaise s purpose) = isNode (diagChild st l s) && endDiagFinds purpose st s (diagChild st l s)
+stepFinds st l (ZigLowerA s purpose) = isNode (zigChild st l s) && not (queueEmpty st)
+stepFinds st l (ZigLowerC s purpose) = isNode (zigChild st l s) && not (queueEmpty st)
+stepFinds st l (ZigRaise s purpose) = isNode (zigChild st l s)
 stepFinds st l Unlink = isNode (linkNode st l) && nodesFound (unlinkFixup st l)
 stepFinds st l Adopt = isNode (child (st .pool) R (linkNode st l))
 stepFinds st l Replace = isNode (child (st .pool) R (linkNode st l)) && nodesFound (replaceFixup st l)
@@ -274,11 +274,11 @@ stepFinds st l (Detach k) = reached (detachPath st l k) && isNode (detachNode st
 unfoldable pub stepMade : State → Link → Step → Made
 stepMade st l Vacant = made st l 0
 stepMade st l (Insert k v) = insertStore st l k v
-stepMade st l (DiagLower s c) = diagLower st l s c
-stepMade st l (DiagRaise s c) = diagRaise st l s c
-stepMade st l (ZigLowerA s c) = zigLowerA st l s c
-stepMade st l (ZigLowerC s c) = zigLowerC st l s c
-stepMade st l (ZigRaise s c) = zigRaise st l s c
+stepMade st l (DiagLower s purpose) = diagLower st l s purpose
+stepMade st l (DiagRaise s purpose) = diagRaise st l s purpose
+stepMade st l (ZigLowerA s purpose) = zigLowerA st l s purpose
+stepMade st l (ZigLowerC s purpose) = zigLowerC st l s purpose
+stepMade st l (ZigRaise s purpose) = zigRaise st l s purpose
 stepMade st l Unlink = unlinkStore st l
 stepMade st l Adopt = adoptStore st l
 stepMade st l Replace = replaceStore st l
