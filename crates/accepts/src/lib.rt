@@ -46,7 +46,7 @@ pub fn insert_at(pool: &[u32], reg: Register, k: u32, v: u32, l: Link) -> Reply
         return refused(11, reg);
     }
     let plan = plans::insert_plan(pool, reg, k, v, l);
-    if plan.possible {} else {
+    if !plan.possible {
         return refused(12, reg);
     }
     let write = plan.write;
@@ -63,7 +63,7 @@ pub fn delete_at(pool: &[u32], reg: Register, k: u32, l: Link, n: u32) -> Reply
         return refused(11, reg);
     }
     let plan = plans::delete_plan(pool, reg, l, n);
-    if plan.possible {} else {
+    if !plan.possible {
         return refused(12, reg);
     }
     let write = plan.write;

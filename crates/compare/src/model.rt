@@ -157,7 +157,7 @@ fn remember(model: &mut [u32], s: u32, v: u32) -> bool {
 // A moment of a slot's lookup: what the plain list says of its ticket now.
 fn observe_slot(model: &mut [u32], s: u32) -> bool {
     let t = slot_word(model, s, WANTED);
-    if reading(model, s) {} else {
+    if !reading(model, s) {
         return true;
     }
     if listed(model, t) {

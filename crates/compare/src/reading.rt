@@ -40,7 +40,7 @@ fn end_lookup(model: &mut [u32], counts: &mut [u64], s: u32, right: bool, now: b
     tally::same(counts, right);
     tally::one(counts, tally::LOOKUPS);
     model::end_lookup(model, s);
-    if now {} else {
+    if !now {
         tally::one(counts, tally::OLDER);
     }
 }

@@ -71,7 +71,7 @@ pub fn one(counts: &mut [u64], row: usize) {
 
 // a comparison: what differs is counted
 pub fn same(counts: &mut [u64], ok: bool) {
-    if ok {} else {
+    if !ok {
         one(counts, DIFFERENCES);
     }
 }

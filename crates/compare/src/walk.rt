@@ -96,7 +96,7 @@ pub fn same_nodes(pool: &[u32], root: u32, tree: &[u32]) -> u32 {
         }
         let a = pair(&pairs, head as usize * 2);
         let b = pair(&pairs, head as usize * 2 + 1);
-        if same_node(pool, a, tree, b) & same_shape(pool, a, tree, b) {} else {
+        if !(same_node(pool, a, tree, b) & same_shape(pool, a, tree, b)) {
             return 1025;
         }
         tail = push(

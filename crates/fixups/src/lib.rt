@@ -70,7 +70,7 @@ pub fn insert_fixup(pool: &[u32], path: &[u64], depth: u32, levels: u32) -> Fixu
     let mut e = levels;
     while d > 1 {
         let x = paths::link_in(path, d - 1);
-        if pool::is_red(pool, links::owner(x)) {} else {
+        if !pool::is_red(pool, links::owner(x)) {
             return fixup_result(e, Ending::Balanced);
         }
         if d == 2 {
@@ -79,7 +79,7 @@ pub fn insert_fixup(pool: &[u32], path: &[u64], depth: u32, levels: u32) -> Fixu
         let y = paths::link_in(path, d - 2);
         let s = links::side_of(y);
         let aunt = pool::child(pool, links::other(s), links::owner(y));
-        if pool::is_red(pool, aunt) {} else {
+        if !pool::is_red(pool, aunt) {
             let link = paths::link_in(path, d - 3);
             let form = form_of(links::side_of(x), s);
             let rotation = Rotation {

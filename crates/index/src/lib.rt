@@ -19,7 +19,7 @@ pub fn set_up(pool: &mut [u32], reg: Register) -> Reply
     ensures { λ r. ⌜ accepts (r .answer) ≡ setUp (state (now (pool .entry)) reg) .answer ⌝ }
     ensures { λ r. ⌜ state (now (pool .exit)) (r .register) ≡ setUp (state (now (pool .entry)) reg) .after ⌝ }
 {
-    if pool::length_right(pool) {} else {
+    if !pool::length_right(pool) {
         return Reply {
             answer: Acceptance::Refused(1),
             register: reg,

@@ -94,7 +94,7 @@ fn push_rotation(w: Write, t: Rotation) -> Write
 pub fn fixup_after_insert(pool: &[u32], root: u32, k: u32, l: Link) -> Fixup
     ensures { λ r. ⌜ r ≡ cond (isRed (now (pool .entry)) (owner l)) (insertFixup (now (pool .entry)) 0 (pathTo (now (pool .entry)) root k l)) (fixupResult 0 Balanced) ⌝ }
 {
-    if pool::is_red(pool, links::owner(l)) {} else {
+    if !pool::is_red(pool, links::owner(l)) {
         return fixups::fixup_result(0, Ending::Balanced);
     }
     let mut path: [u64; numbers::MOST_LINKS] = [0; numbers::MOST_LINKS];

@@ -11,11 +11,11 @@ ghost use Prim.Native.Nat.{_<_};
 pub fn lent_refusal(pool: &[u32], reg: Register) -> u32
     ensures { λ r. ⌜ r ≡ lentNumber (state (now (pool .entry)) reg) ⌝ }
 {
-    if pool::length_right(pool) {} else {
+    if !pool::length_right(pool) {
         return 1;
     }
     let capacity = pool::nodes(pool);
-    if register::register_in_range(reg, capacity) & pool::pool_in_range(pool) {} else {
+    if !(register::register_in_range(reg, capacity) & pool::pool_in_range(pool)) {
         return 2;
     }
     0

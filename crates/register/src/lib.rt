@@ -161,7 +161,7 @@ fn stores_in_range(w: Write, capacity: u32) -> bool
     while i < numbers::STORE_LIMIT {
         let at = i as usize;
         let x = w.stores[at];
-        if store_in_range(x, i < count, capacity) {} else {
+        if !store_in_range(x, i < count, capacity) {
             return false;
         }
         i += 1;
@@ -176,7 +176,7 @@ pub fn register_in_range(reg: Register, capacity: u32) -> bool
     let a = (reg.root <= capacity) & (reg.first <= capacity) & (reg.last <= capacity);
     let b = (reg.free <= capacity) & (reg.held <= capacity) & (reg.awaited <= numbers::ALL_SLOTS);
     let w = reg.write;
-    if a & b & (w.count <= numbers::STORE_LIMIT) & readers_in_range(reg, capacity) {} else {
+    if !(a & b & (w.count <= numbers::STORE_LIMIT) & readers_in_range(reg, capacity)) {
         return false;
     }
     stores_in_range(w, capacity)

@@ -55,7 +55,7 @@ pub fn unlink(pool: &mut [u32], h: Head, reading: u32, l: Link) -> StepResult
     let depth = paths::path_to(pool, h.root, key, l, &mut path);
     let fix = delete_fixups::fixup_after_removal(pool, b, x, &path, depth);
     let found = (b != 0) & fixups::nodes_found(fix);
-    if found {} else {
+    if !found {
         return heads::missed(h);
     }
     let less = store_one_less(pool, h, l, x);
@@ -91,7 +91,7 @@ pub fn replace(pool: &mut [u32], h: Head, reading: u32, l: Link) -> StepResult
     let depth = paths::below_right(&mut path, b, above);
     let fix = delete_fixups::fixup_after_removal(pool, n, x, &path, depth);
     let found = (n != 0) & fixups::nodes_found(fix);
-    if found {} else {
+    if !found {
         return heads::missed(h);
     }
     let colour = pool::word(pool, b, pool::COLOUR);
@@ -119,7 +119,7 @@ pub fn detach(pool: &mut [u32], h: Head, reading: u32, l: Link, key: u32) -> Ste
     let x = pool::child(pool, Side::R, n);
     let fix = delete_fixups::fixup_after_removal(pool, n, x, &path, depth);
     let found = (depth != 0) & (n != 0) & fixups::nodes_found(fix);
-    if found {} else {
+    if !found {
         return heads::missed(h);
     }
     let stored = heads::set_link(pool, h, link, x);

@@ -190,7 +190,7 @@ pub fn diag_raise(
     if b == 0 {
         return heads::missed(h);
     }
-    if end_diag_finds(pool, purpose, s, b) {} else {
+    if !end_diag_finds(pool, purpose, s, b) {
         return heads::missed(h);
     }
     let colour = risen_colour(pool, purpose, c);

@@ -141,13 +141,13 @@ pub fn make_first(pool: &mut [u32], reg: Register) -> WriterReply
     if publishes(step) {
         let b = pool::node_at(pool, reg.root, link);
         let t = first_step(pool, reg);
-        if t.found {} else {
+        if !t.found {
             return refused(12, reg);
         }
         return stored(reg, t, stores::moved_write(b, reg.first, hand));
     }
     let t = first_step(pool, reg);
-    if t.found {} else {
+    if !t.found {
         return refused(12, reg);
     }
     stored(reg, t, hand)

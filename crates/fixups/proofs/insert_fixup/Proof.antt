@@ -6,6 +6,7 @@ use Rattle.spec.specs.Plan.{insertFixup}
 use Rattle.spec.specs.Pool.{isRed, child}
 use Rattle.datatypes.specs.Side.{other, owner, sideOf}
 use Rattle.fixups.specs.InsertFixups.{insertFixup-none, insertFixup-root, insertFixup-balanced, insertFixup-top, insertFixup-turn, insertFixup-on}
+use borrow.Author.Tests.{not-true, not-false}
 use borrow.Author.Needs.{needs}
 use native.Mathlib.Omega.{arith}
 use mathlib.Core.Path.{_≡_, refl, sym, _∙_}
@@ -47,14 +48,14 @@ fixup-result-requires : tie.Need-fixup-result-requires Inv-loop μ-loop
 fixup-result-requires c κs = search needs
 
 returns : tie.Need-returns Inv-loop μ-loop
-returns c = let l = c .before .before .before .before .before .before .loop in let a = c .before .before .before .before .before .before .before .before .before .args in let g : isRed (a .pool .now) (owner (linkIn (a .path .now) (l .d - 1))) ≡ false = rw (← (c .before .before .before .before .link-in .ensures), ← (c .before .before .before .owner .ensures), ← (c .before .before .is-red .ensures)) (c .before .if1 .left) in
+returns c = let l = c .before .before .before .before .before .before .loop in let a = c .before .before .before .before .before .before .before .before .before .args in let g : isRed (a .pool .now) (owner (linkIn (a .path .now) (l .d - 1))) ≡ false = rw (← (c .before .before .before .before .link-in .ensures), ← (c .before .before .before .owner .ensures), ← (c .before .before .is-red .ensures)) (not-true _ (c .before .if1 .taken)) in
     c .fixup-result .ensures ∙ (sym (insertFixup-balanced (a .pool .now) (l .e) (a .path .now) (l .d) (omega arith) g) ∙ l .inv .2)
 
 fixup-result-requires-2 : tie.Need-fixup-result-requires-2 Inv-loop μ-loop
 fixup-result-requires-2 c κs = search needs
 
 returns-2 : tie.Need-returns-2 Inv-loop μ-loop
-returns-2 c = let l = c .before .before .before .before .before .before .before .loop in let a = c .before .before .before .before .before .before .before .before .before .before .args in let g : isRed (a .pool .now) (owner (linkIn (a .path .now) (l .d - 1))) ≡ true = rw (← (c .before .before .before .before .before .link-in .ensures), ← (c .before .before .before .before .owner .ensures), ← (c .before .before .before .is-red .ensures)) (c .before .before .if1 .taken) in
+returns-2 c = let l = c .before .before .before .before .before .before .before .loop in let a = c .before .before .before .before .before .before .before .before .before .before .args in let g : isRed (a .pool .now) (owner (linkIn (a .path .now) (l .d - 1))) ≡ true = rw (← (c .before .before .before .before .before .link-in .ensures), ← (c .before .before .before .before .owner .ensures), ← (c .before .before .before .is-red .ensures)) (not-false _ (c .before .before .if1 .left)) in
     c .fixup-result2 .ensures ∙ (sym (insertFixup-top (a .pool .now) (l .e) (a .path .now) (l .d) (c .before .if2 .taken) g) ∙ l .inv .2)
 
 sub-link-in-2 : tie.Need-sub-link-in-2 Inv-loop μ-loop
@@ -94,7 +95,7 @@ fixup-result-requires-3 : tie.Need-fixup-result-requires-3 Inv-loop μ-loop
 fixup-result-requires-3 c κs = search needs
 
 returns-3 : tie.Need-returns-3 Inv-loop μ-loop
-returns-3 c = let l = c .before .before .before .before .before .before .before .before .before .before .before .before .before .before .before .before .before .loop in let a = c .before .before .before .before .before .before .before .before .before .before .before .before .before .before .before .before .before .before .before .before .args in let h = c .before .before .before .before .before .before .before .before .before .before .before .if2 .left in let g : isRed (a .pool .now) (owner (linkIn (a .path .now) (l .d - 1))) ≡ true = rw (← (c .before .before .before .before .before .before .before .before .before .before .before .before .before .before .before .link-in .ensures), ← (c .before .before .before .before .before .before .before .before .before .before .before .before .before .before .owner .ensures), ← (c .before .before .before .before .before .before .before .before .before .before .before .before .before .is-red .ensures)) (c .before .before .before .before .before .before .before .before .before .before .before .before .if1 .taken) in let i : isRed (a .pool .now) (child (a .pool .now) (other (sideOf (linkIn (a .path .now) (l .d - 2)))) (owner (linkIn (a .path .now) (l .d - 2)))) ≡ false = rw (← (c .before .before .before .before .before .before .before .before .before .before .link-in2 .ensures), ← (c .before .before .before .before .before .before .before .before .before .side-of .ensures), ← (c .before .before .before .before .before .before .before .before .other .ensures), ← (c .before .before .before .before .before .before .before .owner2 .ensures), ← (c .before .before .before .before .before .before .child .ensures), ← (c .before .before .before .before .before .is-red2 .ensures)) (c .before .before .before .before .if3 .left) in
+returns-3 c = let l = c .before .before .before .before .before .before .before .before .before .before .before .before .before .before .before .before .before .loop in let a = c .before .before .before .before .before .before .before .before .before .before .before .before .before .before .before .before .before .before .before .before .args in let h = c .before .before .before .before .before .before .before .before .before .before .before .if2 .left in let g : isRed (a .pool .now) (owner (linkIn (a .path .now) (l .d - 1))) ≡ true = rw (← (c .before .before .before .before .before .before .before .before .before .before .before .before .before .before .before .link-in .ensures), ← (c .before .before .before .before .before .before .before .before .before .before .before .before .before .before .owner .ensures), ← (c .before .before .before .before .before .before .before .before .before .before .before .before .before .is-red .ensures)) (not-false _ (c .before .before .before .before .before .before .before .before .before .before .before .before .if1 .left)) in let i : isRed (a .pool .now) (child (a .pool .now) (other (sideOf (linkIn (a .path .now) (l .d - 2)))) (owner (linkIn (a .path .now) (l .d - 2)))) ≡ false = rw (← (c .before .before .before .before .before .before .before .before .before .before .link-in2 .ensures), ← (c .before .before .before .before .before .before .before .before .before .side-of .ensures), ← (c .before .before .before .before .before .before .before .before .other .ensures), ← (c .before .before .before .before .before .before .before .owner2 .ensures), ← (c .before .before .before .before .before .before .child .ensures), ← (c .before .before .before .before .before .is-red2 .ensures)) (not-true _ (c .before .before .before .before .if3 .taken)) in
     rw (c .fixup-result3 .ensures, c .before .form-of .ensures, c .before .before .side-of2 .ensures, c .before .before .before .before .before .before .before .before .before .side-of .ensures, c .before .before .before .link-in3 .ensures, c .before .before .before .before .before .before .before .before .before .before .link-in2 .ensures, c .before .before .before .before .before .before .before .before .before .before .before .before .before .before .before .link-in .ensures)
     (sym (insertFixup-turn (a .pool .now) (l .e) (a .path .now) (l .d) (omega arith) g i) ∙ l .inv .2)
 
@@ -108,7 +109,7 @@ loop-less : tie.Need-loop-less Inv-loop μ-loop
 loop-less c = search needs
 
 loop-again : tie.Need-loop-again Inv-loop μ-loop
-loop-again c = let l = c .before .before .before .before .before .before .before .before .before .before .before .before .before .loop in let a = c .before .before .before .before .before .before .before .before .before .before .before .before .before .before .before .before .args in let h = c .before .before .before .before .before .before .before .if2 .left in let g : isRed (a .pool .now) (owner (linkIn (a .path .now) (l .d - 1))) ≡ true = rw (← (c .before .before .before .before .before .before .before .before .before .before .before .link-in .ensures), ← (c .before .before .before .before .before .before .before .before .before .before .owner .ensures), ← (c .before .before .before .before .before .before .before .before .before .is-red .ensures)) (c .before .before .before .before .before .before .before .before .if1 .taken) in let i : isRed (a .pool .now) (child (a .pool .now) (other (sideOf (linkIn (a .path .now) (l .d - 2)))) (owner (linkIn (a .path .now) (l .d - 2)))) ≡ true = rw (← (c .before .before .before .before .before .before .link-in2 .ensures), ← (c .before .before .before .before .before .side-of .ensures), ← (c .before .before .before .before .other .ensures), ← (c .before .before .before .owner2 .ensures), ← (c .before .before .child .ensures), ← (c .before .is-red2 .ensures)) (c .if3 .taken) in
+loop-again c = let l = c .before .before .before .before .before .before .before .before .before .before .before .before .before .loop in let a = c .before .before .before .before .before .before .before .before .before .before .before .before .before .before .before .before .args in let h = c .before .before .before .before .before .before .before .if2 .left in let g : isRed (a .pool .now) (owner (linkIn (a .path .now) (l .d - 1))) ≡ true = rw (← (c .before .before .before .before .before .before .before .before .before .before .before .link-in .ensures), ← (c .before .before .before .before .before .before .before .before .before .before .owner .ensures), ← (c .before .before .before .before .before .before .before .before .before .is-red .ensures)) (not-false _ (c .before .before .before .before .before .before .before .before .if1 .left)) in let i : isRed (a .pool .now) (child (a .pool .now) (other (sideOf (linkIn (a .path .now) (l .d - 2)))) (owner (linkIn (a .path .now) (l .d - 2)))) ≡ true = rw (← (c .before .before .before .before .before .before .link-in2 .ensures), ← (c .before .before .before .before .before .side-of .ensures), ← (c .before .before .before .before .other .ensures), ← (c .before .before .before .owner2 .ensures), ← (c .before .before .child .ensures), ← (c .before .is-red2 .ensures)) (not-false _ (c .if3 .left)) in
     (omega arith, omega arith, sym (insertFixup-on (a .pool .now) (l .e) (a .path .now) (l .d) (omega arith) g i) ∙ l .inv .2)
 
 fixup-result-requires-4 : tie.Need-fixup-result-requires-4 Inv-loop μ-loop

@@ -24,23 +24,23 @@ same-length c = search needs
 
 returns : tie.Need-returns
 unfolding setUp fresh
-returns c = let e : lengthRight (c .before .before .before .before .args .pool .now) ≡ false = sym (c .before .length-right .ensures) ∙ c .if1 .left in rw e (refl, refl)
+returns c = let e : lengthRight (c .before .before .before .before .args .pool .now) ≡ false = sym (c .before .length-right .ensures) ∙ not-true _ (c .if1 .taken) in rw e (refl, refl)
 
 nodes-requires : tie.Need-nodes-requires
-nodes-requires c κs = right-length (c .before .before .before .before .before .args .pool .now) (sym (c .before .before .length-right .ensures) ∙ c .before .if1 .taken)
+nodes-requires c κs = right-length (c .before .before .before .before .before .args .pool .now) (sym (c .before .before .length-right .ensures) ∙ not-false _ (c .before .if1 .left))
 
 fresh-register-requires : tie.Need-fresh-register-requires
 fresh-register-requires c κs = search needs
 
 fresh-pool-requires : tie.Need-fresh-pool-requires
-fresh-pool-requires c κs = let e : lengthRight (c .before .before .before .before .before .before .before .before .args .pool .now) ≡ true = sym (c .before .before .before .before .before .length-right .ensures) ∙ c .before .before .before .before .if1 .taken in (right-length (c .before .before .before .before .before .before .before .before .args .pool .now) e, whole-length (c .before .before .before .before .before .before .before .before .args .pool .now) e)
+fresh-pool-requires c κs = let e : lengthRight (c .before .before .before .before .before .before .before .before .args .pool .now) ≡ true = sym (c .before .before .before .before .before .length-right .ensures) ∙ not-false _ (c .before .before .before .before .if1 .left) in (right-length (c .before .before .before .before .before .before .before .before .args .pool .now) e, whole-length (c .before .before .before .before .before .before .before .before .args .pool .now) e)
 
 same-length-2 : tie.Need-same-length-2
 same-length-2 c = search needs
 
 returns-2 : tie.Need-returns-2
 unfolding setUp fresh
-returns-2 c = let e : lengthRight (c .before .before .before .before .before .before .before .before .before .before .before .args .pool .now) ≡ true = sym (c .before .before .before .before .before .before .before .before .length-right .ensures) ∙ c .before .before .before .before .before .before .before .if1 .taken in rw e (refl, rw (c .before .before .before .before .fresh-register .ensures, c .before .before .fresh-pool .ensures, c .before .before .before .before .before .nodes .ensures))
+returns-2 c = let e : lengthRight (c .before .before .before .before .before .before .before .before .before .before .before .args .pool .now) ≡ true = sym (c .before .before .before .before .before .before .before .before .length-right .ensures) ∙ not-false _ (c .before .before .before .before .before .before .before .if1 .left) in rw e (refl, rw (c .before .before .before .before .fresh-register .ensures, c .before .before .fresh-pool .ensures, c .before .before .before .before .before .nodes .ensures))
 
 pub set-up-spec : {M : Type 1} → statement M
 set-up-spec =

@@ -1,10 +1,11 @@
-use Prim.Native.Nat.{_+_, _-_, _*_}
+use Prim.Native.Nat.{_-_, _*_}
 use mathlib.Core.Path.{_≡_}
 use borrow.Author.Tests.{ne-eqb}
 use native.Mathlib.Omega.{arith}
-use Rattle.spec.specs.Pool.{setWord}
+use Rattle.spec.specs.Numbers.{nodeWords}
+use Rattle.spec.specs.Pool.{place, setWord}
 use Rattle.spec.specs.Free.{fillNode}
-use Rattle.pool.specs.Filled.{long₁, long₂, long₃, long₄, long₅, long₆, long₇, long₈}
+use lib.ListN.{length-set}
 use borrow.Author.Needs.{needs}
 use Rattle.pool.proofs.fill_whole.Statement.{statement}
 use Rattle.pool.proofs.fill_whole.Tie as tie
@@ -41,7 +42,7 @@ mul-pool-2 : tie.Need-mul-pool-2
 mul-pool-2 c = search needs
 
 slice-write-pool-2 : tie.Need-slice-write-pool-2
-slice-write-pool-2 c = let a = c .before .before .before .before .args in omega (arith, long₁ (a .pool .now) (a .n * 8 - 8) (c .before .before .link-place .result) (c .link-place2 .result) (a .k) (a .v) (a .x) (a .y) (a .colour), c .before .before .before .before .pre)
+slice-write-pool-2 c = simp length-set (omega arith)
 
 add-pool-2 : tie.Need-add-pool-2
 add-pool-2 c = search needs
@@ -50,7 +51,7 @@ mul-pool-3 : tie.Need-mul-pool-3
 mul-pool-3 c = search needs
 
 slice-write-pool-3 : tie.Need-slice-write-pool-3
-slice-write-pool-3 c = let a = c .before .before .before .before .args in omega (arith, long₂ (a .pool .now) (a .n * 8 - 8) (c .before .before .link-place .result) (c .link-place2 .result) (a .k) (a .v) (a .x) (a .y) (a .colour), c .before .before .before .before .pre, c .before .before .link-place .ensures .1)
+slice-write-pool-3 c = simp length-set (omega arith)
 
 add-pool-3 : tie.Need-add-pool-3
 add-pool-3 c = search needs
@@ -59,7 +60,7 @@ mul-pool-4 : tie.Need-mul-pool-4
 mul-pool-4 c = search needs
 
 slice-write-pool-4 : tie.Need-slice-write-pool-4
-slice-write-pool-4 c = let a = c .before .before .before .before .args in omega (arith, long₃ (a .pool .now) (a .n * 8 - 8) (c .before .before .link-place .result) (c .link-place2 .result) (a .k) (a .v) (a .x) (a .y) (a .colour), c .before .before .before .before .pre, c .link-place2 .ensures .1)
+slice-write-pool-4 c = simp length-set (omega arith)
 
 add-pool-4 : tie.Need-add-pool-4
 add-pool-4 c = search needs
@@ -68,7 +69,7 @@ mul-pool-5 : tie.Need-mul-pool-5
 mul-pool-5 c = search needs
 
 slice-write-pool-5 : tie.Need-slice-write-pool-5
-slice-write-pool-5 c = let a = c .before .before .before .before .args in omega (arith, long₄ (a .pool .now) (a .n * 8 - 8) (c .before .before .link-place .result) (c .link-place2 .result) (a .k) (a .v) (a .x) (a .y) (a .colour), c .before .before .before .before .pre)
+slice-write-pool-5 c = simp length-set (omega arith)
 
 add-pool-5 : tie.Need-add-pool-5
 add-pool-5 c = search needs
@@ -77,7 +78,7 @@ mul-pool-6 : tie.Need-mul-pool-6
 mul-pool-6 c = search needs
 
 slice-write-pool-6 : tie.Need-slice-write-pool-6
-slice-write-pool-6 c = let a = c .before .before .before .before .args in omega (arith, long₅ (a .pool .now) (a .n * 8 - 8) (c .before .before .link-place .result) (c .link-place2 .result) (a .k) (a .v) (a .x) (a .y) (a .colour), c .before .before .before .before .pre)
+slice-write-pool-6 c = simp length-set (omega arith)
 
 add-pool-6 : tie.Need-add-pool-6
 add-pool-6 c = search needs
@@ -86,7 +87,7 @@ mul-pool-7 : tie.Need-mul-pool-7
 mul-pool-7 c = search needs
 
 slice-write-pool-7 : tie.Need-slice-write-pool-7
-slice-write-pool-7 c = let a = c .before .before .before .before .args in omega (arith, long₆ (a .pool .now) (a .n * 8 - 8) (c .before .before .link-place .result) (c .link-place2 .result) (a .k) (a .v) (a .x) (a .y) (a .colour), c .before .before .before .before .pre)
+slice-write-pool-7 c = simp length-set (omega arith)
 
 add-pool-7 : tie.Need-add-pool-7
 add-pool-7 c = search needs
@@ -95,16 +96,16 @@ mul-pool-8 : tie.Need-mul-pool-8
 mul-pool-8 c = search needs
 
 slice-write-pool-8 : tie.Need-slice-write-pool-8
-slice-write-pool-8 c = let a = c .before .before .before .before .args in omega (arith, long₇ (a .pool .now) (a .n * 8 - 8) (c .before .before .link-place .result) (c .link-place2 .result) (a .k) (a .v) (a .x) (a .y) (a .colour), c .before .before .before .before .pre)
+slice-write-pool-8 c = simp length-set (omega arith)
 
 same-length : tie.Need-same-length
-same-length c = let a = c .before .before .before .before .args in long₈ (a .pool .now) (a .n * 8 - 8) (c .before .before .link-place .result) (c .link-place2 .result) (a .k) (a .v) (a .x) (a .y) (a .colour)
+same-length c = simp length-set
 
 returns : tie.Need-returns
 unfolding fillNode setWord
 returns c = let a = c .before .before .before .before .args in let h = c .before .before .before .before .pre in
-    let capacity : a .n * 8 - 8 + 0 ≡ a .n * 8 - 8 = omega arith in
-    rw (ne-eqb (a .n) 0 (λ e. omega arith), capacity, c .link-place2 .ensures .0, c .before .other .ensures, c .before .before .link-place .ensures .0)
+    let first : place (a .n) 0 ≡ a .n * nodeWords - nodeWords = omega arith in
+    rw (ne-eqb (a .n) 0 (λ e. omega arith), first, c .link-place2 .ensures .0, c .before .other .ensures, c .before .before .link-place .ensures .0)
 
 pub fill-whole-spec : {M : Type 1} → statement M
 fill-whole-spec =

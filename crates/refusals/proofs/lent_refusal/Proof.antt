@@ -4,6 +4,7 @@ use Rattle.spec.specs.Pool.{lengthRight, poolInRange, nodes}
 use Rattle.laws.specs.Tests.{right-length}
 use mathlib.Core.Bool.{true, false, _&&_}
 use mathlib.Core.Path.{_≡_, sym, ap, _∙_}
+use borrow.Author.Tests.{not-true, not-false}
 use borrow.Author.Needs.{needs}
 use Rattle.refusals.proofs.lent_refusal.Statement.{statement}
 use Rattle.refusals.proofs.lent_refusal.Tie as tie
@@ -18,31 +19,31 @@ length-right-requires : tie.Need-length-right-requires
 length-right-requires c κs = search needs
 
 returns : tie.Need-returns
-returns c = rw (sym (c .before .length-right .ensures) ∙ c .if1 .left)
+returns c = rw (sym (c .before .length-right .ensures) ∙ not-true _ (c .if1 .taken))
 
 nodes-requires : tie.Need-nodes-requires
-nodes-requires c κs = right-length (c .before .before .before .args .pool .now) (sym (c .before .length-right .ensures) ∙ c .if1 .taken)
+nodes-requires c κs = right-length (c .before .before .before .args .pool .now) (sym (c .before .length-right .ensures) ∙ not-false _ (c .if1 .left))
 
 register-in-range-requires : tie.Need-register-in-range-requires
 register-in-range-requires c κs = search needs
 
 pool-in-range-requires : tie.Need-pool-in-range-requires
-pool-in-range-requires c κs = right-length (c .before .before .before .before .before .args .pool .now) (sym (c .before .before .before .length-right .ensures) ∙ c .before .before .if1 .taken)
+pool-in-range-requires c κs = right-length (c .before .before .before .before .before .args .pool .now) (sym (c .before .before .before .length-right .ensures) ∙ not-false _ (c .before .before .if1 .left))
 
 returns-2 : tie.Need-returns-2
 returns-2 c =
     let a = c .before .before .before .before .before .before .before .args in
-    let long : lengthRight (a .pool .now) ≡ true = sym (c .before .before .before .before .before .length-right .ensures) ∙ c .before .before .before .before .if1 .taken in
+    let long : lengthRight (a .pool .now) ≡ true = sym (c .before .before .before .before .before .length-right .ensures) ∙ not-false _ (c .before .before .before .before .if1 .left) in
     let ranges : (poolInRange (a .pool .now) && registerInRange (nodes (a .pool .now)) (a .reg)) ≡ false =
-    and-swap (poolInRange (a .pool .now)) (registerInRange (nodes (a .pool .now)) (a .reg)) ∙ rw (← (c .before .pool-in-range .ensures), ← (c .before .before .before .nodes .ensures), ← (c .before .before .register-in-range .ensures)) (c .if2 .left) in
+    and-swap (poolInRange (a .pool .now)) (registerInRange (nodes (a .pool .now)) (a .reg)) ∙ rw (← (c .before .pool-in-range .ensures), ← (c .before .before .before .nodes .ensures), ← (c .before .before .register-in-range .ensures)) (not-true _ (c .if2 .taken)) in
     rw (long, ranges)
 
 returns-3 : tie.Need-returns-3
 returns-3 c =
     let a = c .before .before .before .before .before .before .before .args in
-    let long : lengthRight (a .pool .now) ≡ true = sym (c .before .before .before .before .before .length-right .ensures) ∙ c .before .before .before .before .if1 .taken in
+    let long : lengthRight (a .pool .now) ≡ true = sym (c .before .before .before .before .before .length-right .ensures) ∙ not-false _ (c .before .before .before .before .if1 .left) in
     let ranges : (poolInRange (a .pool .now) && registerInRange (nodes (a .pool .now)) (a .reg)) ≡ true =
-    and-swap (poolInRange (a .pool .now)) (registerInRange (nodes (a .pool .now)) (a .reg)) ∙ rw (← (c .before .pool-in-range .ensures), ← (c .before .before .before .nodes .ensures), ← (c .before .before .register-in-range .ensures)) (c .if2 .taken) in
+    and-swap (poolInRange (a .pool .now)) (registerInRange (nodes (a .pool .now)) (a .reg)) ∙ rw (← (c .before .pool-in-range .ensures), ← (c .before .before .before .nodes .ensures), ← (c .before .before .register-in-range .ensures)) (not-false _ (c .if2 .left)) in
     rw (long, ranges)
 
 pub lent-refusal-spec : {M : Type 1} → statement M

@@ -5,6 +5,7 @@ use Rattle.register.specs.Ranges.{stops, goes}
 use Rattle.spec.specs.Numbers.{slots, allSlots, mostStores}
 use Rattle.spec.specs.Register.{registerInRange, readerInRange, storeInRange}
 use mathlib.Core.Path.{_≡_, sym, _∙_}
+use borrow.Author.Tests.{not-true, not-false}
 use borrow.Author.Needs.{needs}
 use Rattle.register.proofs.register_in_range.Statement.{statement}
 use Rattle.register.proofs.register_in_range.Tie as tie
@@ -26,7 +27,7 @@ returns c =
     let z = leb (r .write .count) mostStores in
     let readers = allIn (readerInRange capacity r) 0 slots in
     let stores = allIn (storeInRange capacity (r .write)) 0 mostStores in
-    let h : (x && y && z && readers) ≡ false = rw (← (c .before .readers-in-range .ensures)) (c .if1 .left) in
+    let h : (x && y && z && readers) ≡ false = rw (← (c .before .readers-in-range .ensures)) (not-true _ (c .if1 .taken)) in
     sym (stops stores x y z readers h)
 
 stores-in-range-requires : tie.Need-stores-in-range-requires
@@ -42,7 +43,7 @@ returns-2 c =
     let z = leb (r .write .count) mostStores in
     let readers = allIn (readerInRange capacity r) 0 slots in
     let stores = allIn (storeInRange capacity (r .write)) 0 mostStores in
-    let h : (x && y && z && readers) ≡ true = rw (← (c .before .before .readers-in-range .ensures)) (c .before .if1 .taken) in
+    let h : (x && y && z && readers) ≡ true = rw (← (c .before .before .readers-in-range .ensures)) (not-false _ (c .before .if1 .left)) in
     c .stores-in-range .ensures ∙ sym (goes stores x y z readers h)
 
 pub register-in-range-spec : {M : Type 1} → statement M

@@ -3,6 +3,7 @@ use Rattle.spec.specs.Register.{storeInRange}
 use Rattle.base.specs.Walk.{allIn, all-bad, all-ok, all-end}
 use Prim.Native.Nat.{_≤_, _-_}
 use mathlib.Core.Path.{_≡_, refl, sym, _∙_}
+use borrow.Author.Tests.{not-true, not-false}
 use borrow.Author.Needs.{needs}
 use Rattle.register.proofs.stores_in_range.Statement.{statement}
 use Rattle.register.proofs.stores_in_range.Tie as tie
@@ -36,7 +37,7 @@ unfolding storeInRange
 returns c =
     let l = c .before .before .before .before .loop in
     let f = storeInRange (c .before .before .before .before .before .args .capacity) (c .before .before .before .before .before .args .t1) in
-    sym (all-bad f (l .i) mostStores (c .before .before .before .loop-test .taken) (sym (c .before .store-in-range .ensures) ∙ c .if1 .left)) ∙ l .inv .1
+    sym (all-bad f (l .i) mostStores (c .before .before .before .loop-test .taken) (sym (c .before .store-in-range .ensures) ∙ not-true _ (c .if1 .taken))) ∙ l .inv .1
 
 add-i : tie.Need-add-i Inv-loop μ-loop
 add-i c = search needs
@@ -49,7 +50,7 @@ unfolding storeInRange
 loop-again c =
     let l = c .before .before .before .before .loop in
     let f = storeInRange (c .before .before .before .before .before .args .capacity) (c .before .before .before .before .before .args .t1) in
-    (search needs, sym (all-ok f (l .i) mostStores (c .before .before .before .loop-test .taken) (sym (c .before .store-in-range .ensures) ∙ c .if1 .taken)) ∙ l .inv .1)
+    (search needs, sym (all-ok f (l .i) mostStores (c .before .before .before .loop-test .taken) (sym (c .before .store-in-range .ensures) ∙ not-false _ (c .if1 .left))) ∙ l .inv .1)
 
 returns-2 : tie.Need-returns-2 Inv-loop μ-loop
 returns-2 c =

@@ -5,6 +5,7 @@ use Rattle.spec.specs.Turn.{stepFinds, stepMade, unlinkStore}
 use mathlib.Core.Bool.{true, false}
 use mathlib.Core.Path.{_≡_}
 use native.Mathlib.Omega.{arith}
+use borrow.Author.Tests.{not-true, not-false}
 use borrow.Author.Needs.{needs}
 use Rattle.removals.proofs.unlink.Statement.{statement}
 use Rattle.removals.proofs.unlink.Tie as tie
@@ -53,7 +54,7 @@ same-length c = search needs
 returns : tie.Need-returns
 unfolding stepFinds
 returns c = let a = c .before .before .before .before .before .before .before .before .before .before .before .before .before .before .before .before .before .args in λ q r. let st : State = at (a .pool .now) (a .h) q in
-    let f : stepFinds st (a .l) Unlink ≡ false = rw (← (c .before .before .before .before .before .before .before .before .before .before .before .before .before .before .node-at .ensures), ← (c .before .before .before .before .before .before .before .before .before .before .before .before .only-child .ensures), ← (c .before .before .before .before .before .before .before .before .before .before .word .ensures), ← (c .before .before .before .before .before .before .before .path-to .ensures .0), ← (c .before .before .before .fixup-after-removal .ensures), ← (c .before .before .nodes-found .ensures)) (c .before .if1 .left) in
+    let f : stepFinds st (a .l) Unlink ≡ false = rw (← (c .before .before .before .before .before .before .before .before .before .before .before .before .before .before .node-at .ensures), ← (c .before .before .before .before .before .before .before .before .before .before .before .before .only-child .ensures), ← (c .before .before .before .before .before .before .before .before .before .before .word .ensures), ← (c .before .before .before .before .before .before .before .path-to .ensures .0), ← (c .before .before .before .fixup-after-removal .ensures), ← (c .before .before .nodes-found .ensures)) (not-true _ (c .before .if1 .taken)) in
     tells-missed (a .pool .now) (a .h) (a .l) Unlink q (c .missed .result) f (c .missed .ensures)
 
 store-one-less-requires : tie.Need-store-one-less-requires
@@ -71,8 +72,8 @@ same-length-2 c = search needs
 returns-2 : tie.Need-returns-2
 unfolding stepFinds stepMade unlinkStore
 returns-2 c = let a = c .before .before .before .before .before .before .before .before .before .before .before .before .before .before .before .before .before .before .before .before .before .before .before .before .before .args in λ q r. let st : State = at (a .pool .now) (a .h) q in
-    let f : stepFinds st (a .l) Unlink ≡ true = rw (← (c .before .before .before .before .before .before .before .before .before .before .before .before .before .before .before .before .before .before .before .before .before .before .node-at .ensures), ← (c .before .before .before .before .before .before .before .before .before .before .before .before .before .before .before .before .before .before .before .before .only-child .ensures), ← (c .before .before .before .before .before .before .before .before .before .before .before .before .before .before .before .before .before .before .word .ensures), ← (c .before .before .before .before .before .before .before .before .before .before .before .before .before .before .before .path-to .ensures .0), ← (c .before .before .before .before .before .before .before .before .before .before .before .fixup-after-removal .ensures), ← (c .before .before .before .before .before .before .before .before .before .before .nodes-found .ensures)) (c .before .before .before .before .before .before .before .before .before .if1 .taken) in
-    tells-made (a .pool .now) (a .h) (a .l) Unlink q _ _ f (c .before .before .before .before .before .before .before .before .before .if1 .taken) (rw (c .before .before .colour-and-retire .ensures q r, c .before .before .before .before .before .before .before .store-one-less .ensures q, c .before .before .before .before .before .before .before .before .before .before .before .fixup-after-removal .ensures, c .before .before .before .before .before .before .before .before .before .before .before .before .before .before .before .path-to .ensures .0, c .before .before .before .before .before .before .before .before .before .before .before .before .before .before .before .before .before .before .word .ensures, c .before .before .before .before .before .before .before .before .before .before .before .before .before .before .before .before .before .before .before .before .only-child .ensures, c .before .before .before .before .before .before .before .before .before .before .before .before .before .before .before .before .before .before .before .before .before .before .node-at .ensures))
+    let f : stepFinds st (a .l) Unlink ≡ true = rw (← (c .before .before .before .before .before .before .before .before .before .before .before .before .before .before .before .before .before .before .before .before .before .before .node-at .ensures), ← (c .before .before .before .before .before .before .before .before .before .before .before .before .before .before .before .before .before .before .before .before .only-child .ensures), ← (c .before .before .before .before .before .before .before .before .before .before .before .before .before .before .before .before .before .before .word .ensures), ← (c .before .before .before .before .before .before .before .before .before .before .before .before .before .before .before .path-to .ensures .0), ← (c .before .before .before .before .before .before .before .before .before .before .before .fixup-after-removal .ensures), ← (c .before .before .before .before .before .before .before .before .before .before .nodes-found .ensures)) (not-false _ (c .before .before .before .before .before .before .before .before .before .if1 .left)) in
+    tells-made (a .pool .now) (a .h) (a .l) Unlink q _ _ f (not-false _ (c .before .before .before .before .before .before .before .before .before .if1 .left)) (rw (c .before .before .colour-and-retire .ensures q r, c .before .before .before .before .before .before .before .store-one-less .ensures q, c .before .before .before .before .before .before .before .before .before .before .before .fixup-after-removal .ensures, c .before .before .before .before .before .before .before .before .before .before .before .before .before .before .before .path-to .ensures .0, c .before .before .before .before .before .before .before .before .before .before .before .before .before .before .before .before .before .before .word .ensures, c .before .before .before .before .before .before .before .before .before .before .before .before .before .before .before .before .before .before .before .before .only-child .ensures, c .before .before .before .before .before .before .before .before .before .before .before .before .before .before .before .before .before .before .before .before .before .before .node-at .ensures))
 
 pub unlink-spec : {M : Type 1} → statement M
 unlink-spec =

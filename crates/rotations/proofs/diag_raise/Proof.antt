@@ -8,6 +8,7 @@ use Rattle.spec.specs.Turn.{endDiagFinds, isNode}
 use Rattle.spec.specs.Free.{retire}
 use Rattle.rotations.specs.Raises.{diag-raised}
 use mathlib.Core.Path.{_≡_, refl, sym, _∙_}
+use borrow.Author.Tests.{not-true, not-false}
 use borrow.Author.Needs.{needs}
 use Rattle.rotations.proofs.diag_raise.Statement.{statement}
 use Rattle.rotations.proofs.diag_raise.Tie as tie
@@ -49,7 +50,7 @@ same-length-2 c = search needs
 
 returns-2 : tie.Need-returns-2
 unfolding stepFinds
-returns-2 c = let a = c .before .before .before .before .before .before .before .before .before .before .args in λ q r. let st : State = at (a .pool .now) (a .h) q in let b = diagChild st (a .l) (a .s) in let e : endDiagFinds (a .purpose) st (a .s) (diagChild st (a .l) (a .s)) ≡ false = rw (← (c .before .before .before .before .before .before .before .node-at .ensures), ← (c .before .before .before .before .before .child .ensures)) (sym (c .before .before .end-diag-finds .ensures (withHead q (a .h))) ∙ c .before .if2 .left) in tells-missed (a .pool .now) (a .h) (a .l) (DiagRaise (a .s) (a .purpose)) q (c .missed2 .result) (and-false (isNode b) (endDiagFinds (a .purpose) st (a .s) b) e) (c .missed2 .ensures)
+returns-2 c = let a = c .before .before .before .before .before .before .before .before .before .before .args in λ q r. let st : State = at (a .pool .now) (a .h) q in let b = diagChild st (a .l) (a .s) in let e : endDiagFinds (a .purpose) st (a .s) (diagChild st (a .l) (a .s)) ≡ false = rw (← (c .before .before .before .before .before .before .before .node-at .ensures), ← (c .before .before .before .before .before .child .ensures)) (sym (c .before .before .end-diag-finds .ensures (withHead q (a .h))) ∙ not-true _ (c .before .if2 .taken)) in tells-missed (a .pool .now) (a .h) (a .l) (DiagRaise (a .s) (a .purpose)) q (c .missed2 .result) (and-false (isNode b) (endDiagFinds (a .purpose) st (a .s) b) e) (c .missed2 .ensures)
 
 risen-colour-requires : tie.Need-risen-colour-requires
 risen-colour-requires c κs = search needs
@@ -68,7 +69,7 @@ same-length-3 c = search needs
 
 returns-3 : tie.Need-returns-3
 unfolding stepFinds stepMade
-returns-3 c = let a = c .before .before .before .before .before .before .before .before .before .before .before .before .before .before .before .before .before .before .before .before .before .before .before .args in λ q r. let st : State = at (a .pool .now) (a .h) q in let b = diagChild st (a .l) (a .s) in let d : diagChild st (a .l) (a .s) ≡ 0 → ⊥ = rw (← (c .before .before .before .before .before .before .before .before .before .before .before .before .before .before .before .before .before .before .before .before .node-at .ensures), ← (c .before .before .before .before .before .before .before .before .before .before .before .before .before .before .before .before .before .before .child .ensures)) (c .before .before .before .before .before .before .before .before .before .before .before .before .before .before .before .before .before .if1 .left) in let e : endDiagFinds (a .purpose) st (a .s) (diagChild st (a .l) (a .s)) ≡ true = rw (← (c .before .before .before .before .before .before .before .before .before .before .before .before .before .before .before .before .before .before .before .before .node-at .ensures), ← (c .before .before .before .before .before .before .before .before .before .before .before .before .before .before .before .before .before .before .child .ensures)) (sym (c .before .before .before .before .before .before .before .before .before .before .before .before .before .before .before .end-diag-finds .ensures (withHead q (a .h))) ∙ c .before .before .before .before .before .before .before .before .before .before .before .before .before .before .if2 .taken) in tells-made (a .pool .now) (a .h) (a .l) (DiagRaise (a .s) (a .purpose)) q _ _ (node-there b (endDiagFinds (a .purpose) st (a .s) b) d e) refl
+returns-3 c = let a = c .before .before .before .before .before .before .before .before .before .before .before .before .before .before .before .before .before .before .before .before .before .before .before .args in λ q r. let st : State = at (a .pool .now) (a .h) q in let b = diagChild st (a .l) (a .s) in let d : diagChild st (a .l) (a .s) ≡ 0 → ⊥ = rw (← (c .before .before .before .before .before .before .before .before .before .before .before .before .before .before .before .before .before .before .before .before .node-at .ensures), ← (c .before .before .before .before .before .before .before .before .before .before .before .before .before .before .before .before .before .before .child .ensures)) (c .before .before .before .before .before .before .before .before .before .before .before .before .before .before .before .before .before .if1 .left) in let e : endDiagFinds (a .purpose) st (a .s) (diagChild st (a .l) (a .s)) ≡ true = rw (← (c .before .before .before .before .before .before .before .before .before .before .before .before .before .before .before .before .before .before .before .before .node-at .ensures), ← (c .before .before .before .before .before .before .before .before .before .before .before .before .before .before .before .before .before .before .child .ensures)) (sym (c .before .before .before .before .before .before .before .before .before .before .before .before .before .before .before .end-diag-finds .ensures (withHead q (a .h))) ∙ not-false _ (c .before .before .before .before .before .before .before .before .before .before .before .before .before .before .if2 .left)) in tells-made (a .pool .now) (a .h) (a .l) (DiagRaise (a .s) (a .purpose)) q _ _ (node-there b (endDiagFinds (a .purpose) st (a .s) b) d e) refl
     (diag-raised st (a .l) (a .s) (a .purpose) (c .before .before .before .before .before .before .before .before .before .before .before .before .before .before .before .before .before .before .before .before .node-at .result) (c .before .before .before .before .before .before .before .before .before .before .before .before .before .before .before .before .before .before .child .result) (c .before .before .before .before .before .before .before .before .before .before .before .before .risen-colour .result) (c .before .before .before .before .before .before .before .before .before .before .raise .last .0) (c .before .before .before .before .before .before .end-diag .last .0) (withHead q (c .before .before .before .before .before .before .before .before .before .before .raise .result)) (at (c .before .before .retire .last .0) (c .before .before .retire .result) q) (c .before .before .before .before .before .before .before .before .before .before .before .before .before .before .before .before .before .before .before .before .node-at .ensures) (c .before .before .before .before .before .before .before .before .before .before .before .before .risen-colour .ensures (withHead q (a .h))) (c .before .before .before .before .before .before .before .before .before .before .raise .ensures q) (c .before .before .before .before .before .before .before .before .before .before .before .before .before .before .before .before .before .before .child .ensures ∙ rw (c .before .before .before .before .before .before .before .before .before .before .before .before .before .before .before .before .before .before .before .before .node-at .ensures)) (c .before .before .before .before .before .before .end-diag .ensures (withHead q (c .before .before .before .before .before .before .before .before .before .before .raise .result)) refl) (c .before .before .retire .ensures q r))
 
 pub diag-raise-spec : {M : Type 1} → statement M

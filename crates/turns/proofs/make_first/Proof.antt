@@ -8,6 +8,7 @@ use Rattle.spec.specs.Turn.{stepFinds}
 use Rattle.laws.specs.Tests.{lent}
 use Rattle.laws.specs.Writers.{writer-missed, writer-stores}
 use Rattle.turns.specs.Made.{turn-made}
+use borrow.Author.Tests.{not-true, not-false}
 use borrow.Author.Needs.{needs}
 use Rattle.turns.proofs.make_first.Statement.{statement}
 use Rattle.turns.proofs.make_first.Tie as tie
@@ -40,9 +41,9 @@ same-length c = search needs
 
 returns : tie.Need-returns
 returns c = let a = c .before .before .before .before .before .before .before .before .before .before .before .before .before .args in let st = state (a .pool .now) (a .reg) in let x = storeOf (a .reg) 0 in let t = c .before .before .before .before .first-step in let z = t .ensures in
-    let f : stepFinds st (x .link) (x .step) ≡ false = sym (z .0) ∙ c .before .if2 .left in
+    let f : stepFinds st (x .link) (x .step) ≡ false = sym (z .0) ∙ not-true _ (c .before .if2 .taken) in
     let e = writer-missed st (c .before .before .before .before .before .before .before .before .before .before .before .before .before .pre .0) (c .before .before .before .before .before .before .before .before .before .before .before .before .before .pre .1) (c .before .before .before .before .before .before .before .before .before .before .before .before .before .pre .2) f in
-    (c .refused .ensures .0 ∙ sym (ap (λ (o : Outcome). o .answer) e), rw (c .refused .ensures .1) (ap (λ (p : List ℕ). state p (a .reg)) (z .2 (c .before .if2 .left)) ∙ sym (ap (λ (o : Outcome). o .after) e)))
+    (c .refused .ensures .0 ∙ sym (ap (λ (o : Outcome). o .answer) e), rw (c .refused .ensures .1) (ap (λ (p : List ℕ). state p (a .reg)) (z .2 (not-true _ (c .before .if2 .taken))) ∙ sym (ap (λ (o : Outcome). o .after) e)))
 
 moved-write-requires : tie.Need-moved-write-requires
 moved-write-requires c κs = search needs
@@ -55,8 +56,8 @@ same-length-2 c = search needs
 
 returns-2 : tie.Need-returns-2
 returns-2 c = let a = c .before .before .before .before .before .before .before .before .before .before .before .before .before .before .args in let st = state (a .pool .now) (a .reg) in let x = storeOf (a .reg) 0 in let t = c .before .before .before .before .before .first-step in let z = t .ensures in
-    let f : stepFinds st (x .link) (x .step) ≡ true = sym (z .0) ∙ c .before .before .if2 .taken in
-    let e = ap stored (z .1 (c .before .before .if2 .taken)) ∙ sym (writer-stores st (c .before .before .before .before .before .before .before .before .before .before .before .before .before .before .pre .0) (c .before .before .before .before .before .before .before .before .before .before .before .before .before .before .pre .1) (c .before .before .before .before .before .before .before .before .before .before .before .before .before .before .pre .2) f) in
+    let f : stepFinds st (x .link) (x .step) ≡ true = sym (z .0) ∙ not-false _ (c .before .before .if2 .left) in
+    let e = ap stored (z .1 (not-false _ (c .before .before .if2 .left))) ∙ sym (writer-stores st (c .before .before .before .before .before .before .before .before .before .before .before .before .before .before .pre .0) (c .before .before .before .before .before .before .before .before .before .before .before .before .before .before .pre .1) (c .before .before .before .before .before .before .before .before .before .before .before .before .before .before .pre .2) f) in
     turn-made (t .last .0) (t .result) (a .reg) (x .step) (nodeAt (a .pool .now) (a .reg .root) (x .link)) (a .reg .first) (c .before .moved-write .result) (writerSays (c .stored .result .answer)) (state (t .last .0) (c .stored .result .register)) (writerTurn st) e
     (rw (← (c .before .before .before .before .before .before .before .before .before .before .publishes .ensures), c .before .before .before .before .before .before .before .before .before .if1 .taken) (c .before .moved-write .ensures ∙ rw (c .before .before .before .before .before .before .before .node-at .ensures))) (c .stored .ensures (t .last .0))
 
@@ -71,9 +72,9 @@ same-length-3 c = search needs
 
 returns-3 : tie.Need-returns-3
 returns-3 c = let a = c .before .before .before .before .before .before .before .before .before .before .before .args in let st = state (a .pool .now) (a .reg) in let x = storeOf (a .reg) 0 in let t = c .before .before .before .before .first-step2 in let z = t .ensures in
-    let f : stepFinds st (x .link) (x .step) ≡ false = sym (z .0) ∙ c .before .if3 .left in
+    let f : stepFinds st (x .link) (x .step) ≡ false = sym (z .0) ∙ not-true _ (c .before .if3 .taken) in
     let e = writer-missed st (c .before .before .before .before .before .before .before .before .before .before .before .pre .0) (c .before .before .before .before .before .before .before .before .before .before .before .pre .1) (c .before .before .before .before .before .before .before .before .before .before .before .pre .2) f in
-    (c .refused2 .ensures .0 ∙ sym (ap (λ (o : Outcome). o .answer) e), rw (c .refused2 .ensures .1) (ap (λ (p : List ℕ). state p (a .reg)) (z .2 (c .before .if3 .left)) ∙ sym (ap (λ (o : Outcome). o .after) e)))
+    (c .refused2 .ensures .0 ∙ sym (ap (λ (o : Outcome). o .answer) e), rw (c .refused2 .ensures .1) (ap (λ (p : List ℕ). state p (a .reg)) (z .2 (not-true _ (c .before .if3 .taken))) ∙ sym (ap (λ (o : Outcome). o .after) e)))
 
 stored-requires-2 : tie.Need-stored-requires-2
 stored-requires-2 c κs = search needs
@@ -83,8 +84,8 @@ same-length-4 c = search needs
 
 returns-4 : tie.Need-returns-4
 returns-4 c = let a = c .before .before .before .before .before .before .before .before .before .before .before .args in let st = state (a .pool .now) (a .reg) in let x = storeOf (a .reg) 0 in let t = c .before .before .before .before .first-step2 in let z = t .ensures in
-    let f : stepFinds st (x .link) (x .step) ≡ true = sym (z .0) ∙ c .before .if3 .taken in
-    let e = ap stored (z .1 (c .before .if3 .taken)) ∙ sym (writer-stores st (c .before .before .before .before .before .before .before .before .before .before .before .pre .0) (c .before .before .before .before .before .before .before .before .before .before .before .pre .1) (c .before .before .before .before .before .before .before .before .before .before .before .pre .2) f) in
+    let f : stepFinds st (x .link) (x .step) ≡ true = sym (z .0) ∙ not-false _ (c .before .if3 .left) in
+    let e = ap stored (z .1 (not-false _ (c .before .if3 .left))) ∙ sym (writer-stores st (c .before .before .before .before .before .before .before .before .before .before .before .pre .0) (c .before .before .before .before .before .before .before .before .before .before .before .pre .1) (c .before .before .before .before .before .before .before .before .before .before .before .pre .2) f) in
     turn-made (t .last .0) (t .result) (a .reg) (x .step) (nodeAt (a .pool .now) (a .reg .root) (x .link)) (a .reg .first) (a .reg .write) (writerSays (c .stored2 .result .answer)) (state (t .last .0) (c .stored2 .result .register)) (writerTurn st) e
     (rw (← (c .before .before .before .before .before .before .before .publishes .ensures), c .before .before .before .before .before .before .if1 .left)) (c .stored2 .ensures (t .last .0))
 
