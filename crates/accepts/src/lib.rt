@@ -1,5 +1,4 @@
 // Insert and delete after the tests of the search: the last tests, and the plan as the write in hand.
-use datatypes::Acceptance;
 use datatypes::Link;
 use datatypes::Register;
 use datatypes::Reply;
@@ -12,24 +11,11 @@ ghost use Rattle.spec.specs.Register.{state, withWrite};
 ghost use Rattle.laws.specs.Tests.{lentNumber};
 ghost use Rattle.spec.specs.Calls.{ok, refused, accepts, placeOf, writeInHand, insert, delete};
 
-pub fn refused(number: u32, register: Register) -> Reply
-    ensures { λ r. ⌜ (accepts (r .answer) ≡ refused number) × (r .register ≡ register) ⌝ }
-{
-    Reply {
-        answer: Acceptance::Refused(number),
-        register,
-    }
-}
-
 // the planned stores are the write in hand
 fn accepted(reg: Register, write: Write) -> Reply
     ensures { λ r. ⌜ (accepts (r .answer) ≡ ok) × (r .register ≡ withWrite reg write) ⌝ }
 {
-    let register = register::with_write(reg, write);
-    Reply {
-        answer: Acceptance::Accepted,
-        register,
-    }
+    replies::accepted(register::with_write(reg, write))
 }
 
 // an insert at the empty link l, after the tests of the search
@@ -40,14 +26,14 @@ pub fn insert_at(pool: &[u32], reg: Register, k: u32, v: u32, l: Link) -> Reply
 {
     let capacity = pool::nodes(pool);
     if capacity as u64 <= reg.held as u64 + numbers::RESERVE {
-        return refused(10, reg);
+        return replies::refused(10, reg);
     }
     if reg.free < numbers::FREE_FOR_INSERT {
-        return refused(11, reg);
+        return replies::refused(11, reg);
     }
     let plan = plans::insert_plan(pool, reg, k, v, l);
     if !plan.possible {
-        return refused(12, reg);
+        return replies::refused(12, reg);
     }
     let write = plan.write;
     accepted(reg, write)
@@ -60,11 +46,11 @@ pub fn delete_at(pool: &[u32], reg: Register, k: u32, l: Link, n: u32) -> Reply
     ensures { λ r. ⌜ state (now (pool .entry)) (r .register) ≡ delete (state (now (pool .entry)) reg) k .after ⌝ }
 {
     if reg.free < numbers::FREE_FOR_DELETE {
-        return refused(11, reg);
+        return replies::refused(11, reg);
     }
     let plan = plans::delete_plan(pool, reg, l, n);
     if !plan.possible {
-        return refused(12, reg);
+        return replies::refused(12, reg);
     }
     let write = plan.write;
     accepted(reg, write)

@@ -1,15 +1,11 @@
 // The calls of the ticket index. Each one's promise: answer, register and every pool word are what the definition of document 01's call
 // (crate spec, Calls) makes of what was lent; a refused call leaves both as they were.
-use datatypes::Acceptance;
 use datatypes::Head;
 use datatypes::Link;
 use datatypes::Place;
-use datatypes::Reader;
-use datatypes::ReaderAnswer;
 use datatypes::ReaderReply;
 use datatypes::Register;
 use datatypes::Reply;
-use datatypes::WriterAnswer;
 use datatypes::WriterReply;
 ghost use mathlib.Core.Path.{_≡_};
 ghost use Rattle.spec.specs.Register.{state};
@@ -20,17 +16,11 @@ pub fn set_up(pool: &mut [u32], reg: Register) -> Reply
     ensures { λ r. ⌜ state (now (pool .exit)) (r .register) ≡ setUp (state (now (pool .entry)) reg) .after ⌝ }
 {
     if !pool::length_right(pool) {
-        return Reply {
-            answer: Acceptance::Refused(1),
-            register: reg,
-        };
+        return replies::refused(1, reg);
     }
     let register = fresh::fresh_register(pool::nodes(pool));
     fresh::fresh_pool(pool);
-    Reply {
-        answer: Acceptance::Accepted,
-        register,
-    }
+    replies::accepted(register)
 }
 
 pub fn insert(pool: &[u32], reg: Register, k: u32, v: u32) -> Reply
@@ -39,17 +29,17 @@ pub fn insert(pool: &[u32], reg: Register, k: u32, v: u32) -> Reply
 {
     let why = refusals::lent_refusal(pool, reg);
     if why != 0 {
-        return accepts::refused(why, reg);
+        return replies::refused(why, reg);
     }
     let hand = reg.write;
     if hand.count != 0 {
-        return accepts::refused(6, reg);
+        return replies::refused(6, reg);
     }
     let place = search::seek(pool, k, Link::Root, reg.root, numbers::PATH_BOUND);
     match place {
-        Place::Held(_, _) => accepts::refused(8, reg),
+        Place::Held(_, _) => replies::refused(8, reg),
         Place::Empty(l) => accepts::insert_at(pool, reg, k, v, l),
-        Place::TooDeep => accepts::refused(12, reg),
+        Place::TooDeep => replies::refused(12, reg),
     }
 }
 
@@ -59,17 +49,17 @@ pub fn delete(pool: &[u32], reg: Register, k: u32) -> Reply
 {
     let why = refusals::lent_refusal(pool, reg);
     if why != 0 {
-        return accepts::refused(why, reg);
+        return replies::refused(why, reg);
     }
     let hand = reg.write;
     if hand.count != 0 {
-        return accepts::refused(6, reg);
+        return replies::refused(6, reg);
     }
     let place = search::seek(pool, k, Link::Root, reg.root, numbers::PATH_BOUND);
     match place {
         Place::Held(l, n) => accepts::delete_at(pool, reg, k, l, n),
-        Place::Empty(_) => accepts::refused(9, reg),
-        Place::TooDeep => accepts::refused(12, reg),
+        Place::Empty(_) => replies::refused(9, reg),
+        Place::TooDeep => replies::refused(12, reg),
     }
 }
 
@@ -79,17 +69,14 @@ pub fn writer_turn(pool: &mut [u32], reg: Register) -> WriterReply
 {
     let why = refusals::lent_refusal(pool, reg);
     if why != 0 {
-        return turns::refused(why, reg);
+        return replies::refuses_writer(why, reg);
     }
     let hand = reg.write;
     if hand.count == 0 {
-        return turns::refused(7, reg);
+        return replies::refuses_writer(7, reg);
     }
     if reg.awaited != 0 {
-        return WriterReply {
-            answer: WriterAnswer::Wait,
-            register: reg,
-        };
+        return replies::waits(reg);
     }
     turns::make_first(pool, reg)
 }
@@ -102,20 +89,10 @@ pub fn begin(pool: &[u32], mut reg: Register, s: u32, k: u32) -> Reply
     let i = refusals::slot_index(s);
     let why = refusals::slot_refusal(lent, s, reg.readers[i].reading, 4);
     if why != 0 {
-        return Reply {
-            answer: Acceptance::Refused(why),
-            register: reg,
-        };
+        return replies::refused(why, reg);
     }
-    reg.readers[i] = Reader {
-        reading: true,
-        key: k,
-        node: 0,
-    };
-    Reply {
-        answer: Acceptance::Accepted,
-        register: reg,
-    }
+    reg.readers[i] = register::begun_reader(k);
+    replies::accepted(reg)
 }
 
 pub fn reader_turn(pool: &mut [u32], mut reg: Register, s: u32) -> ReaderReply
@@ -127,10 +104,7 @@ pub fn reader_turn(pool: &mut [u32], mut reg: Register, s: u32) -> ReaderReply
     let x = reg.readers[i];
     let why = refusals::slot_refusal(lent, s, !x.reading, 5);
     if why != 0 {
-        return ReaderReply {
-            answer: ReaderAnswer::Refused(why),
-            register: reg,
-        };
+        return replies::refuses_reader(why, reg);
     }
     let looked = lookups::look(pool, reg.root, x.key, x.node);
     let h = Head {
@@ -148,12 +122,9 @@ pub fn reader_turn(pool: &mut [u32], mut reg: Register, s: u32) -> ReaderReply
     reg.free = left.free;
     reg.held = left.held;
     reg.awaited = left.awaited;
-    reg.readers[i] = lookups::reader_at(x.key, looked.node);
+    reg.readers[i] = lookups::reader_at(x, looked.node);
     let answer = looked.answer;
-    ReaderReply {
-        answer,
-        register: reg,
-    }
+    replies::answers_reader(answer, reg)
 }
 
 pub fn give_up(pool: &mut [u32], mut reg: Register, s: u32) -> Reply
@@ -164,10 +135,7 @@ pub fn give_up(pool: &mut [u32], mut reg: Register, s: u32) -> Reply
     let i = refusals::slot_index(s);
     let why = refusals::slot_refusal(lent, s, !reg.readers[i].reading, 5);
     if why != 0 {
-        return Reply {
-            answer: Acceptance::Refused(why),
-            register: reg,
-        };
+        return replies::refused(why, reg);
     }
     let h = Head {
         root: reg.root,
@@ -184,9 +152,6 @@ pub fn give_up(pool: &mut [u32], mut reg: Register, s: u32) -> Reply
     reg.free = left.free;
     reg.held = left.held;
     reg.awaited = left.awaited;
-    reg.readers[i] = lookups::reader_at(0, 0);
-    Reply {
-        answer: Acceptance::Accepted,
-        register: reg,
-    }
+    reg.readers[i] = register::no_reader();
+    replies::accepted(reg)
 }

@@ -60,20 +60,12 @@ pub fn leave(pool: &mut [u32], h: Head, s: u32, n: u32) -> Head
     h
 }
 
-// the record of a reader of the key k at node n; all 0 if its reading ended there
-pub fn reader_at(k: u32, n: u32) -> Reader
-    ensures { λ r. ⌜ r ≡ readerAt k n ⌝ }
+// the record of slot's reader x after it loaded node n; all 0 if its reading ended there
+pub fn reader_at(x: Reader, n: u32) -> Reader
+    ensures { λ r. ⌜ r ≡ readerAt x n ⌝ }
 {
     if n == 0 {
-        return Reader {
-            reading: false,
-            key: 0,
-            node: 0,
-        };
+        return register::no_reader();
     }
-    Reader {
-        reading: true,
-        key: k,
-        node: n,
-    }
+    register::moved_reader(x, n)
 }

@@ -21,9 +21,14 @@ use Rattle.datatypes.specs.Side.{other, sameSide, linkAt, owner, sideOf}
 use Rattle.base.specs.Walk.{cond-both}
 use Rattle.spec.specs.Numbers.{mostStores}
 use Rattle.spec.specs.Pool.{child, isRed}
-use Rattle.spec.specs.Register.{State, vacant, writeOf}
+use Rattle.spec.specs.Register.{noWrite, State, vacant, writeOf}
 use Rattle.spec.specs.Search.{pathTo}
 use Rattle.spec.specs.Plan.{rotationStores, turnStores, endingStores, rotation, insertFixup, fixupAfterInsert, redChild, blackSibling as blackSiblingOf, redSibling, deleteFixup, fixupAfterRemoval}
+
+-- a write of no store
+pub no-stores : writeOf [] ≡ noWrite
+unfolding writeOf
+no-stores = refl
 
 abbrev pub pushed : Write → Store → Write
 pushed w x = record { stores = set (w .stores) (w .count) x; count = w .count + 1 }

@@ -30,20 +30,6 @@ pub struct Planned {
     pub write: Write,
 }
 
-// no store
-fn no_write() -> Write
-    ensures { λ r. ⌜ r ≡ writeOf [] ⌝ }
-{
-    let vacant = Store {
-        link: Link::Root,
-        step: Step::Vacant,
-    };
-    Write {
-        stores: [vacant; numbers::MOST_STORES],
-        count: 0,
-    }
-}
-
 fn push(w: Write, link: Link, step: Step) -> Write
     requires { ⌜ w .count < mostStores ⌝ }
     ensures { λ r. ⌜ r ≡ pushed w (store link step) ⌝ }
@@ -59,7 +45,7 @@ fn push(w: Write, link: Link, step: Step) -> Write
 fn one_store(l: Link, s: Step) -> Write
     ensures { λ r. ⌜ r ≡ writeOf (store l s ∷ []) ⌝ }
 {
-    push(no_write(), l, s)
+    push(register::no_write(), l, s)
 }
 
 fn two_stores(l: Link, s: Step, t: Step) -> Write
@@ -164,7 +150,7 @@ fn successor_plan(pool: &[u32], reg: Register, l: Link, b: u32, path: &[u64], de
     if depth == 0 {
         return Planned {
             possible: false,
-            write: no_write(),
+            write: register::no_write(),
         };
     }
     let n = pool::node_at(pool, reg.root, paths::nearest(path, depth));

@@ -1,5 +1,6 @@
 // The register: the write in hand changed, slots as bits, the test of ranges.
 use datatypes::Link;
+use datatypes::Reader;
 use datatypes::Register;
 use datatypes::Step;
 use datatypes::Store;
@@ -8,8 +9,59 @@ ghost use mathlib.Core.Path.{_≡_};
 ghost use Prim.Native.Nat.{ℕ, _<_, _≤_, _+_, _*_};
 ghost use mathlib.Core.Bool.{cond, _&&_};
 ghost use Rattle.spec.specs.Numbers.{slots, wordBits, mostStores};
-ghost use Rattle.spec.specs.Register.{withWrite, hasSlot, putSlot, dropSlot, readingSlots, nodeNumber, linkInRange, stepInRange, isRoot, isVacant, storeInRange, readerInRange, registerInRange};
+ghost use Rattle.spec.specs.Register.{noReader, begunReader, movedReader, vacant, noWrite, withWrite, hasSlot, putSlot, dropSlot, readingSlots, nodeNumber, linkInRange, stepInRange, isRoot, isVacant, storeInRange, readerInRange, registerInRange};
 ghost use Rattle.base.specs.Walk.{allIn};
+
+// A reader record: of a slot that doesn't read; as begin makes it; after a turn that loaded node n.
+pub fn no_reader() -> Reader
+    ensures { λ r. ⌜ r ≡ noReader ⌝ }
+{
+    Reader {
+        reading: false,
+        key: 0,
+        node: 0,
+    }
+}
+
+pub fn begun_reader(k: u32) -> Reader
+    ensures { λ r. ⌜ r ≡ begunReader k ⌝ }
+{
+    Reader {
+        reading: true,
+        key: k,
+        node: 0,
+    }
+}
+
+pub fn moved_reader(x: Reader, n: u32) -> Reader
+    ensures { λ r. ⌜ r ≡ movedReader x n ⌝ }
+{
+    Reader {
+        reading: true,
+        key: x.key,
+        node: n,
+    }
+}
+
+// no store, and a write without any
+pub fn vacant() -> Store
+    ensures { λ r. ⌜ r ≡ vacant ⌝ }
+{
+    Store {
+        link: Link::Root,
+        step: Step::Vacant,
+    }
+}
+
+pub fn no_write() -> Write
+    ensures { λ r. ⌜ r ≡ noWrite ⌝ }
+{
+    let none = vacant();
+    Write {
+        stores: [none; numbers::MOST_STORES],
+        count: 0,
+    }
+}
 
 pub fn with_write(reg: Register, w: Write) -> Register
     ensures { λ r. ⌜ r ≡ withWrite reg w ⌝ }

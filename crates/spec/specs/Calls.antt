@@ -153,11 +153,14 @@ unfoldable pub delete : State → ℕ → Outcome
 delete st k = unless (deleteTests st k) st (acceptedPlan st (deleteAt st (placeOf st k)))
 
 -- A writer's turn makes the first store still to come. It answers done if no store is left after it, more otherwise.
+abbrev pub storeAnswer : ℕ → Link → ℕ → Answer
+storeAnswer count l n = cond (eqb count 0) (done l n) (more l n)
+
 unfoldable pub stored : Made → Outcome
 stored m =
     let r = m .after .register in
     let left = lessFirst (r .write) in
-    outcome (cond (eqb (left .count) 0) (done (m .link) (m .node)) (more (m .link) (m .node))) (state (m .after .pool) (withWrite r left))
+    outcome (storeAnswer (left .count) (m .link) (m .node)) (state (m .after .pool) (withWrite r left))
 
 -- While the register's awaited slots aren't 0 a turn answers wait, changing nothing; then its own step is tested.
 abbrev pub waiting : State → Bool

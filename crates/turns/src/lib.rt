@@ -15,7 +15,7 @@ ghost use Prim.Native.Nat.{ℕ, _<_};
 ghost use lib.ListN.{length};
 ghost use Rattle.spec.specs.Numbers.{poolLimit};
 ghost use Rattle.spec.specs.Register.{state, withWrite, lessFirst};
-ghost use Rattle.spec.specs.Calls.{writerSays, refused, stored, writeInHand, writerTurn};
+ghost use Rattle.spec.specs.Calls.{writerSays, storeAnswer, stored, writeInHand, writerTurn};
 ghost use Rattle.laws.specs.Tests.{lentNumber};
 ghost use Rattle.heads.specs.Head.{left};
 ghost use Rattle.turns.specs.Made.{publishes, TriesAny, FirstTold};
@@ -52,10 +52,7 @@ pub fn less_first(w: Write) -> Write
     r.stores[3] = w.stores[4];
     r.stores[4] = w.stores[5];
     r.stores[5] = w.stores[6];
-    r.stores[6] = Store {
-        link: Link::Root,
-        step: Step::Vacant,
-    };
+    r.stores[6] = register::vacant();
     r.count = counts::count_down(w.count);
     r
 }
@@ -80,6 +77,16 @@ fn publishes(x: Step) -> bool
     }
 }
 
+// done if no store is left, more otherwise, with the link stored and its new node
+fn store_answer(count: u32, l: Link, n: u32) -> WriterAnswer
+    ensures { λ r. ⌜ writerSays r ≡ storeAnswer count l n ⌝ }
+{
+    if count == 0 {
+        return WriterAnswer::Done(l, n);
+    }
+    WriterAnswer::More(l, n)
+}
+
 // The register put together after a made step, and the answer: done if no store is left, more otherwise. w is the write in hand before.
 fn stored(reg: Register, t: StepResult, w: Write) -> WriterReply
     ensures { λ r. ⌜ ((p : List ℕ) → (writerSays (r .answer) ≡ stored (left p t (withWrite reg w)) .answer) × (state p (r .register) ≡ stored (left p t (withWrite reg w)) .after)) ⌝ }
@@ -88,25 +95,8 @@ fn stored(reg: Register, t: StepResult, w: Write) -> WriterReply
     let head = t.head;
     let left = less_first(w);
     let register = register::with_write(heads::with_head(reg, head), left);
-    if left.count == 0 {
-        return WriterReply {
-            answer: WriterAnswer::Done(link, t.node),
-            register,
-        };
-    }
-    WriterReply {
-        answer: WriterAnswer::More(link, t.node),
-        register,
-    }
-}
-
-pub fn refused(number: u32, register: Register) -> WriterReply
-    ensures { λ r. ⌜ (writerSays (r .answer) ≡ refused number) × (r .register ≡ register) ⌝ }
-{
-    WriterReply {
-        answer: WriterAnswer::Refused(number),
-        register,
-    }
+    let answer = store_answer(left.count, link, t.node);
+    WriterReply { answer, register }
 }
 
 // The step of the first store, tried.
@@ -142,13 +132,13 @@ pub fn make_first(pool: &mut [u32], reg: Register) -> WriterReply
         let b = pool::node_at(pool, reg.root, link);
         let t = first_step(pool, reg);
         if !t.found {
-            return refused(12, reg);
+            return replies::refuses_writer(12, reg);
         }
         return stored(reg, t, stores::moved_write(b, reg.first, hand));
     }
     let t = first_step(pool, reg);
     if !t.found {
-        return refused(12, reg);
+        return replies::refuses_writer(12, reg);
     }
     stored(reg, t, hand)
 }

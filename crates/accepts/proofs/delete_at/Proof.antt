@@ -12,7 +12,7 @@ use Rattle.accepts.proofs.delete_at.Tie as tie
 use Rattle.accepts.proofs.delete_at.Reads as reads
 use Rattle.accepts.proofs.delete_at.Lts as lts
 use Rattle.accepts.proofs.accepted.Reads as accepted-reads
-use Rattle.accepts.proofs.refused.Reads as refused-reads
+use Rattle.replies.proofs.refused.Reads as refused-reads
 use Rattle.plans.proofs.delete_plan.Reads as delete-plan-reads
 
 refused-requires : tie.Need-refused-requires
@@ -28,15 +28,15 @@ refused-requires-2 : tie.Need-refused-requires-2
 refused-requires-2 c κs = search needs
 
 returns-2 : tie.Need-returns-2
-returns-2 c = let a = c .before .before .before .before .before .before .args in let st = state (a .pool .now) (a .reg) in let p : deletePlan st (a .l) (a .n) .possible ≡ false = sym (c .before .before .delete-plan .ensures .0) ∙ not-true _ (c .before .if2 .taken) in
-    let e = delete-missing st (a .k) (c .before .before .before .before .before .before .pre .0) (c .before .before .before .before .before .before .pre .1) (a .l) (a .n) (c .before .before .before .before .before .before .pre .2) (le-ltb _ _ (c .before .before .before .if1 .left)) p in (c .refused2 .ensures .0 ∙ sym (ap (λ (o : Outcome). o .answer) e), rw (c .refused2 .ensures .1) (sym (ap (λ (o : Outcome). o .after) e)))
+returns-2 c = let a = c .before .before .before .before .before .before .before .args in let st = state (a .pool .now) (a .reg) in let p : deletePlan st (a .l) (a .n) .possible ≡ false = sym (c .before .before .before .delete-plan .ensures .0) ∙ not-true _ (c .before .if2 .taken) in
+    let e = delete-missing st (a .k) (c .before .before .before .before .before .before .before .pre .0) (c .before .before .before .before .before .before .before .pre .1) (a .l) (a .n) (c .before .before .before .before .before .before .before .pre .2) (le-ltb _ _ (c .before .before .before .before .if1 .left)) p in (c .refused2 .ensures .0 ∙ sym (ap (λ (o : Outcome). o .answer) e), rw (c .refused2 .ensures .1) (sym (ap (λ (o : Outcome). o .after) e)))
 
 accepted-requires : tie.Need-accepted-requires
 accepted-requires c κs = search needs
 
 returns-3 : tie.Need-returns-3
-returns-3 c = let a = c .before .before .before .before .before .before .before .args in let st = state (a .pool .now) (a .reg) in let p : deletePlan st (a .l) (a .n) .possible ≡ true = sym (c .before .before .before .delete-plan .ensures .0) ∙ not-false _ (c .before .before .if2 .left) in
-    let e = delete-goes st (a .k) (c .before .before .before .before .before .before .before .pre .0) (c .before .before .before .before .before .before .before .pre .1) (a .l) (a .n) (c .before .before .before .before .before .before .before .pre .2) (le-ltb _ _ (c .before .before .before .before .if1 .left)) p in (c .accepted .ensures .0 ∙ sym (ap (λ (o : Outcome). o .answer) e), rw (c .accepted .ensures .1, c .before .before .before .delete-plan .ensures .1) (sym (ap (λ (o : Outcome). o .after) e)))
+returns-3 c = let a = c .before .before .before .before .before .before .before .before .args in let st = state (a .pool .now) (a .reg) in let p : deletePlan st (a .l) (a .n) .possible ≡ true = sym (c .before .before .before .before .delete-plan .ensures .0) ∙ not-false _ (c .before .before .if2 .left) in
+    let e = delete-goes st (a .k) (c .before .before .before .before .before .before .before .before .pre .0) (c .before .before .before .before .before .before .before .before .pre .1) (a .l) (a .n) (c .before .before .before .before .before .before .before .before .pre .2) (le-ltb _ _ (c .before .before .before .before .before .if1 .left)) p in (c .accepted .ensures .0 ∙ sym (ap (λ (o : Outcome). o .answer) e), rw (c .accepted .ensures .1, c .before .before .before .before .delete-plan .ensures .1) (sym (ap (λ (o : Outcome). o .after) e)))
 
 pub delete-at-spec : {M : Type 1} → statement M
 delete-at-spec =

@@ -14,7 +14,7 @@ use Rattle.accepts.proofs.insert_at.Tie as tie
 use Rattle.accepts.proofs.insert_at.Reads as reads
 use Rattle.accepts.proofs.insert_at.Lts as lts
 use Rattle.accepts.proofs.accepted.Reads as accepted-reads
-use Rattle.accepts.proofs.refused.Reads as refused-reads
+use Rattle.replies.proofs.refused.Reads as refused-reads
 use Rattle.plans.proofs.insert_plan.Reads as insert-plan-reads
 use Rattle.pool.proofs.nodes.Reads as nodes-reads
 
@@ -49,13 +49,13 @@ refused-requires-3 : tie.Need-refused-requires-3
 refused-requires-3 c κs = search needs
 
 returns-3 : tie.Need-returns-3
-returns-3 c = let a = c .before .before .before .before .before .before .before .before .before .args in let st = state (a .pool .now) (a .reg) in let f : full st ≡ false = reserve-false (nodes (a .pool .now)) (a .reg .held) (rw (← (c .before .before .before .before .before .before .before .nodes .ensures)) (c .before .before .before .before .before .if1 .left)) in let p : insertPlan st (a .k) (a .v) (a .l) .possible ≡ false = sym (c .before .before .insert-plan .ensures .0) ∙ not-true _ (c .before .if3 .taken) in let e = insert-missing st (a .k) (a .v) (c .before .before .before .before .before .before .before .before .before .pre .0) (c .before .before .before .before .before .before .before .before .before .pre .1) (a .l) (c .before .before .before .before .before .before .before .before .before .pre .2) f (le-ltb _ _ (c .before .before .before .if2 .left)) p in (c .refused3 .ensures .0 ∙ sym (ap (λ (o : Outcome). o .answer) e), rw (c .refused3 .ensures .1) (sym (ap (λ (o : Outcome). o .after) e)))
+returns-3 c = let a = c .before .before .before .before .before .before .before .before .before .before .args in let st = state (a .pool .now) (a .reg) in let f : full st ≡ false = reserve-false (nodes (a .pool .now)) (a .reg .held) (rw (← (c .before .before .before .before .before .before .before .before .nodes .ensures)) (c .before .before .before .before .before .before .if1 .left)) in let p : insertPlan st (a .k) (a .v) (a .l) .possible ≡ false = sym (c .before .before .before .insert-plan .ensures .0) ∙ not-true _ (c .before .if3 .taken) in let e = insert-missing st (a .k) (a .v) (c .before .before .before .before .before .before .before .before .before .before .pre .0) (c .before .before .before .before .before .before .before .before .before .before .pre .1) (a .l) (c .before .before .before .before .before .before .before .before .before .before .pre .2) f (le-ltb _ _ (c .before .before .before .before .if2 .left)) p in (c .refused3 .ensures .0 ∙ sym (ap (λ (o : Outcome). o .answer) e), rw (c .refused3 .ensures .1) (sym (ap (λ (o : Outcome). o .after) e)))
 
 accepted-requires : tie.Need-accepted-requires
 accepted-requires c κs = search needs
 
 returns-4 : tie.Need-returns-4
-returns-4 c = let a = c .before .before .before .before .before .before .before .before .before .before .args in let st = state (a .pool .now) (a .reg) in let f : full st ≡ false = reserve-false (nodes (a .pool .now)) (a .reg .held) (rw (← (c .before .before .before .before .before .before .before .before .nodes .ensures)) (c .before .before .before .before .before .before .if1 .left)) in let p : insertPlan st (a .k) (a .v) (a .l) .possible ≡ true = sym (c .before .before .before .insert-plan .ensures .0) ∙ not-false _ (c .before .before .if3 .left) in let e = insert-goes st (a .k) (a .v) (c .before .before .before .before .before .before .before .before .before .before .pre .0) (c .before .before .before .before .before .before .before .before .before .before .pre .1) (a .l) (c .before .before .before .before .before .before .before .before .before .before .pre .2) f (le-ltb _ _ (c .before .before .before .before .if2 .left)) p in (c .accepted .ensures .0 ∙ sym (ap (λ (o : Outcome). o .answer) e), rw (c .accepted .ensures .1, c .before .before .before .insert-plan .ensures .1) (sym (ap (λ (o : Outcome). o .after) e)))
+returns-4 c = let a = c .before .before .before .before .before .before .before .before .before .before .before .args in let st = state (a .pool .now) (a .reg) in let f : full st ≡ false = reserve-false (nodes (a .pool .now)) (a .reg .held) (rw (← (c .before .before .before .before .before .before .before .before .before .nodes .ensures)) (c .before .before .before .before .before .before .before .if1 .left)) in let p : insertPlan st (a .k) (a .v) (a .l) .possible ≡ true = sym (c .before .before .before .before .insert-plan .ensures .0) ∙ not-false _ (c .before .before .if3 .left) in let e = insert-goes st (a .k) (a .v) (c .before .before .before .before .before .before .before .before .before .before .before .pre .0) (c .before .before .before .before .before .before .before .before .before .before .before .pre .1) (a .l) (c .before .before .before .before .before .before .before .before .before .before .before .pre .2) f (le-ltb _ _ (c .before .before .before .before .before .if2 .left)) p in (c .accepted .ensures .0 ∙ sym (ap (λ (o : Outcome). o .answer) e), rw (c .accepted .ensures .1, c .before .before .before .before .insert-plan .ensures .1) (sym (ap (λ (o : Outcome). o .after) e)))
 
 pub insert-at-spec : {M : Type 1} → statement M
 insert-at-spec =

@@ -12,7 +12,7 @@ use Rattle.index.proofs.delete.Tie as tie
 use Rattle.index.proofs.delete.Reads as reads
 use Rattle.index.proofs.delete.Lts as lts
 use Rattle.accepts.proofs.delete_at.Reads as delete-at-reads
-use Rattle.accepts.proofs.refused.Reads as refused-reads
+use Rattle.replies.proofs.refused.Reads as refused-reads
 use Rattle.refusals.proofs.lent_refusal.Reads as lent-refusal-reads
 use Rattle.search.proofs.seek.Reads as seek-reads
 

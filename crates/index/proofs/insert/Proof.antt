@@ -12,7 +12,7 @@ use Rattle.index.proofs.insert.Reads as reads
 use Rattle.index.proofs.insert.Lts as lts
 use Rattle.accepts.proofs.insert_at.Reads as insert-at-reads
 use Rattle.refusals.proofs.lent_refusal.Reads as lent-refusal-reads
-use Rattle.accepts.proofs.refused.Reads as refused-reads
+use Rattle.replies.proofs.refused.Reads as refused-reads
 use Rattle.search.proofs.seek.Reads as seek-reads
 
 lent-refusal-requires : tie.Need-lent-refusal-requires

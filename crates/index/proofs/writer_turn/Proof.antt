@@ -12,30 +12,30 @@ use Rattle.index.proofs.writer_turn.Reads as reads
 use Rattle.index.proofs.writer_turn.Lts as lts
 use Rattle.refusals.proofs.lent_refusal.Reads as lent-refusal-reads
 use Rattle.turns.proofs.make_first.Reads as make-first-reads
-use Rattle.turns.proofs.refused.Reads as refused-reads
+use Rattle.replies.proofs.refuses_writer.Reads as refuses-writer-reads
 
 lent-refusal-requires : tie.Need-lent-refusal-requires
 lent-refusal-requires c κs = search needs
 
-refused-requires : tie.Need-refused-requires
-refused-requires c κs = search needs
+refuses-writer-requires : tie.Need-refuses-writer-requires
+refuses-writer-requires c κs = search needs
 
 same-length : tie.Need-same-length
 same-length c = search needs
 
 returns : tie.Need-returns
 returns c = let a = c .before .before .before .before .before .args in let st = state (a .pool .now) (a .reg) in let e = writer-lent st (λ z. c .before .if1 .taken (c .before .before .lent-refusal .ensures ∙ z)) in
-    (c .refused .ensures .0 ∙ rw (c .before .before .lent-refusal .ensures) (sym (ap (λ (o : Outcome). o .answer) e)), rw (c .refused .ensures .1) (sym (ap (λ (o : Outcome). o .after) e)))
+    (c .refuses-writer .ensures .0 ∙ rw (c .before .before .lent-refusal .ensures) (sym (ap (λ (o : Outcome). o .answer) e)), rw (c .refuses-writer .ensures .1) (sym (ap (λ (o : Outcome). o .after) e)))
 
-refused-requires-2 : tie.Need-refused-requires-2
-refused-requires-2 c κs = search needs
+refuses-writer-requires-2 : tie.Need-refuses-writer-requires-2
+refuses-writer-requires-2 c κs = search needs
 
 same-length-2 : tie.Need-same-length-2
 same-length-2 c = search needs
 
 returns-2 : tie.Need-returns-2
 returns-2 c = let a = c .before .before .before .before .before .before .before .before .args in let st = state (a .pool .now) (a .reg) in let w : writeInHand st ≡ false = rw (eq-eqb _ _ (c .before .if2 .taken)) in let e = writer-idle st (sym (c .before .before .before .before .before .lent-refusal .ensures) ∙ c .before .before .before .before .if1 .left) w in
-    (c .refused2 .ensures .0 ∙ sym (ap (λ (o : Outcome). o .answer) e), rw (c .refused2 .ensures .1) (sym (ap (λ (o : Outcome). o .after) e)))
+    (c .refuses-writer2 .ensures .0 ∙ sym (ap (λ (o : Outcome). o .answer) e), rw (c .refuses-writer2 .ensures .1) (sym (ap (λ (o : Outcome). o .after) e)))
 
 same-length-3 : tie.Need-same-length-3
 same-length-3 c = search needs
@@ -58,10 +58,10 @@ writer-turn-spec =
     tie.close
     (tie.spec
     lent-refusal-requires
-    refused-requires
+    refuses-writer-requires
     same-length
     returns
-    refused-requires-2
+    refuses-writer-requires-2
     same-length-2
     returns-2
     same-length-3

@@ -1,4 +1,4 @@
-use Rattle.plans.specs.Pushed.{push-write, removal-short}
+use Rattle.plans.specs.Pushed.{no-stores, push-write, removal-short}
 use Rattle.plans.specs.Deletes.{nextNode, nextRemoval, successor-near, successor-far}
 use Rattle.spec.specs.Plan.{store, endingStores}
 use Rattle.spec.specs.Pool.{word, child, keyWord}
@@ -17,7 +17,7 @@ use Rattle.plans.proofs.successor_plan.Reads as reads
 use Rattle.plans.proofs.successor_plan.Lts as lts
 use Rattle.delete_fixups.proofs.fixup_after_removal.Reads as fixup-after-removal-reads
 use Rattle.paths.proofs.nearest.Reads as nearest-reads
-use Rattle.plans.proofs.no_write.Reads as no-write-reads
+use Rattle.register.proofs.no_write.Reads as no-write-reads
 use Rattle.plans.proofs.plan.Reads as plan-reads
 use Rattle.plans.proofs.two_stores.Reads as two-stores-reads
 use Rattle.pool.proofs.child.Reads as child-reads
@@ -28,7 +28,7 @@ no-write-requires : tie.Need-no-write-requires
 no-write-requires c κs = search needs
 
 returns : tie.Need-returns
-returns c = rw (upward-zero (c .before .before .before .before .args .path .now) (c .before .before .before .before .args .depth) (c .before .if1 .taken)) (refl, c .no-write .ensures)
+returns c = rw (upward-zero (c .before .before .before .before .args .path .now) (c .before .before .before .before .args .depth) (c .before .if1 .taken)) (refl, c .no-write .ensures ∙ sym no-stores)
 
 nearest-requires : tie.Need-nearest-requires
 nearest-requires c κs = search needs

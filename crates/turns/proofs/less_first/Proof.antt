@@ -9,6 +9,7 @@ use Rattle.turns.proofs.less_first.Statement.{statement}
 use Rattle.turns.proofs.less_first.Tie as tie
 use Rattle.turns.proofs.less_first.Reads as reads
 use Rattle.turns.proofs.less_first.Lts as lts
+use Rattle.register.proofs.vacant.Reads as vacant-reads
 use Rattle.counts.proofs.count_down.Reads as count-down-reads
 
 element-copy-out-r : tie.Need-element-copy-out-r
@@ -47,6 +48,9 @@ element-copy-out-r-6 c = search needs
 element-set-from-r-6 : tie.Need-element-set-from-r-6
 element-set-from-r-6 c = search needs
 
+vacant-requires : tie.Need-vacant-requires
+vacant-requires c κs = search needs
+
 element-set-from-r-7 : tie.Need-element-set-from-r-7
 element-set-from-r-7 c = search needs
 
@@ -55,7 +59,11 @@ count-down-requires c κs = search needs
 
 returns : tie.Need-returns
 unfolding lessFirst
-returns c = let w = c .before .before .before .before .before .before .before .args .t1 in let e = shift-up (w .stores) (simp length-map at (c .before .before .before .before .before .before .before .good .0 .1 .1 .0 .1 .0 .1)) in λ i. record { stores = e i; count = c .count-down .ensures i }
+returns c =
+    let f = c .before .before .before .before .before .before .before .before in
+    let w = f .args .t1 in
+    let e = shift-up (w .stores) (simp length-map at (f .good .0 .1 .1 .0 .1 .0 .1)) in
+    rw (c .before .vacant .ensures) (λ i. record { stores = e i; count = c .count-down .ensures i })
 
 pub less-first-spec : {M : Type 1} → statement M
 less-first-spec =
@@ -73,6 +81,7 @@ less-first-spec =
     element-set-from-r-5
     element-copy-out-r-6
     element-set-from-r-6
+    vacant-requires
     element-set-from-r-7
     count-down-requires
     returns)

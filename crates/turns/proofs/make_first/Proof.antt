@@ -18,7 +18,7 @@ use Rattle.pool.proofs.node_at.Reads as node-at-reads
 use Rattle.stores.proofs.moved_write.Reads as moved-write-reads
 use Rattle.turns.proofs.first_step.Reads as first-step-reads
 use Rattle.turns.proofs.publishes.Reads as publishes-reads
-use Rattle.turns.proofs.refused.Reads as refused-reads
+use Rattle.replies.proofs.refuses_writer.Reads as refuses-writer-reads
 use Rattle.turns.proofs.stored.Reads as stored-reads
 
 element-copy-out-x : tie.Need-element-copy-out-x
@@ -33,17 +33,17 @@ node-at-requires c κs = search needs
 first-step-requires : tie.Need-first-step-requires
 first-step-requires c κs = let a = c .before .before .before .before .before .before .before .before .args in lent (state (a .pool .now) (a .reg)) (c .before .before .before .before .before .before .before .before .pre .0) .size
 
-refused-requires : tie.Need-refused-requires
-refused-requires c κs = search needs
+refuses-writer-requires : tie.Need-refuses-writer-requires
+refuses-writer-requires c κs = search needs
 
 same-length : tie.Need-same-length
 same-length c = search needs
 
 returns : tie.Need-returns
-returns c = let a = c .before .before .before .before .before .before .before .before .before .before .before .before .before .args in let st = state (a .pool .now) (a .reg) in let x = storeOf (a .reg) 0 in let t = c .before .before .before .before .first-step in let z = t .ensures in
+returns c = let a = c .before .before .before .before .before .before .before .before .before .before .before .before .before .before .args in let st = state (a .pool .now) (a .reg) in let x = storeOf (a .reg) 0 in let t = c .before .before .before .before .before .first-step in let z = t .ensures in
     let f : stepFinds st (x .link) (x .step) ≡ false = sym (z .0) ∙ not-true _ (c .before .if2 .taken) in
-    let e = writer-missed st (c .before .before .before .before .before .before .before .before .before .before .before .before .before .pre .0) (c .before .before .before .before .before .before .before .before .before .before .before .before .before .pre .1) (c .before .before .before .before .before .before .before .before .before .before .before .before .before .pre .2) f in
-    (c .refused .ensures .0 ∙ sym (ap (λ (o : Outcome). o .answer) e), rw (c .refused .ensures .1) (ap (λ (p : List ℕ). state p (a .reg)) (z .2 (not-true _ (c .before .if2 .taken))) ∙ sym (ap (λ (o : Outcome). o .after) e)))
+    let e = writer-missed st (c .before .before .before .before .before .before .before .before .before .before .before .before .before .before .pre .0) (c .before .before .before .before .before .before .before .before .before .before .before .before .before .before .pre .1) (c .before .before .before .before .before .before .before .before .before .before .before .before .before .before .pre .2) f in
+    (c .refuses-writer .ensures .0 ∙ sym (ap (λ (o : Outcome). o .answer) e), rw (c .refuses-writer .ensures .1) (ap (λ (p : List ℕ). state p (a .reg)) (z .2 (not-true _ (c .before .if2 .taken))) ∙ sym (ap (λ (o : Outcome). o .after) e)))
 
 moved-write-requires : tie.Need-moved-write-requires
 moved-write-requires c κs = search needs
@@ -55,26 +55,26 @@ same-length-2 : tie.Need-same-length-2
 same-length-2 c = search needs
 
 returns-2 : tie.Need-returns-2
-returns-2 c = let a = c .before .before .before .before .before .before .before .before .before .before .before .before .before .before .args in let st = state (a .pool .now) (a .reg) in let x = storeOf (a .reg) 0 in let t = c .before .before .before .before .before .first-step in let z = t .ensures in
+returns-2 c = let a = c .before .before .before .before .before .before .before .before .before .before .before .before .before .before .before .args in let st = state (a .pool .now) (a .reg) in let x = storeOf (a .reg) 0 in let t = c .before .before .before .before .before .before .first-step in let z = t .ensures in
     let f : stepFinds st (x .link) (x .step) ≡ true = sym (z .0) ∙ not-false _ (c .before .before .if2 .left) in
-    let e = ap stored (z .1 (not-false _ (c .before .before .if2 .left))) ∙ sym (writer-stores st (c .before .before .before .before .before .before .before .before .before .before .before .before .before .before .pre .0) (c .before .before .before .before .before .before .before .before .before .before .before .before .before .before .pre .1) (c .before .before .before .before .before .before .before .before .before .before .before .before .before .before .pre .2) f) in
+    let e = ap stored (z .1 (not-false _ (c .before .before .if2 .left))) ∙ sym (writer-stores st (c .before .before .before .before .before .before .before .before .before .before .before .before .before .before .before .pre .0) (c .before .before .before .before .before .before .before .before .before .before .before .before .before .before .before .pre .1) (c .before .before .before .before .before .before .before .before .before .before .before .before .before .before .before .pre .2) f) in
     turn-made (t .last .0) (t .result) (a .reg) (x .step) (nodeAt (a .pool .now) (a .reg .root) (x .link)) (a .reg .first) (c .before .moved-write .result) (writerSays (c .stored .result .answer)) (state (t .last .0) (c .stored .result .register)) (writerTurn st) e
-    (rw (← (c .before .before .before .before .before .before .before .before .before .before .publishes .ensures), c .before .before .before .before .before .before .before .before .before .if1 .taken) (c .before .moved-write .ensures ∙ rw (c .before .before .before .before .before .before .before .node-at .ensures))) (c .stored .ensures (t .last .0))
+    (rw (← (c .before .before .before .before .before .before .before .before .before .before .before .publishes .ensures), c .before .before .before .before .before .before .before .before .before .before .if1 .taken) (c .before .moved-write .ensures ∙ rw (c .before .before .before .before .before .before .before .before .node-at .ensures))) (c .stored .ensures (t .last .0))
 
 first-step-requires-2 : tie.Need-first-step-requires-2
 first-step-requires-2 c κs = let a = c .before .before .before .before .before .before .args in lent (state (a .pool .now) (a .reg)) (c .before .before .before .before .before .before .pre .0) .size
 
-refused-requires-2 : tie.Need-refused-requires-2
-refused-requires-2 c κs = search needs
+refuses-writer-requires-2 : tie.Need-refuses-writer-requires-2
+refuses-writer-requires-2 c κs = search needs
 
 same-length-3 : tie.Need-same-length-3
 same-length-3 c = search needs
 
 returns-3 : tie.Need-returns-3
-returns-3 c = let a = c .before .before .before .before .before .before .before .before .before .before .before .args in let st = state (a .pool .now) (a .reg) in let x = storeOf (a .reg) 0 in let t = c .before .before .before .before .first-step2 in let z = t .ensures in
+returns-3 c = let a = c .before .before .before .before .before .before .before .before .before .before .before .before .args in let st = state (a .pool .now) (a .reg) in let x = storeOf (a .reg) 0 in let t = c .before .before .before .before .before .first-step2 in let z = t .ensures in
     let f : stepFinds st (x .link) (x .step) ≡ false = sym (z .0) ∙ not-true _ (c .before .if3 .taken) in
-    let e = writer-missed st (c .before .before .before .before .before .before .before .before .before .before .before .pre .0) (c .before .before .before .before .before .before .before .before .before .before .before .pre .1) (c .before .before .before .before .before .before .before .before .before .before .before .pre .2) f in
-    (c .refused2 .ensures .0 ∙ sym (ap (λ (o : Outcome). o .answer) e), rw (c .refused2 .ensures .1) (ap (λ (p : List ℕ). state p (a .reg)) (z .2 (not-true _ (c .before .if3 .taken))) ∙ sym (ap (λ (o : Outcome). o .after) e)))
+    let e = writer-missed st (c .before .before .before .before .before .before .before .before .before .before .before .before .pre .0) (c .before .before .before .before .before .before .before .before .before .before .before .before .pre .1) (c .before .before .before .before .before .before .before .before .before .before .before .before .pre .2) f in
+    (c .refuses-writer2 .ensures .0 ∙ sym (ap (λ (o : Outcome). o .answer) e), rw (c .refuses-writer2 .ensures .1) (ap (λ (p : List ℕ). state p (a .reg)) (z .2 (not-true _ (c .before .if3 .taken))) ∙ sym (ap (λ (o : Outcome). o .after) e)))
 
 stored-requires-2 : tie.Need-stored-requires-2
 stored-requires-2 c κs = search needs
@@ -83,11 +83,11 @@ same-length-4 : tie.Need-same-length-4
 same-length-4 c = search needs
 
 returns-4 : tie.Need-returns-4
-returns-4 c = let a = c .before .before .before .before .before .before .before .before .before .before .before .args in let st = state (a .pool .now) (a .reg) in let x = storeOf (a .reg) 0 in let t = c .before .before .before .before .first-step2 in let z = t .ensures in
+returns-4 c = let a = c .before .before .before .before .before .before .before .before .before .before .before .before .args in let st = state (a .pool .now) (a .reg) in let x = storeOf (a .reg) 0 in let t = c .before .before .before .before .before .first-step2 in let z = t .ensures in
     let f : stepFinds st (x .link) (x .step) ≡ true = sym (z .0) ∙ not-false _ (c .before .if3 .left) in
-    let e = ap stored (z .1 (not-false _ (c .before .if3 .left))) ∙ sym (writer-stores st (c .before .before .before .before .before .before .before .before .before .before .before .pre .0) (c .before .before .before .before .before .before .before .before .before .before .before .pre .1) (c .before .before .before .before .before .before .before .before .before .before .before .pre .2) f) in
+    let e = ap stored (z .1 (not-false _ (c .before .if3 .left))) ∙ sym (writer-stores st (c .before .before .before .before .before .before .before .before .before .before .before .before .pre .0) (c .before .before .before .before .before .before .before .before .before .before .before .before .pre .1) (c .before .before .before .before .before .before .before .before .before .before .before .before .pre .2) f) in
     turn-made (t .last .0) (t .result) (a .reg) (x .step) (nodeAt (a .pool .now) (a .reg .root) (x .link)) (a .reg .first) (a .reg .write) (writerSays (c .stored2 .result .answer)) (state (t .last .0) (c .stored2 .result .register)) (writerTurn st) e
-    (rw (← (c .before .before .before .before .before .before .before .publishes .ensures), c .before .before .before .before .before .before .if1 .left)) (c .stored2 .ensures (t .last .0))
+    (rw (← (c .before .before .before .before .before .before .before .before .publishes .ensures), c .before .before .before .before .before .before .before .if1 .left)) (c .stored2 .ensures (t .last .0))
 
 pub make-first-spec : {M : Type 1} → statement M
 make-first-spec =
@@ -97,7 +97,7 @@ make-first-spec =
     publishes-requires
     node-at-requires
     first-step-requires
-    refused-requires
+    refuses-writer-requires
     same-length
     returns
     moved-write-requires
@@ -105,7 +105,7 @@ make-first-spec =
     same-length-2
     returns-2
     first-step-requires-2
-    refused-requires-2
+    refuses-writer-requires-2
     same-length-3
     returns-3
     stored-requires-2

@@ -12,6 +12,7 @@ use Rattle.turns.proofs.stored.Lts as lts
 use Rattle.heads.proofs.with_head.Reads as with-head-reads
 use Rattle.register.proofs.with_write.Reads as with-write-reads
 use Rattle.turns.proofs.less_first.Reads as less-first-reads
+use Rattle.turns.proofs.store_answer.Reads as store-answer-reads
 
 less-first-requires : tie.Need-less-first-requires
 less-first-requires c κs = search needs
@@ -22,19 +23,15 @@ with-head-requires c κs = search needs
 with-write-requires : tie.Need-with-write-requires
 with-write-requires c κs = search needs
 
+store-answer-requires : tie.Need-store-answer-requires
+store-answer-requires c κs = search needs
+
 returns : tie.Need-returns
 unfolding stored withWrite
-returns c = λ p. let a = c .before .before .before .before .before .before .args in
-    let e : eqb (lessFirst (a .w) .count) 0 ≡ true = rw (← (c .before .before .before .before .less-first .ensures)) (eq-eqb _ _ (c .if1 .taken)) in
-    rw (e, c .before .before .with-write .ensures, c .before .before .before .with-head .ensures, c .before .before .before .before .less-first .ensures) (refl, refl)
-
-returns-2 : tie.Need-returns-2
-unfolding stored withWrite
-returns-2 c = λ p. let a = c .before .before .before .before .before .before .args in
-    let e : eqb (lessFirst (a .w) .count) 0 ≡ false = rw (← (c .before .before .before .before .less-first .ensures)) (ne-eqb _ _ (c .if1 .left)) in
-    rw (e, c .before .before .with-write .ensures, c .before .before .before .with-head .ensures, c .before .before .before .before .less-first .ensures) (refl, refl)
+returns c = λ p. let w = c .before .before .before .less-first .ensures in
+    (rw (← w) (c .store-answer .ensures), rw (c .before .with-write .ensures, c .before .before .with-head .ensures, w) refl)
 
 pub stored-spec : {M : Type 1} → statement M
 stored-spec =
     tie.close
-    (tie.spec less-first-requires with-head-requires with-write-requires returns returns-2)
+    (tie.spec less-first-requires with-head-requires with-write-requires store-answer-requires returns)

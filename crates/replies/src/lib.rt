@@ -1,0 +1,63 @@
+// The replies of the calls, one maker for each kind of answer.
+use datatypes::Acceptance;
+use datatypes::ReaderAnswer;
+use datatypes::ReaderReply;
+use datatypes::Register;
+use datatypes::Reply;
+use datatypes::WriterAnswer;
+use datatypes::WriterReply;
+ghost use mathlib.Core.Path.{_≡_};
+ghost use Rattle.spec.specs.Calls.{ok, wait, refused, accepts, writerSays, readerSays};
+
+pub fn accepted(register: Register) -> Reply
+    ensures { λ r. ⌜ (accepts (r .answer) ≡ ok) × (r .register ≡ register) ⌝ }
+{
+    Reply {
+        answer: Acceptance::Accepted,
+        register,
+    }
+}
+
+pub fn refused(number: u32, register: Register) -> Reply
+    ensures { λ r. ⌜ (accepts (r .answer) ≡ refused number) × (r .register ≡ register) ⌝ }
+{
+    Reply {
+        answer: Acceptance::Refused(number),
+        register,
+    }
+}
+
+// the writer's that make no store
+pub fn refuses_writer(number: u32, register: Register) -> WriterReply
+    ensures { λ r. ⌜ (writerSays (r .answer) ≡ refused number) × (r .register ≡ register) ⌝ }
+{
+    WriterReply {
+        answer: WriterAnswer::Refused(number),
+        register,
+    }
+}
+
+pub fn waits(register: Register) -> WriterReply
+    ensures { λ r. ⌜ (writerSays (r .answer) ≡ wait) × (r .register ≡ register) ⌝ }
+{
+    WriterReply {
+        answer: WriterAnswer::Wait,
+        register,
+    }
+}
+
+// a reader's
+pub fn answers_reader(answer: ReaderAnswer, register: Register) -> ReaderReply
+    ensures { λ r. ⌜ (readerSays (r .answer) ≡ readerSays answer) × (r .register ≡ register) ⌝ }
+{
+    ReaderReply { answer, register }
+}
+
+pub fn refuses_reader(number: u32, register: Register) -> ReaderReply
+    ensures { λ r. ⌜ (readerSays (r .answer) ≡ refused number) × (r .register ≡ register) ⌝ }
+{
+    ReaderReply {
+        answer: ReaderAnswer::Refused(number),
+        register,
+    }
+}
