@@ -1,7 +1,7 @@
 use mathlib.Core.Path.{_≡_, sym, ap, _∙_}
 use native.Mathlib.Omega.{arith}
 use mathlib.Core.Bool.{Bool, true}
-use Rattle.spec.specs.Register.{state, withReader}
+use Rattle.spec.specs.Register.{state, begunReader, withReader}
 use Rattle.laws.specs.Tests.{slot-of, unless-refused, unless-done}
 use Rattle.refusals.specs.Slots.{index-of, slot-tests}
 use Rattle.datatypes.specs.declared.Reader.{Reader}
@@ -11,6 +11,9 @@ use Rattle.index.proofs.begin.Statement.{statement}
 use Rattle.index.proofs.begin.Tie as tie
 use Rattle.index.proofs.begin.Reads as reads
 use Rattle.index.proofs.begin.Lts as lts
+use Rattle.register.proofs.begun_reader.Reads as begun-reader-reads
+use Rattle.replies.proofs.refused.Reads as refused-reads
+use Rattle.replies.proofs.accepted.Reads as accepted-reads
 use Rattle.refusals.proofs.lent_refusal.Reads as lent-refusal-reads
 use Rattle.refusals.proofs.slot_index.Reads as slot-index-reads
 use Rattle.refusals.proofs.slot_refusal.Reads as slot-refusal-reads
@@ -30,12 +33,18 @@ element-copy-out-slot-refusal c = search needs
 slot-refusal-requires : tie.Need-slot-refusal-requires
 slot-refusal-requires c κs = search needs
 
+refused-requires : tie.Need-refused-requires
+refused-requires c κs = search needs
+
 returns : tie.Need-returns
 unfolding begin
-returns c = let a = c .before .before .before .before .before .args in let st = state (a .pool .now) (a .t2) in let i = c .before .before .slot-index in
-    let w : c .before .slot-refusal .result ≡ firstOf (beginTests st (a .s)) = c .before .slot-refusal .ensures ∙ rw (c .before .before .before .lent-refusal .ensures) (slot-tests st (a .s) (i .result) (λ (b : Bool). b) 4 (i .ensures .0)) in
-    let e = unless-refused (beginTests st (a .s)) st (outcome ok (state (st .pool) (withReader (st .register) (a .s) (record { reading = true; key = a .k; node = 0 })))) (c .before .slot-refusal .result) (sym w) (c .if1 .taken) in
-    (sym (ap (λ (o : Outcome). o .answer) e), sym (ap (λ (o : Outcome). o .after) e))
+returns c = let a = c .before .before .before .before .before .before .args in let st = state (a .pool .now) (a .t2) in let i = c .before .before .before .slot-index in
+    let w : c .before .before .slot-refusal .result ≡ firstOf (beginTests st (a .s)) = c .before .before .slot-refusal .ensures ∙ rw (c .before .before .before .before .lent-refusal .ensures) (slot-tests st (a .s) (i .result) (λ (b : Bool). b) 4 (i .ensures .0)) in
+    let e = unless-refused (beginTests st (a .s)) st (outcome ok (state (st .pool) (withReader (st .register) (a .s) (begunReader (a .k))))) (c .before .before .slot-refusal .result) (sym w) (c .before .if1 .taken) in
+    (c .refused .ensures .0 ∙ sym (ap (λ (o : Outcome). o .answer) e), rw (c .refused .ensures .1) (sym (ap (λ (o : Outcome). o .after) e)))
+
+begun-reader-requires : tie.Need-begun-reader-requires
+begun-reader-requires c κs = search needs
 
 mul-t10 : tie.Need-mul-t10
 mul-t10 c = search needs
@@ -43,14 +52,17 @@ mul-t10 c = search needs
 element-set-from-reg : tie.Need-element-set-from-reg
 element-set-from-reg c = search needs
 
+accepted-requires : tie.Need-accepted-requires
+accepted-requires c κs = search needs
+
 returns-2 : tie.Need-returns-2
 unfolding begin withReader
-returns-2 c = let a = c .before .before .before .before .before .args in let st = state (a .pool .now) (a .t2) in let i = c .before .before .slot-index in
-    let w : c .before .slot-refusal .result ≡ firstOf (beginTests st (a .s)) = c .before .slot-refusal .ensures ∙ rw (c .before .before .before .lent-refusal .ensures) (slot-tests st (a .s) (i .result) (λ (b : Bool). b) 4 (i .ensures .0)) in
-    let z = sym w ∙ c .if1 .left in
-    let e = unless-done (beginTests st (a .s)) st (outcome ok (state (st .pool) (withReader (st .register) (a .s) (record { reading = true; key = a .k; node = 0 })))) z in (
-      sym (ap (λ (o : Outcome). o .answer) e),
-      rw (index-of (a .s) (i .result) (i .ensures .0) (slot-of st (a .s) (reading st (a .s)) 4 (omega arith) z)) (sym (ap (λ (o : Outcome). o .after) e)),
+returns-2 c = let a = c .before .before .before .before .before .before .before .args in let st = state (a .pool .now) (a .t2) in let i = c .before .before .before .before .slot-index in
+    let w : c .before .before .before .slot-refusal .result ≡ firstOf (beginTests st (a .s)) = c .before .before .before .slot-refusal .ensures ∙ rw (c .before .before .before .before .before .lent-refusal .ensures) (slot-tests st (a .s) (i .result) (λ (b : Bool). b) 4 (i .ensures .0)) in
+    let z = sym w ∙ c .before .before .if1 .left in
+    let e = unless-done (beginTests st (a .s)) st (outcome ok (state (st .pool) (withReader (st .register) (a .s) (begunReader (a .k))))) z in (
+      c .accepted .ensures .0 ∙ sym (ap (λ (o : Outcome). o .answer) e),
+      rw (c .accepted .ensures .1, c .before .begun-reader .ensures, index-of (a .s) (i .result) (i .ensures .0) (slot-of st (a .s) (reading st (a .s)) 4 (omega arith) z)) (sym (ap (λ (o : Outcome). o .after) e)),
     )
 
 pub begin-spec : {M : Type 1} → statement M
@@ -62,7 +74,10 @@ begin-spec =
     mul-slot-refusal
     element-copy-out-slot-refusal
     slot-refusal-requires
+    refused-requires
     returns
+    begun-reader-requires
     mul-t10
     element-set-from-reg
+    accepted-requires
     returns-2)

@@ -13,7 +13,9 @@ use Rattle.index.proofs.give_up.Statement.{statement}
 use Rattle.index.proofs.give_up.Tie as tie
 use Rattle.index.proofs.give_up.Reads as reads
 use Rattle.index.proofs.give_up.Lts as lts
-use Rattle.lookups.proofs.reader_at.Reads as reader-at-reads
+use Rattle.replies.proofs.refused.Reads as refused-reads
+use Rattle.replies.proofs.accepted.Reads as accepted-reads
+use Rattle.register.proofs.no_reader.Reads as no-reader-reads
 use Rattle.queue.proofs.end_reading.Reads as end-reading-reads
 use Rattle.refusals.proofs.lent_refusal.Reads as lent-refusal-reads
 use Rattle.refusals.proofs.slot_index.Reads as slot-index-reads
@@ -34,15 +36,18 @@ element-copy-out-slot-refusal c = search needs
 slot-refusal-requires : tie.Need-slot-refusal-requires
 slot-refusal-requires c κs = search needs
 
+refused-requires : tie.Need-refused-requires
+refused-requires c κs = search needs
+
 same-length : tie.Need-same-length
 same-length c = search needs
 
 returns : tie.Need-returns
 unfolding giveUp
-returns c = let a = c .before .before .before .before .before .before .args in let st = state (a .pool .now) (a .t2) in let i = c .before .before .slot-index in
-    let w : c .before .slot-refusal .result ≡ firstOf (readerTests st (a .s)) = c .before .slot-refusal .ensures ∙ rw (c .before .before .before .lent-refusal .ensures) (slot-tests st (a .s) (i .result) (not) 5 (i .ensures .0)) in
-    let e = unless-refused (readerTests st (a .s)) st (outcome ok (endReading st (a .s))) (c .before .slot-refusal .result) (sym w) (c .if1 .taken) in
-    (sym (ap (λ (o : Outcome). o .answer) e), sym (ap (λ (o : Outcome). o .after) e))
+returns c = let a = c .before .before .before .before .before .before .before .args in let st = state (a .pool .now) (a .t2) in let i = c .before .before .before .slot-index in
+    let w : c .before .before .slot-refusal .result ≡ firstOf (readerTests st (a .s)) = c .before .before .slot-refusal .ensures ∙ rw (c .before .before .before .before .lent-refusal .ensures) (slot-tests st (a .s) (i .result) (not) 5 (i .ensures .0)) in
+    let e = unless-refused (readerTests st (a .s)) st (outcome ok (endReading st (a .s))) (c .before .before .slot-refusal .result) (sym w) (c .before .if1 .taken) in
+    (c .refused .ensures .0 ∙ sym (ap (λ (o : Outcome). o .answer) e), rw (c .refused .ensures .1) (sym (ap (λ (o : Outcome). o .after) e)))
 
 end-reading-requires : tie.Need-end-reading-requires
 end-reading-requires c κs = let a = c .before .before .before .before .before .before .before .args in let st = state (a .pool .now) (a .t2) in let i = c .before .before .before .slot-index in
@@ -50,8 +55,8 @@ end-reading-requires c κs = let a = c .before .before .before .before .before .
     let z = sym w ∙ c .before .if1 .left in
     (lent-of st (slotTooHigh (a .s) gives 3 ∷ not (reading st (a .s)) gives 5 ∷ []) z .size, slot-of st (a .s) (not (reading st (a .s))) 5 (omega arith) z)
 
-reader-at-requires : tie.Need-reader-at-requires
-reader-at-requires c κs = search needs
+no-reader-requires : tie.Need-no-reader-requires
+no-reader-requires c κs = search needs
 
 mul-t13 : tie.Need-mul-t13
 mul-t13 c = search needs
@@ -59,17 +64,20 @@ mul-t13 c = search needs
 element-set-from-reg : tie.Need-element-set-from-reg
 element-set-from-reg c = search needs
 
+accepted-requires : tie.Need-accepted-requires
+accepted-requires c κs = search needs
+
 same-length-2 : tie.Need-same-length-2
 same-length-2 c = search needs
 
 returns-2 : tie.Need-returns-2
 unfolding giveUp withReader
-returns-2 c = let a = c .before .before .before .before .before .before .before .before .before .before .before .args in let st = state (a .pool .now) (a .t2) in let i = c .before .before .before .before .before .before .before .slot-index in
-    let w : c .before .before .before .before .before .before .slot-refusal .result ≡ firstOf (readerTests st (a .s)) = c .before .before .before .before .before .before .slot-refusal .ensures ∙ rw (c .before .before .before .before .before .before .before .before .lent-refusal .ensures) (slot-tests st (a .s) (i .result) (not) 5 (i .ensures .0)) in
-    let z = sym w ∙ c .before .before .before .before .before .if1 .left in
+returns-2 c = let a = c .before .before .before .before .before .before .before .before .before .before .before .before .args in let st = state (a .pool .now) (a .t2) in let i = c .before .before .before .before .before .before .before .before .slot-index in
+    let w : c .before .before .before .before .before .before .before .slot-refusal .result ≡ firstOf (readerTests st (a .s)) = c .before .before .before .before .before .before .before .slot-refusal .ensures ∙ rw (c .before .before .before .before .before .before .before .before .before .lent-refusal .ensures) (slot-tests st (a .s) (i .result) (not) 5 (i .ensures .0)) in
+    let z = sym w ∙ c .before .before .before .before .before .before .if1 .left in
     let e = unless-done (readerTests st (a .s)) st (outcome ok (endReading st (a .s))) z in (
-      sym (ap (λ (o : Outcome). o .answer) e),
-      rw (index-of (a .s) (i .result) (i .ensures .0) (slot-of st (a .s) (not (reading st (a .s))) 5 (omega arith) z), c .reader-at .ensures) (c .before .before .before .end-reading .ensures (a .t2) ∙ sym (ap (λ (o : Outcome). o .after) e)),
+      c .accepted .ensures .0 ∙ sym (ap (λ (o : Outcome). o .answer) e),
+      rw (c .accepted .ensures .1, index-of (a .s) (i .result) (i .ensures .0) (slot-of st (a .s) (not (reading st (a .s))) 5 (omega arith) z), c .before .no-reader .ensures) (c .before .before .before .before .end-reading .ensures (a .t2) ∙ sym (ap (λ (o : Outcome). o .after) e)),
     )
 
 pub give-up-spec : {M : Type 1} → statement M
@@ -81,11 +89,13 @@ give-up-spec =
     mul-slot-refusal
     element-copy-out-slot-refusal
     slot-refusal-requires
+    refused-requires
     same-length
     returns
     end-reading-requires
-    reader-at-requires
+    no-reader-requires
     mul-t13
     element-set-from-reg
+    accepted-requires
     same-length-2
     returns-2)

@@ -13,6 +13,8 @@ use Rattle.index.proofs.reader_turn.Statement.{statement}
 use Rattle.index.proofs.reader_turn.Tie as tie
 use Rattle.index.proofs.reader_turn.Reads as reads
 use Rattle.index.proofs.reader_turn.Lts as lts
+use Rattle.replies.proofs.refuses_reader.Reads as refuses-reader-reads
+use Rattle.replies.proofs.answers_reader.Reads as answers-reader-reads
 use Rattle.lookups.proofs.leave.Reads as leave-reads
 use Rattle.lookups.proofs.look.Reads as look-reads
 use Rattle.lookups.proofs.reader_at.Reads as reader-at-reads
@@ -35,15 +37,18 @@ element-copy-out-x c = search needs
 slot-refusal-requires : tie.Need-slot-refusal-requires
 slot-refusal-requires c κs = search needs
 
+refuses-reader-requires : tie.Need-refuses-reader-requires
+refuses-reader-requires c κs = search needs
+
 same-length : tie.Need-same-length
 same-length c = search needs
 
 returns : tie.Need-returns
 unfolding readerTurn
-returns c = let a = c .before .before .before .before .before .before .before .before .args in let st = state (a .pool .now) (a .t2) in let i = c .before .before .before .before .slot-index in
-    let w : c .before .slot-refusal .result ≡ firstOf (readerTests st (a .s)) = c .before .slot-refusal .ensures ∙ rw (c .before .before .before .before .before .lent-refusal .ensures) (slot-tests st (a .s) (i .result) (not) 5 (i .ensures .0)) in
-    let e = unless-refused (readerTests st (a .s)) st (readerStep st (a .s)) (c .before .slot-refusal .result) (sym w) (c .if1 .taken) in
-    (sym (ap (λ (o : Outcome). o .answer) e), sym (ap (λ (o : Outcome). o .after) e))
+returns c = let a = c .before .before .before .before .before .before .before .before .before .args in let st = state (a .pool .now) (a .t2) in let i = c .before .before .before .before .before .slot-index in
+    let w : c .before .before .slot-refusal .result ≡ firstOf (readerTests st (a .s)) = c .before .before .slot-refusal .ensures ∙ rw (c .before .before .before .before .before .before .lent-refusal .ensures) (slot-tests st (a .s) (i .result) (not) 5 (i .ensures .0)) in
+    let e = unless-refused (readerTests st (a .s)) st (readerStep st (a .s)) (c .before .before .slot-refusal .result) (sym w) (c .before .if1 .taken) in
+    (c .refuses-reader .ensures .0 ∙ sym (ap (λ (o : Outcome). o .answer) e), rw (c .refuses-reader .ensures .1) (sym (ap (λ (o : Outcome). o .after) e)))
 
 look-requires : tie.Need-look-requires
 look-requires c κs = search needs
@@ -63,20 +68,23 @@ mul-t16 c = search needs
 element-set-from-reg : tie.Need-element-set-from-reg
 element-set-from-reg c = search needs
 
+answers-reader-requires : tie.Need-answers-reader-requires
+answers-reader-requires c κs = search needs
+
 same-length-2 : tie.Need-same-length-2
 same-length-2 c = search needs
 
 returns-2 : tie.Need-returns-2
 unfolding readerTurn withReader
-returns-2 c = let a = c .before .before .before .before .before .before .before .before .before .before .before .before .before .before .before .args in let st = state (a .pool .now) (a .t2) in let i = c .before .before .before .before .before .before .before .before .before .before .before .slot-index in
-    let w : c .before .before .before .before .before .before .before .before .slot-refusal .result ≡ firstOf (readerTests st (a .s)) = c .before .before .before .before .before .before .before .before .slot-refusal .ensures ∙ rw (c .before .before .before .before .before .before .before .before .before .before .before .before .lent-refusal .ensures) (slot-tests st (a .s) (i .result) (not) 5 (i .ensures .0)) in
-    let z = sym w ∙ c .before .before .before .before .before .before .before .if1 .left in
+returns-2 c = let a = c .before .before .before .before .before .before .before .before .before .before .before .before .before .before .before .before .args in let st = state (a .pool .now) (a .t2) in let i = c .before .before .before .before .before .before .before .before .before .before .before .before .slot-index in
+    let w : c .before .before .before .before .before .before .before .before .before .slot-refusal .result ≡ firstOf (readerTests st (a .s)) = c .before .before .before .before .before .before .before .before .before .slot-refusal .ensures ∙ rw (c .before .before .before .before .before .before .before .before .before .before .before .before .before .lent-refusal .ensures) (slot-tests st (a .s) (i .result) (not) 5 (i .ensures .0)) in
+    let z = sym w ∙ c .before .before .before .before .before .before .before .before .if1 .left in
     let s = a .s in
     let j : i .result ≡ s = index-of s (i .result) (i .ensures .0) (slot-of st s (not (reading st s)) 5 (omega arith) z) in
     let e = unless-done (readerTests st s) st (readerStep st s) z in
-    let l = c .before .before .before .leave in let k = c .before .before .before .before .before .look in
-    let f = turn-looked (a .pool .now) (l .last .0) (a .t2) (l .result) s (i .result) (k .result .node) (c .reader-at .result) (readerSays (k .result .answer)) j (k .ensures .0) (k .ensures .1) (l .ensures) (c .reader-at .ensures) in
-    (f .0 ∙ sym (ap (λ (o : Outcome). o .answer) e), f .1 ∙ sym (ap (λ (o : Outcome). o .after) e))
+    let l = c .before .before .before .before .leave in let k = c .before .before .before .before .before .before .look in
+    let f = turn-looked (a .pool .now) (l .last .0) (a .t2) (l .result) s (i .result) (k .result .node) (c .before .reader-at .result) (readerSays (k .result .answer)) j (k .ensures .0, k .ensures .1, c .before .reader-at .ensures) (l .ensures) in
+    (c .answers-reader .ensures .0 ∙ f .0 ∙ sym (ap (λ (o : Outcome). o .answer) e), rw (c .answers-reader .ensures .1) (f .1 ∙ sym (ap (λ (o : Outcome). o .after) e)))
 
 pub reader-turn-spec : {M : Type 1} → statement M
 reader-turn-spec =
@@ -87,6 +95,7 @@ reader-turn-spec =
     mul-x
     element-copy-out-x
     slot-refusal-requires
+    refuses-reader-requires
     same-length
     returns
     look-requires
@@ -94,5 +103,6 @@ reader-turn-spec =
     reader-at-requires
     mul-t16
     element-set-from-reg
+    answers-reader-requires
     same-length-2
     returns-2)

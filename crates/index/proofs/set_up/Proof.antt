@@ -11,6 +11,8 @@ use Rattle.index.proofs.set_up.Statement.{statement}
 use Rattle.index.proofs.set_up.Tie as tie
 use Rattle.index.proofs.set_up.Reads as reads
 use Rattle.index.proofs.set_up.Lts as lts
+use Rattle.replies.proofs.refused.Reads as refused-reads
+use Rattle.replies.proofs.accepted.Reads as accepted-reads
 use Rattle.fresh.proofs.fresh_pool.Reads as fresh-pool-reads
 use Rattle.fresh.proofs.fresh_register.Reads as fresh-register-reads
 use Rattle.pool.proofs.length_right.Reads as length-right-reads
@@ -19,12 +21,16 @@ use Rattle.pool.proofs.nodes.Reads as nodes-reads
 length-right-requires : tie.Need-length-right-requires
 length-right-requires c κs = search needs
 
+refused-requires : tie.Need-refused-requires
+refused-requires c κs = search needs
+
 same-length : tie.Need-same-length
 same-length c = search needs
 
 returns : tie.Need-returns
 unfolding setUp fresh
-returns c = let e : lengthRight (c .before .before .before .before .args .pool .now) ≡ false = sym (c .before .length-right .ensures) ∙ not-true _ (c .if1 .taken) in rw e (refl, refl)
+returns c = let e : lengthRight (c .before .before .before .before .before .args .pool .now) ≡ false = sym (c .before .before .length-right .ensures) ∙ not-true _ (c .before .if1 .taken) in
+    rw (e, c .refused .ensures .1) (c .refused .ensures .0, refl)
 
 nodes-requires : tie.Need-nodes-requires
 nodes-requires c κs = right-length (c .before .before .before .before .before .args .pool .now) (sym (c .before .before .length-right .ensures) ∙ not-false _ (c .before .if1 .left))
@@ -35,22 +41,28 @@ fresh-register-requires c κs = search needs
 fresh-pool-requires : tie.Need-fresh-pool-requires
 fresh-pool-requires c κs = let e : lengthRight (c .before .before .before .before .before .before .before .before .args .pool .now) ≡ true = sym (c .before .before .before .before .before .length-right .ensures) ∙ not-false _ (c .before .before .before .before .if1 .left) in (right-length (c .before .before .before .before .before .before .before .before .args .pool .now) e, whole-length (c .before .before .before .before .before .before .before .before .args .pool .now) e)
 
+accepted-requires : tie.Need-accepted-requires
+accepted-requires c κs = search needs
+
 same-length-2 : tie.Need-same-length-2
 same-length-2 c = search needs
 
 returns-2 : tie.Need-returns-2
 unfolding setUp fresh
-returns-2 c = let e : lengthRight (c .before .before .before .before .before .before .before .before .before .before .before .args .pool .now) ≡ true = sym (c .before .before .before .before .before .before .before .before .length-right .ensures) ∙ not-false _ (c .before .before .before .before .before .before .before .if1 .left) in rw e (refl, rw (c .before .before .before .before .fresh-register .ensures, c .before .before .fresh-pool .ensures, c .before .before .before .before .before .nodes .ensures))
+returns-2 c = let e : lengthRight (c .before .before .before .before .before .before .before .before .before .before .before .before .args .pool .now) ≡ true = sym (c .before .before .before .before .before .before .before .before .before .length-right .ensures) ∙ not-false _ (c .before .before .before .before .before .before .before .before .if1 .left) in
+    rw (e, c .accepted .ensures .1) (c .accepted .ensures .0, rw (c .before .before .before .before .before .fresh-register .ensures, c .before .before .before .fresh-pool .ensures, c .before .before .before .before .before .before .nodes .ensures))
 
 pub set-up-spec : {M : Type 1} → statement M
 set-up-spec =
     tie.close
     (tie.spec
     length-right-requires
+    refused-requires
     same-length
     returns
     nodes-requires
     fresh-register-requires
     fresh-pool-requires
+    accepted-requires
     same-length-2
     returns-2)

@@ -10,6 +10,7 @@ use Rattle.index.proofs.writer_turn.Statement.{statement}
 use Rattle.index.proofs.writer_turn.Tie as tie
 use Rattle.index.proofs.writer_turn.Reads as reads
 use Rattle.index.proofs.writer_turn.Lts as lts
+use Rattle.replies.proofs.waits.Reads as waits-reads
 use Rattle.refusals.proofs.lent_refusal.Reads as lent-refusal-reads
 use Rattle.turns.proofs.make_first.Reads as make-first-reads
 use Rattle.replies.proofs.refuses_writer.Reads as refuses-writer-reads
@@ -37,12 +38,15 @@ returns-2 : tie.Need-returns-2
 returns-2 c = let a = c .before .before .before .before .before .before .before .before .args in let st = state (a .pool .now) (a .reg) in let w : writeInHand st ≡ false = rw (eq-eqb _ _ (c .before .if2 .taken)) in let e = writer-idle st (sym (c .before .before .before .before .before .lent-refusal .ensures) ∙ c .before .before .before .before .if1 .left) w in
     (c .refuses-writer2 .ensures .0 ∙ sym (ap (λ (o : Outcome). o .answer) e), rw (c .refuses-writer2 .ensures .1) (sym (ap (λ (o : Outcome). o .after) e)))
 
+waits-requires : tie.Need-waits-requires
+waits-requires c κs = search needs
+
 same-length-3 : tie.Need-same-length-3
 same-length-3 c = search needs
 
 returns-3 : tie.Need-returns-3
-returns-3 c = let a = c .before .before .before .before .before .before .before .before .before .args in let st = state (a .pool .now) (a .reg) in let w : writeInHand st ≡ true = rw (ne-eqb _ _ (c .before .before .if2 .left)) in let e = writer-waits st (sym (c .before .before .before .before .before .before .lent-refusal .ensures) ∙ c .before .before .before .before .before .if1 .left) w (c .if3 .taken) in
-    (sym (ap (λ (o : Outcome). o .answer) e), sym (ap (λ (o : Outcome). o .after) e))
+returns-3 c = let a = c .before .before .before .before .before .before .before .before .before .before .args in let st = state (a .pool .now) (a .reg) in let w : writeInHand st ≡ true = rw (ne-eqb _ _ (c .before .before .before .if2 .left)) in let e = writer-waits st (sym (c .before .before .before .before .before .before .before .lent-refusal .ensures) ∙ c .before .before .before .before .before .before .if1 .left) w (c .before .if3 .taken) in
+    (c .waits .ensures .0 ∙ sym (ap (λ (o : Outcome). o .answer) e), rw (c .waits .ensures .1) (sym (ap (λ (o : Outcome). o .after) e)))
 
 make-first-requires : tie.Need-make-first-requires
 make-first-requires c κs = let a = c .before .before .before .before .before .before .before .before .before .before .args in let st = state (a .pool .now) (a .reg) in let w : writeInHand st ≡ true = rw (ne-eqb _ _ (c .before .before .before .if2 .left)) in (sym (c .before .before .before .before .before .before .before .lent-refusal .ensures) ∙ c .before .before .before .before .before .before .if1 .left, w, c .before .if3 .left)
@@ -64,6 +68,7 @@ writer-turn-spec =
     refuses-writer-requires-2
     same-length-2
     returns-2
+    waits-requires
     same-length-3
     returns-3
     make-first-requires
