@@ -34,13 +34,28 @@ refused-requires : tie.Need-refused-requires
 refused-requires c κs = search needs
 
 returns : tie.Need-returns
-returns c = let a = c .before .before .before .before .before .args in let st = state (a .pool .now) (a .reg) in let f : full st ≡ true = reserve-true (nodes (a .pool .now)) (a .reg .held) (rw (← (c .before .before .before .nodes .ensures)) (c .before .if1 .taken)) in let e = insert-full st (a .k) (a .v) (c .before .before .before .before .before .pre .0) (c .before .before .before .before .before .pre .1) (a .l) (c .before .before .before .before .before .pre .2) f in (c .refused .ensures .0 ∙ sym (ap (λ (o : Outcome). o .answer) e), rw (c .refused .ensures .1) (sym (ap (λ (o : Outcome). o .after) e)))
+returns c =
+    let c3 = c .before .before .before in
+    let c5 = c3 .before .before in
+    let a = c5 .args in
+    let st = state (a .pool .now) (a .reg) in
+    let f : full st ≡ true = reserve-true (nodes (a .pool .now)) (a .reg .held) (rw (← (c3 .nodes .ensures)) (c .before .if1 .taken)) in
+    let e = insert-full st (a .k) (a .v) (c5 .pre .0) (c5 .pre .1) (a .l) (c5 .pre .2) f in
+    (c .refused .ensures .0 ∙ sym (ap (λ (o : Outcome). o .answer) e), rw (c .refused .ensures .1) (sym (ap (λ (o : Outcome). o .after) e)))
 
 refused-requires-2 : tie.Need-refused-requires-2
 refused-requires-2 c κs = search needs
 
 returns-2 : tie.Need-returns-2
-returns-2 c = let a = c .before .before .before .before .before .before .before .args in let st = state (a .pool .now) (a .reg) in let f : full st ≡ false = reserve-false (nodes (a .pool .now)) (a .reg .held) (rw (← (c .before .before .before .before .before .nodes .ensures)) (c .before .before .before .if1 .left)) in let e = insert-few st (a .k) (a .v) (c .before .before .before .before .before .before .before .pre .0) (c .before .before .before .before .before .before .before .pre .1) (a .l) (c .before .before .before .before .before .before .before .pre .2) f (lt-ltb _ _ (c .before .if2 .taken)) in (c .refused2 .ensures .0 ∙ sym (ap (λ (o : Outcome). o .answer) e), rw (c .refused2 .ensures .1) (sym (ap (λ (o : Outcome). o .after) e)))
+returns-2 c =
+    let c3 = c .before .before .before in
+    let c5 = c3 .before .before in
+    let c7 = c5 .before .before in
+    let a = c7 .args in
+    let st = state (a .pool .now) (a .reg) in
+    let f : full st ≡ false = reserve-false (nodes (a .pool .now)) (a .reg .held) (rw (← (c5 .nodes .ensures)) (c3 .if1 .left)) in
+    let e = insert-few st (a .k) (a .v) (c7 .pre .0) (c7 .pre .1) (a .l) (c7 .pre .2) f (lt-ltb _ _ (c .before .if2 .taken)) in
+    (c .refused2 .ensures .0 ∙ sym (ap (λ (o : Outcome). o .answer) e), rw (c .refused2 .ensures .1) (sym (ap (λ (o : Outcome). o .after) e)))
 
 insert-plan-requires : tie.Need-insert-plan-requires
 insert-plan-requires c κs = search needs
@@ -49,13 +64,35 @@ refused-requires-3 : tie.Need-refused-requires-3
 refused-requires-3 c κs = search needs
 
 returns-3 : tie.Need-returns-3
-returns-3 c = let a = c .before .before .before .before .before .before .before .before .before .before .args in let st = state (a .pool .now) (a .reg) in let f : full st ≡ false = reserve-false (nodes (a .pool .now)) (a .reg .held) (rw (← (c .before .before .before .before .before .before .before .before .nodes .ensures)) (c .before .before .before .before .before .before .if1 .left)) in let p : insertPlan st (a .k) (a .v) (a .l) .possible ≡ false = sym (c .before .before .before .insert-plan .ensures .0) ∙ not-true _ (c .before .if3 .taken) in let e = insert-missing st (a .k) (a .v) (c .before .before .before .before .before .before .before .before .before .before .pre .0) (c .before .before .before .before .before .before .before .before .before .before .pre .1) (a .l) (c .before .before .before .before .before .before .before .before .before .before .pre .2) f (le-ltb _ _ (c .before .before .before .before .if2 .left)) p in (c .refused3 .ensures .0 ∙ sym (ap (λ (o : Outcome). o .answer) e), rw (c .refused3 .ensures .1) (sym (ap (λ (o : Outcome). o .after) e)))
+returns-3 c =
+    let c3 = c .before .before .before in
+    let c4 = c3 .before in
+    let c6 = c4 .before .before in
+    let c8 = c6 .before .before in
+    let c10 = c8 .before .before in
+    let a = c10 .args in
+    let st = state (a .pool .now) (a .reg) in
+    let f : full st ≡ false = reserve-false (nodes (a .pool .now)) (a .reg .held) (rw (← (c8 .nodes .ensures)) (c6 .if1 .left)) in
+    let p : insertPlan st (a .k) (a .v) (a .l) .possible ≡ false = sym (c3 .insert-plan .ensures .0) ∙ not-true _ (c .before .if3 .taken) in
+    let e = insert-missing st (a .k) (a .v) (c10 .pre .0) (c10 .pre .1) (a .l) (c10 .pre .2) f (le-ltb _ _ (c4 .if2 .left)) p in
+    (c .refused3 .ensures .0 ∙ sym (ap (λ (o : Outcome). o .answer) e), rw (c .refused3 .ensures .1) (sym (ap (λ (o : Outcome). o .after) e)))
 
 accepted-requires : tie.Need-accepted-requires
 accepted-requires c κs = search needs
 
 returns-4 : tie.Need-returns-4
-returns-4 c = let a = c .before .before .before .before .before .before .before .before .before .before .before .args in let st = state (a .pool .now) (a .reg) in let f : full st ≡ false = reserve-false (nodes (a .pool .now)) (a .reg .held) (rw (← (c .before .before .before .before .before .before .before .before .before .nodes .ensures)) (c .before .before .before .before .before .before .before .if1 .left)) in let p : insertPlan st (a .k) (a .v) (a .l) .possible ≡ true = sym (c .before .before .before .before .insert-plan .ensures .0) ∙ not-false _ (c .before .before .if3 .left) in let e = insert-goes st (a .k) (a .v) (c .before .before .before .before .before .before .before .before .before .before .before .pre .0) (c .before .before .before .before .before .before .before .before .before .before .before .pre .1) (a .l) (c .before .before .before .before .before .before .before .before .before .before .before .pre .2) f (le-ltb _ _ (c .before .before .before .before .before .if2 .left)) p in (c .accepted .ensures .0 ∙ sym (ap (λ (o : Outcome). o .answer) e), rw (c .accepted .ensures .1, c .before .before .before .before .insert-plan .ensures .1) (sym (ap (λ (o : Outcome). o .after) e)))
+returns-4 c =
+    let c4 = c .before .before .before .before in
+    let c5 = c4 .before in
+    let c7 = c5 .before .before in
+    let c9 = c7 .before .before in
+    let c11 = c9 .before .before in
+    let a = c11 .args in
+    let st = state (a .pool .now) (a .reg) in
+    let f : full st ≡ false = reserve-false (nodes (a .pool .now)) (a .reg .held) (rw (← (c9 .nodes .ensures)) (c7 .if1 .left)) in
+    let p : insertPlan st (a .k) (a .v) (a .l) .possible ≡ true = sym (c4 .insert-plan .ensures .0) ∙ not-false _ (c .before .before .if3 .left) in
+    let e = insert-goes st (a .k) (a .v) (c11 .pre .0) (c11 .pre .1) (a .l) (c11 .pre .2) f (le-ltb _ _ (c5 .if2 .left)) p in
+    (c .accepted .ensures .0 ∙ sym (ap (λ (o : Outcome). o .answer) e), rw (c .accepted .ensures .1, c4 .insert-plan .ensures .1) (sym (ap (λ (o : Outcome). o .after) e)))
 
 pub insert-at-spec : {M : Type 1} → statement M
 insert-at-spec =

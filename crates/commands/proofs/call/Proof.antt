@@ -97,7 +97,10 @@ same-length : tie.Need-same-length
 same-length c = search needs
 
 returns : tie.Need-returns
-returns c = rw (c .before .before .before .before .before .enum-told .given .1) (c .accepted .ensures .0 ∙ c .before .before .before .set-up .ensures .0, rw (c .accepted .ensures .1) (c .before .before .before .set-up .ensures .1))
+returns c =
+    let c3 = c .before .before .before in
+    let c5 = c3 .before .before in
+    rw (c5 .enum-told .given .1) (c .accepted .ensures .0 ∙ c3 .set-up .ensures .0, rw (c .accepted .ensures .1) (c3 .set-up .ensures .1))
 
 same-length-2 : tie.Need-same-length-2
 same-length-2 c = search needs
@@ -115,7 +118,10 @@ same-length-4 : tie.Need-same-length-4
 same-length-4 c = search needs
 
 returns-4 : tie.Need-returns-4
-returns-4 c = rw (c .before .before .before .before .before .enum-told2 .given .1) (c .written .ensures .0 ∙ c .before .before .before .writer-turn .ensures .0, rw (c .written .ensures .1) (c .before .before .before .writer-turn .ensures .1))
+returns-4 c =
+    let c3 = c .before .before .before in
+    let c5 = c3 .before .before in
+    rw (c5 .enum-told2 .given .1) (c .written .ensures .0 ∙ c3 .writer-turn .ensures .0, rw (c .written .ensures .1) (c3 .writer-turn .ensures .1))
 
 same-length-5 : tie.Need-same-length-5
 same-length-5 c = search needs
@@ -127,13 +133,19 @@ same-length-6 : tie.Need-same-length-6
 same-length-6 c = search needs
 
 returns-6 : tie.Need-returns-6
-returns-6 c = rw (c .before .before .before .before .before .before .c4 .given .1) (c .looked .ensures .0 ∙ c .before .before .before .reader-turn .ensures .0, rw (c .looked .ensures .1) (c .before .before .before .reader-turn .ensures .1))
+returns-6 c =
+    let c3 = c .before .before .before in
+    let c6 = c3 .before .before .before in
+    rw (c6 .c4 .given .1) (c .looked .ensures .0 ∙ c3 .reader-turn .ensures .0, rw (c .looked .ensures .1) (c3 .reader-turn .ensures .1))
 
 same-length-7 : tie.Need-same-length-7
 same-length-7 c = search needs
 
 returns-7 : tie.Need-returns-7
-returns-7 c = rw (c .before .before .before .before .before .before .c5 .given .1) (c .accepted5 .ensures .0 ∙ c .before .before .before .give-up .ensures .0, rw (c .accepted5 .ensures .1) (c .before .before .before .give-up .ensures .1))
+returns-7 c =
+    let c3 = c .before .before .before in
+    let c6 = c3 .before .before .before in
+    rw (c6 .c5 .given .1) (c .accepted5 .ensures .0 ∙ c3 .give-up .ensures .0, rw (c .accepted5 .ensures .1) (c3 .give-up .ensures .1))
 
 same-length-8 : tie.Need-same-length-8
 same-length-8 c = search needs

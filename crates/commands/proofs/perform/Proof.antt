@@ -25,7 +25,10 @@ slice-relend-prefix-call : tie.Need-slice-relend-prefix-call
 slice-relend-prefix-call c = rw (c .tried-words .ensures, c .before .before .pre .1) (tried-fits (c .before .before .args .lent) (c .before .before .args .c) (c .before .before .pre .0))
 
 slice-aggregate-call : tie.Need-slice-aggregate-call
-slice-aggregate-call c = let e : c .before .tried-words .result ≤ length (c .before .before .before .args .words .now) = rw (c .before .tried-words .ensures, c .before .before .before .pre .1) (tried-fits (c .before .before .before .args .lent) (c .before .before .before .args .c) (c .before .before .before .pre .0)) in sym (length-take-le (c .before .tried-words .result) (c .before .before .before .args .words .now) e)
+slice-aggregate-call c =
+    let c3 = c .before .before .before in
+    let e : c .before .tried-words .result ≤ length (c3 .args .words .now) =
+        rw (c .before .tried-words .ensures, c3 .pre .1) (tried-fits (c3 .args .lent) (c3 .args .c) (c3 .pre .0)) in sym (length-take-le (c .before .tried-words .result) (c3 .args .words .now) e)
 
 call-requires : tie.Need-call-requires
 call-requires c κs = search needs
@@ -37,7 +40,13 @@ same-length : tie.Need-same-length
 same-length c = search needs
 
 returns : tie.Need-returns
-returns c = let a = c .before .before .before .before .before .before .before .before .args in let t = c .before .before .before .before .before .before .tried-words in let k = c .before .before .before .before .call in
+returns c =
+    let c4 = c .before .before .before .before in
+    let c6 = c4 .before .before in
+    let c8 = c6 .before .before in
+    let a = c8 .args in
+    let t = c6 .tried-words in
+    let k = c4 .call in
     let q = performed-on (a .words .now) (a .lent) (a .reg) (a .c) (t .result) (t .ensures) in (
       k .ensures .0 ∙ ap (λ (o : Outcome). o .answer) q,
       (

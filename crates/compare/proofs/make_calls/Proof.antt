@@ -60,7 +60,10 @@ after-call-requires : tie.Need-after-call-requires Inv-loop μ-loop
 after-call-requires c κs = search needs
 
 add-i : tie.Need-add-i Inv-loop μ-loop
-add-i c = omega (arith, c .before .before .before .before .before .before .before .before .before .before .before .before .before .before .before .before .before .before .before .before .before .loop-test .taken, c .before .before .before .before .before .before .before .before .before .before .before .before .before .before .before .before .before .before .before .before .before .before .before .before .before .before .before .before .before .before .before .before .before .before .before .before .before .fits .calls)
+add-i c =
+    let c21 = c .before .before .before .before .before .before .before .before .before .before .before .before .before .before .before .before .before .before .before .before .before in
+    let c37 = c21 .before .before .before .before .before .before .before .before .before .before .before .before .before .before .before .before in
+    omega (arith, c21 .loop-test .taken, c37 .fits .calls)
 
 loop-less : tie.Need-loop-less Inv-loop μ-loop
 loop-less c = search needs

@@ -21,7 +21,9 @@ slice-aggregate-run-2 : tie.Need-slice-aggregate-run-2
 slice-aggregate-run-2 c = sym (length-take-le (c .before .before .before .before .args .n) (c .before .before .before .before .args .kept .now) (omega (arith, c .before .before .before .before .pre)))
 
 run-requires : tie.Need-run-requires
-run-requires c κs = (omega arith, omega arith, omega arith, length-take-le (c .before .before .before .before .args .n) (c .before .before .before .before .args .words .now) (c .before .before .before .before .pre .3) ∙ sym (length-take-le (c .before .before .before .before .args .n) (c .before .before .before .before .args .kept .now) (omega (arith, c .before .before .before .before .pre))))
+run-requires c κs =
+    let c4 = c .before .before .before .before in
+    (omega arith, omega arith, omega arith, length-take-le (c4 .args .n) (c4 .args .words .now) (c4 .pre .3) ∙ sym (length-take-le (c4 .args .n) (c4 .args .kept .now) (omega (arith, c4 .pre))))
 
 same-length : tie.Need-same-length
 same-length c = search needs

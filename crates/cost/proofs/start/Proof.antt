@@ -96,7 +96,17 @@ fresh-register-requires-2 : tie.Need-fresh-register-requires-2 Inv-loop μ-loop
 fresh-register-requires-2 c κs = search needs
 
 same-length : tie.Need-same-length Inv-loop μ-loop
-same-length c = omega (arith, c .before .before .before .before .before .before .before .before .before .before .before .before .before .before .before .before .before .before .before .before .before .before .before .before .before .before .before .before .before .before .loop .inv, c .before .before .before .before .before .before .before .before .before .before .before .before .before .before .before .before .before .before .before .before .before .before .before .before .before .before .before .set-word7 .kept .0, c .before .before .before .before .before .before .before .before .before .before .before .before .before .before .before .before .before .before .before .before .before .before .before .set-word8 .kept .0, c .before .before .before .before .before .before .before .before .before .before .before .before .before .before .before .before .before .before .before .set-word9 .kept .0, c .before .before .before .before .before .before .before .before .before .before .before .before .before .before .before .set-word10 .kept .0, c .before .before .before .before .before .before .before .before .before .before .before .set-word11 .kept .0, c .before .before .before .before .before .before .before .set-word12 .kept .0, c .before .before .before .set-word13 .kept .0)
+same-length c =
+    let c3 = c .before .before .before in
+    let c7 = c3 .before .before .before .before in
+    let c11 = c7 .before .before .before .before in
+    let c15 = c11 .before .before .before .before in
+    let c19 = c15 .before .before .before .before in
+    let c23 = c19 .before .before .before .before in
+    let c27 = c23 .before .before .before .before in
+    let c30 = c27 .before .before .before in
+    omega (arith, c30 .loop .inv, c27 .set-word7 .kept .0, c23 .set-word8 .kept .0, c19 .set-word9 .kept .0, c15 .set-word10 .kept .0, c11 .set-word11 .kept .0, c7 .set-word12 .kept .0,
+        c3 .set-word13 .kept .0)
 
 returns-2 : tie.Need-returns-2 Inv-loop μ-loop
 returns-2 c = search needs

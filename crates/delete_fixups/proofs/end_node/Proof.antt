@@ -16,7 +16,9 @@ returns c = rw (eq-eqb (c .before .before .before .args .levels) 0 (c .if1 .take
 
 returns-2 : tie.Need-returns-2
 unfolding nodeAt
-returns-2 c = rw (ne-eqb (c .before .before .before .before .args .levels) 0 (c .before .if1 .left), link-past (c .before .before .before .before .args .path .now) (c .before .before .before .before .args .depth) (c .before .before .before .before .args .levels) (c .if2 .taken))
+returns-2 c =
+    let c4 = c .before .before .before .before in
+    rw (ne-eqb (c4 .args .levels) 0 (c .before .if1 .left), link-past (c4 .args .path .now) (c4 .args .depth) (c4 .args .levels) (c .if2 .taken))
 
 sub-link-in : tie.Need-sub-link-in
 sub-link-in c = search needs
@@ -31,7 +33,11 @@ node-at-requires : tie.Need-node-at-requires
 node-at-requires c κs = search needs
 
 returns-3 : tie.Need-returns-3
-returns-3 c = rw (ne-eqb (c .before .before .before .before .before .before .args .levels) 0 (c .before .before .before .if1 .left), link-at-level (c .before .before .before .before .before .before .args .path .now) (c .before .before .before .before .before .before .args .depth) (c .before .before .before .before .before .before .args .levels) (c .before .before .if2 .left), c .node-at .ensures, c .before .link-in .ensures)
+returns-3 c =
+    let c3 = c .before .before .before in
+    let c6 = c3 .before .before .before in
+    rw (ne-eqb (c6 .args .levels) 0 (c3 .if1 .left), link-at-level (c6 .args .path .now) (c6 .args .depth) (c6 .args .levels) (c .before .before .if2 .left), c .node-at .ensures,
+        c .before .link-in .ensures)
 
 pub end-node-spec : {M : Type 1} → statement M
 end-node-spec =

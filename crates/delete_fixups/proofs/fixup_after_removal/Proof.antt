@@ -21,14 +21,18 @@ fixup-result-requires c κs = search needs
 
 returns : tie.Need-returns
 unfolding fixupAfterRemoval
-returns c = let e : isRed (c .before .before .before .before .before .args .pool .now) (c .before .before .before .before .before .args .n) ≡ true = sym (c .before .before .is-red .ensures) ∙ c .before .if1 .taken in rw (e, c .fixup-result .ensures)
+returns c =
+    let c5 = c .before .before .before .before .before in
+    let e : isRed (c5 .args .pool .now) (c5 .args .n) ≡ true = sym (c .before .before .is-red .ensures) ∙ c .before .if1 .taken in rw (e, c .fixup-result .ensures)
 
 delete-fixup-requires : tie.Need-delete-fixup-requires
 delete-fixup-requires c κs = search needs
 
 returns-2 : tie.Need-returns-2
 unfolding fixupAfterRemoval
-returns-2 c = let e : isRed (c .before .before .before .before .before .args .pool .now) (c .before .before .before .before .before .args .n) ≡ false = sym (c .before .before .is-red .ensures) ∙ c .before .if1 .left in rw e (c .delete-fixup .ensures)
+returns-2 c =
+    let c5 = c .before .before .before .before .before in
+    let e : isRed (c5 .args .pool .now) (c5 .args .n) ≡ false = sym (c .before .before .is-red .ensures) ∙ c .before .if1 .left in rw e (c .delete-fixup .ensures)
 
 pub fixup-after-removal-spec : {M : Type 1} → statement M
 fixup-after-removal-spec =

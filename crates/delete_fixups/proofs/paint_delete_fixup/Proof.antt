@@ -25,7 +25,10 @@ same-length c = search needs
 
 returns : tie.Need-returns
 unfolding paintDeleteFixup
-returns c = λ reg e. rw (c .before .before .paint-end .ensures reg, c .before .before .before .before .before .before .paint-delete-levels .ensures, c .before .before .before .before .before .before .before .before .end-node .ensures, e)
+returns c =
+    let c6 = c .before .before .before .before .before .before in
+    let c8 = c6 .before .before in
+    λ reg e. rw (c .before .before .paint-end .ensures reg, c6 .paint-delete-levels .ensures, c8 .end-node .ensures, e)
 
 pub paint-delete-fixup-spec : {M : Type 1} → statement M
 paint-delete-fixup-spec =

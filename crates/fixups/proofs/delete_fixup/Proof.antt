@@ -40,19 +40,45 @@ fixup-result-requires : tie.Need-fixup-result-requires Inv-loop μ-loop
 fixup-result-requires c κs = search needs
 
 returns : tie.Need-returns Inv-loop μ-loop
-returns c = let l = c .before .before .before .loop in let a = c .before .before .before .before .before .before .args in let p = a .pool .now in let q = a .path .now in let e : isRed p (l .node) ≡ true = sym (c .before .before .is-red .ensures) ∙ c .before .if1 .taken in c .fixup-result .ensures ∙ (sym (deleteFixup-red p (l .e) (l .node) q (l .d) e) ∙ l .inv .2)
+returns c =
+    let c3 = c .before .before .before in
+    let c6 = c3 .before .before .before in
+    let l = c3 .loop in
+    let a = c6 .args in
+    let p = a .pool .now in
+    let q = a .path .now in
+    let e : isRed p (l .node) ≡ true = sym (c .before .before .is-red .ensures) ∙ c .before .if1 .taken in c .fixup-result .ensures ∙ (sym (deleteFixup-red p (l .e) (l .node) q (l .d) e) ∙ l .inv .2)
 
 fixup-result-requires-2 : tie.Need-fixup-result-requires-2 Inv-loop μ-loop
 fixup-result-requires-2 c κs = search needs
 
 returns-2 : tie.Need-returns-2 Inv-loop μ-loop
-returns-2 c = let l = c .before .before .before .before .loop in let a = c .before .before .before .before .before .before .before .args in let p = a .pool .now in let q = a .path .now in let e : isRed p (l .node) ≡ false = sym (c .before .before .before .is-red .ensures) ∙ c .before .before .if1 .left in c .fixup-result2 .ensures ∙ (sym (deleteFixup-none p (l .e) (l .node) q (l .d) e (c .before .if2 .taken)) ∙ l .inv .2)
+returns-2 c =
+    let c3 = c .before .before .before in
+    let c4 = c3 .before in
+    let c7 = c4 .before .before .before in
+    let l = c4 .loop in
+    let a = c7 .args in
+    let p = a .pool .now in
+    let q = a .path .now in
+    let e : isRed p (l .node) ≡ false =
+        sym (c3 .is-red .ensures) ∙ c .before .before .if1 .left in c .fixup-result2 .ensures ∙ (sym (deleteFixup-none p (l .e) (l .node) q (l .d) e (c .before .if2 .taken)) ∙ l .inv .2)
 
 fixup-result-requires-3 : tie.Need-fixup-result-requires-3 Inv-loop μ-loop
 fixup-result-requires-3 c κs = search needs
 
 returns-3 : tie.Need-returns-3 Inv-loop μ-loop
-returns-3 c = let l = c .before .before .before .before .before .loop in let a = c .before .before .before .before .before .before .before .before .args in let p = a .pool .now in let q = a .path .now in let e : isRed p (l .node) ≡ false = sym (c .before .before .before .before .is-red .ensures) ∙ c .before .before .before .if1 .left in c .fixup-result3 .ensures ∙ (sym (deleteFixup-root p (l .e) (l .node) q (l .d) e (c .before .if3 .taken)) ∙ l .inv .2)
+returns-3 c =
+    let c3 = c .before .before .before in
+    let c4 = c3 .before in
+    let c5 = c4 .before in
+    let c8 = c5 .before .before .before in
+    let l = c5 .loop in
+    let a = c8 .args in
+    let p = a .pool .now in
+    let q = a .path .now in
+    let e : isRed p (l .node) ≡ false =
+        sym (c4 .is-red .ensures) ∙ c3 .if1 .left in c .fixup-result3 .ensures ∙ (sym (deleteFixup-root p (l .e) (l .node) q (l .d) e (c .before .if3 .taken)) ∙ l .inv .2)
 
 sub-link-in : tie.Need-sub-link-in Inv-loop μ-loop
 sub-link-in c = search needs
@@ -76,7 +102,27 @@ fixup-result-requires-4 : tie.Need-fixup-result-requires-4 Inv-loop μ-loop
 fixup-result-requires-4 c κs = search needs
 
 returns-4 : tie.Need-returns-4 Inv-loop μ-loop
-returns-4 c = let l = c .before .before .before .before .before .before .before .before .before .before .before .loop in let a = c .before .before .before .before .before .before .before .before .before .before .before .before .before .before .args in let p = a .pool .now in let q = a .path .now in let e : isRed p (l .node) ≡ false = sym (c .before .before .before .before .before .before .before .before .before .before .is-red .ensures) ∙ c .before .before .before .before .before .before .before .before .before .if1 .left in let g = c .before .before .before .before .before .before .before .before .if2 .left in let h = c .before .before .before .before .before .before .before .if3 .left in let z : child p (other (sideOf (linkIn q (l .d - 1)))) (owner (linkIn q (l .d - 1))) ≡ 0 = rw (← (c .before .before .before .before .before .before .link-in .ensures), ← (c .before .before .before .before .before .side-of .ensures), ← (c .before .before .before .before .other .ensures), ← (c .before .before .before .owner .ensures), ← (c .before .before .child .ensures)) (c .before .if4 .taken) in c .fixup-result4 .ensures ∙ (sym (deleteFixup-missing p (l .e) (l .node) q (l .d) e (omega arith) z) ∙ l .inv .2)
+returns-4 c =
+    let c3 = c .before .before .before in
+    let c4 = c3 .before in
+    let c5 = c4 .before in
+    let c6 = c5 .before in
+    let c7 = c6 .before in
+    let c8 = c7 .before in
+    let c9 = c8 .before in
+    let c10 = c9 .before in
+    let c11 = c10 .before in
+    let c14 = c11 .before .before .before in
+    let l = c11 .loop in
+    let a = c14 .args in
+    let p = a .pool .now in
+    let q = a .path .now in
+    let e : isRed p (l .node) ≡ false = sym (c10 .is-red .ensures) ∙ c9 .if1 .left in
+    let g = c8 .if2 .left in
+    let h = c7 .if3 .left in
+    let z : child p (other (sideOf (linkIn q (l .d - 1)))) (owner (linkIn q (l .d - 1))) ≡ 0 =
+        rw (← (c6 .link-in .ensures), ← (c5 .side-of .ensures), ← (c4 .other .ensures), ← (c3 .owner .ensures), ← (c .before .before .child .ensures)) (c .before .if4 .taken) in
+        c .fixup-result4 .ensures ∙ (sym (deleteFixup-missing p (l .e) (l .node) q (l .d) e (omega arith) z) ∙ l .inv .2)
 
 sub-link-in-2 : tie.Need-sub-link-in-2 Inv-loop μ-loop
 sub-link-in-2 c = search needs
@@ -94,7 +140,34 @@ fixup-result-requires-5 : tie.Need-fixup-result-requires-5 Inv-loop μ-loop
 fixup-result-requires-5 c κs = search needs
 
 returns-5 : tie.Need-returns-5 Inv-loop μ-loop
-returns-5 c = let l = c .before .before .before .before .before .before .before .before .before .before .before .before .before .before .before .loop in let a = c .before .before .before .before .before .before .before .before .before .before .before .before .before .before .before .before .before .before .args in let p = a .pool .now in let q = a .path .now in let e : isRed p (l .node) ≡ false = sym (c .before .before .before .before .before .before .before .before .before .before .before .before .before .before .is-red .ensures) ∙ c .before .before .before .before .before .before .before .before .before .before .before .before .before .if1 .left in let g = c .before .before .before .before .before .before .before .before .before .before .before .before .if2 .left in let h = c .before .before .before .before .before .before .before .before .before .before .before .if3 .left in let d : (child p (other (sideOf (linkIn q (l .d - 1)))) (owner (linkIn q (l .d - 1))) ≡ 0) → ⊥ = rw (← (c .before .before .before .before .before .before .before .before .before .before .link-in .ensures), ← (c .before .before .before .before .before .before .before .before .before .side-of .ensures), ← (c .before .before .before .before .before .before .before .before .other .ensures), ← (c .before .before .before .before .before .before .before .owner .ensures), ← (c .before .before .before .before .before .before .child .ensures)) (c .before .before .before .before .before .if4 .left) in let r : isRed p (child p (other (sideOf (linkIn q (l .d - 1)))) (owner (linkIn q (l .d - 1)))) ≡ true = rw (← (c .before .before .before .before .before .before .before .before .before .before .link-in .ensures), ← (c .before .before .before .before .before .before .before .before .before .side-of .ensures), ← (c .before .before .before .before .before .before .before .before .other .ensures), ← (c .before .before .before .before .before .before .before .owner .ensures), ← (c .before .before .before .before .before .before .child .ensures), ← (c .before .before .before .is-red2 .ensures)) (c .before .before .if5 .taken) in rw (c .fixup-result5 .ensures, c .before .red-sibling .ensures, c .before .before .before .before .before .before .child .ensures, c .before .before .before .before .before .before .before .before .other .ensures, c .before .before .before .before .before .before .before .before .before .side-of .ensures, c .before .before .before .before .before .before .before .owner .ensures, c .before .before .before .before .link-in2 .ensures, c .before .before .before .before .before .before .before .before .before .before .link-in .ensures) (sym (deleteFixup-sibling p (l .e) (l .node) q (l .d) e (omega arith) d r) ∙ l .inv .2)
+returns-5 c =
+    let c3 = c .before .before .before in
+    let c4 = c3 .before in
+    let c5 = c4 .before in
+    let c6 = c5 .before in
+    let c7 = c6 .before in
+    let c8 = c7 .before in
+    let c9 = c8 .before in
+    let c10 = c9 .before in
+    let c11 = c10 .before in
+    let c12 = c11 .before in
+    let c13 = c12 .before in
+    let c14 = c13 .before in
+    let c15 = c14 .before in
+    let c18 = c15 .before .before .before in
+    let l = c15 .loop in
+    let a = c18 .args in
+    let p = a .pool .now in
+    let q = a .path .now in
+    let e : isRed p (l .node) ≡ false = sym (c14 .is-red .ensures) ∙ c13 .if1 .left in
+    let g = c12 .if2 .left in
+    let h = c11 .if3 .left in
+    let d : (child p (other (sideOf (linkIn q (l .d - 1)))) (owner (linkIn q (l .d - 1))) ≡ 0) → ⊥ =
+        rw (← (c10 .link-in .ensures), ← (c9 .side-of .ensures), ← (c8 .other .ensures), ← (c7 .owner .ensures), ← (c6 .child .ensures)) (c5 .if4 .left) in
+    let r : isRed p (child p (other (sideOf (linkIn q (l .d - 1)))) (owner (linkIn q (l .d - 1)))) ≡ true =
+        rw (← (c10 .link-in .ensures), ← (c9 .side-of .ensures), ← (c8 .other .ensures), ← (c7 .owner .ensures), ← (c6 .child .ensures), ← (c3 .is-red2 .ensures)) (c .before .before .if5 .taken) in
+        rw (c .fixup-result5 .ensures, c .before .red-sibling .ensures, c6 .child .ensures, c8 .other .ensures, c9 .side-of .ensures, c7 .owner .ensures, c4 .link-in2 .ensures,
+            c10 .link-in .ensures) (sym (deleteFixup-sibling p (l .e) (l .node) q (l .d) e (omega arith) d r) ∙ l .inv .2)
 
 red-child-requires : tie.Need-red-child-requires Inv-loop μ-loop
 red-child-requires c κs = search needs
@@ -106,7 +179,39 @@ fixup-result-requires-6 : tie.Need-fixup-result-requires-6 Inv-loop μ-loop
 fixup-result-requires-6 c κs = search needs
 
 returns-6 : tie.Need-returns-6 Inv-loop μ-loop
-returns-6 c = let l = c .before .before .before .before .before .before .before .before .before .before .before .before .before .before .before .before .before .loop in let a = c .before .before .before .before .before .before .before .before .before .before .before .before .before .before .before .before .before .before .before .before .args in let p = a .pool .now in let q = a .path .now in let e : isRed p (l .node) ≡ false = sym (c .before .before .before .before .before .before .before .before .before .before .before .before .before .before .before .before .is-red .ensures) ∙ c .before .before .before .before .before .before .before .before .before .before .before .before .before .before .before .if1 .left in let g = c .before .before .before .before .before .before .before .before .before .before .before .before .before .before .if2 .left in let h = c .before .before .before .before .before .before .before .before .before .before .before .before .before .if3 .left in let d : (child p (other (sideOf (linkIn q (l .d - 1)))) (owner (linkIn q (l .d - 1))) ≡ 0) → ⊥ = rw (← (c .before .before .before .before .before .before .before .before .before .before .before .before .link-in .ensures), ← (c .before .before .before .before .before .before .before .before .before .before .before .side-of .ensures), ← (c .before .before .before .before .before .before .before .before .before .before .other .ensures), ← (c .before .before .before .before .before .before .before .before .before .owner .ensures), ← (c .before .before .before .before .before .before .before .before .child .ensures)) (c .before .before .before .before .before .before .before .if4 .left) in let r : isRed p (child p (other (sideOf (linkIn q (l .d - 1)))) (owner (linkIn q (l .d - 1)))) ≡ false = rw (← (c .before .before .before .before .before .before .before .before .before .before .before .before .link-in .ensures), ← (c .before .before .before .before .before .before .before .before .before .before .before .side-of .ensures), ← (c .before .before .before .before .before .before .before .before .before .before .other .ensures), ← (c .before .before .before .before .before .before .before .before .before .owner .ensures), ← (c .before .before .before .before .before .before .before .before .child .ensures), ← (c .before .before .before .before .before .is-red2 .ensures)) (c .before .before .before .before .if5 .left) in let t : redChild p (child p (other (sideOf (linkIn q (l .d - 1)))) (owner (linkIn q (l .d - 1)))) ≡ true = rw (← (c .before .before .before .before .before .before .before .before .before .before .before .before .link-in .ensures), ← (c .before .before .before .before .before .before .before .before .before .before .before .side-of .ensures), ← (c .before .before .before .before .before .before .before .before .before .before .other .ensures), ← (c .before .before .before .before .before .before .before .before .before .owner .ensures), ← (c .before .before .before .before .before .before .before .before .child .ensures), ← (c .before .before .before .red-child .ensures)) (c .before .before .if6 .taken) in rw (c .fixup-result6 .ensures, c .before .black-sibling .ensures, c .before .before .before .before .before .before .before .before .child .ensures, c .before .before .before .before .before .before .before .before .before .before .other .ensures, c .before .before .before .before .before .before .before .before .before .before .before .side-of .ensures, c .before .before .before .before .before .before .before .before .before .owner .ensures, c .before .before .before .before .before .before .link-in2 .ensures, c .before .before .before .before .before .before .before .before .before .before .before .before .link-in .ensures) (sym (deleteFixup-blackSibling p (l .e) (l .node) q (l .d) e (omega arith) d r t) ∙ l .inv .2)
+returns-6 c =
+    let c3 = c .before .before .before in
+    let c4 = c3 .before in
+    let c5 = c4 .before in
+    let c6 = c5 .before in
+    let c7 = c6 .before in
+    let c8 = c7 .before in
+    let c9 = c8 .before in
+    let c10 = c9 .before in
+    let c11 = c10 .before in
+    let c12 = c11 .before in
+    let c13 = c12 .before in
+    let c14 = c13 .before in
+    let c15 = c14 .before in
+    let c16 = c15 .before in
+    let c17 = c16 .before in
+    let c20 = c17 .before .before .before in
+    let l = c17 .loop in
+    let a = c20 .args in
+    let p = a .pool .now in
+    let q = a .path .now in
+    let e : isRed p (l .node) ≡ false = sym (c16 .is-red .ensures) ∙ c15 .if1 .left in
+    let g = c14 .if2 .left in
+    let h = c13 .if3 .left in
+    let d : (child p (other (sideOf (linkIn q (l .d - 1)))) (owner (linkIn q (l .d - 1))) ≡ 0) → ⊥ =
+        rw (← (c12 .link-in .ensures), ← (c11 .side-of .ensures), ← (c10 .other .ensures), ← (c9 .owner .ensures), ← (c8 .child .ensures)) (c7 .if4 .left) in
+    let r : isRed p (child p (other (sideOf (linkIn q (l .d - 1)))) (owner (linkIn q (l .d - 1)))) ≡ false =
+        rw (← (c12 .link-in .ensures), ← (c11 .side-of .ensures), ← (c10 .other .ensures), ← (c9 .owner .ensures), ← (c8 .child .ensures), ← (c5 .is-red2 .ensures)) (c4 .if5 .left) in
+    let t : redChild p (child p (other (sideOf (linkIn q (l .d - 1)))) (owner (linkIn q (l .d - 1)))) ≡ true =
+        rw (← (c12 .link-in .ensures), ← (c11 .side-of .ensures), ← (c10 .other .ensures), ← (c9 .owner .ensures), ← (c8 .child .ensures), ← (c3 .red-child .ensures))
+            (c .before .before .if6 .taken) in
+            rw (c .fixup-result6 .ensures, c .before .black-sibling .ensures, c8 .child .ensures, c10 .other .ensures, c11 .side-of .ensures, c9 .owner .ensures, c6 .link-in2 .ensures,
+                c12 .link-in .ensures) (sym (deleteFixup-blackSibling p (l .e) (l .node) q (l .d) e (omega arith) d r t) ∙ l .inv .2)
 
 sub-d : tie.Need-sub-d Inv-loop μ-loop
 sub-d c = search needs
@@ -118,7 +223,34 @@ loop-less : tie.Need-loop-less Inv-loop μ-loop
 loop-less c = search needs
 
 loop-again : tie.Need-loop-again Inv-loop μ-loop
-loop-again c = let l = c .before .before .before .before .before .before .before .before .before .before .before .before .before .before .before .loop in let a = c .before .before .before .before .before .before .before .before .before .before .before .before .before .before .before .before .before .before .args in let p = a .pool .now in let q = a .path .now in let e : isRed p (l .node) ≡ false = sym (c .before .before .before .before .before .before .before .before .before .before .before .before .before .before .is-red .ensures) ∙ c .before .before .before .before .before .before .before .before .before .before .before .before .before .if1 .left in let g = c .before .before .before .before .before .before .before .before .before .before .before .before .if2 .left in let h = c .before .before .before .before .before .before .before .before .before .before .before .if3 .left in let d : (child p (other (sideOf (linkIn q (l .d - 1)))) (owner (linkIn q (l .d - 1))) ≡ 0) → ⊥ = rw (← (c .before .before .before .before .before .before .before .before .before .before .link-in .ensures), ← (c .before .before .before .before .before .before .before .before .before .side-of .ensures), ← (c .before .before .before .before .before .before .before .before .other .ensures), ← (c .before .before .before .before .before .before .before .owner .ensures), ← (c .before .before .before .before .before .before .child .ensures)) (c .before .before .before .before .before .if4 .left) in let r : isRed p (child p (other (sideOf (linkIn q (l .d - 1)))) (owner (linkIn q (l .d - 1)))) ≡ false = rw (← (c .before .before .before .before .before .before .before .before .before .before .link-in .ensures), ← (c .before .before .before .before .before .before .before .before .before .side-of .ensures), ← (c .before .before .before .before .before .before .before .before .other .ensures), ← (c .before .before .before .before .before .before .before .owner .ensures), ← (c .before .before .before .before .before .before .child .ensures), ← (c .before .before .before .is-red2 .ensures)) (c .before .before .if5 .left) in let t : redChild p (child p (other (sideOf (linkIn q (l .d - 1)))) (owner (linkIn q (l .d - 1)))) ≡ false = rw (← (c .before .before .before .before .before .before .before .before .before .before .link-in .ensures), ← (c .before .before .before .before .before .before .before .before .before .side-of .ensures), ← (c .before .before .before .before .before .before .before .before .other .ensures), ← (c .before .before .before .before .before .before .before .owner .ensures), ← (c .before .before .before .before .before .before .child .ensures), ← (c .before .red-child .ensures)) (c .if6 .left) in (omega arith, omega arith, rw (c .before .before .before .before .before .before .before .owner .ensures, c .before .before .before .before .before .before .before .before .before .before .link-in .ensures) (sym (deleteFixup-on p (l .e) (l .node) q (l .d) e (omega arith) d r t) ∙ l .inv .2))
+loop-again c =
+    let c3 = c .before .before .before in
+    let c5 = c3 .before .before in
+    let c6 = c5 .before in
+    let c7 = c6 .before in
+    let c8 = c7 .before in
+    let c9 = c8 .before in
+    let c10 = c9 .before in
+    let c11 = c10 .before in
+    let c12 = c11 .before in
+    let c13 = c12 .before in
+    let c14 = c13 .before in
+    let c15 = c14 .before in
+    let c18 = c15 .before .before .before in
+    let l = c15 .loop in
+    let a = c18 .args in
+    let p = a .pool .now in
+    let q = a .path .now in
+    let e : isRed p (l .node) ≡ false = sym (c14 .is-red .ensures) ∙ c13 .if1 .left in
+    let g = c12 .if2 .left in
+    let h = c11 .if3 .left in
+    let d : (child p (other (sideOf (linkIn q (l .d - 1)))) (owner (linkIn q (l .d - 1))) ≡ 0) → ⊥ =
+        rw (← (c10 .link-in .ensures), ← (c9 .side-of .ensures), ← (c8 .other .ensures), ← (c7 .owner .ensures), ← (c6 .child .ensures)) (c5 .if4 .left) in
+    let r : isRed p (child p (other (sideOf (linkIn q (l .d - 1)))) (owner (linkIn q (l .d - 1)))) ≡ false =
+        rw (← (c10 .link-in .ensures), ← (c9 .side-of .ensures), ← (c8 .other .ensures), ← (c7 .owner .ensures), ← (c6 .child .ensures), ← (c3 .is-red2 .ensures)) (c .before .before .if5 .left) in
+    let t : redChild p (child p (other (sideOf (linkIn q (l .d - 1)))) (owner (linkIn q (l .d - 1)))) ≡ false =
+        rw (← (c10 .link-in .ensures), ← (c9 .side-of .ensures), ← (c8 .other .ensures), ← (c7 .owner .ensures), ← (c6 .child .ensures), ← (c .before .red-child .ensures)) (c .if6 .left) in
+        (omega arith, omega arith, rw (c7 .owner .ensures, c10 .link-in .ensures) (sym (deleteFixup-on p (l .e) (l .node) q (l .d) e (omega arith) d r t) ∙ l .inv .2))
 
 pub delete-fixup-spec : {M : Type 1} → statement M
 delete-fixup-spec =

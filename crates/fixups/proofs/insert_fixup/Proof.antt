@@ -48,14 +48,31 @@ fixup-result-requires : tie.Need-fixup-result-requires Inv-loop μ-loop
 fixup-result-requires c κs = search needs
 
 returns : tie.Need-returns Inv-loop μ-loop
-returns c = let l = c .before .before .before .before .before .before .loop in let a = c .before .before .before .before .before .before .before .before .before .args in let g : isRed (a .pool .now) (owner (linkIn (a .path .now) (l .d - 1))) ≡ false = rw (← (c .before .before .before .before .link-in .ensures), ← (c .before .before .before .owner .ensures), ← (c .before .before .is-red .ensures)) (not-true _ (c .before .if1 .taken)) in
+returns c =
+    let c3 = c .before .before .before in
+    let c4 = c3 .before in
+    let c6 = c4 .before .before in
+    let c9 = c6 .before .before .before in
+    let l = c6 .loop in
+    let a = c9 .args in
+    let g : isRed (a .pool .now) (owner (linkIn (a .path .now) (l .d - 1))) ≡ false =
+        rw (← (c4 .link-in .ensures), ← (c3 .owner .ensures), ← (c .before .before .is-red .ensures)) (not-true _ (c .before .if1 .taken)) in
     c .fixup-result .ensures ∙ (sym (insertFixup-balanced (a .pool .now) (l .e) (a .path .now) (l .d) (omega arith) g) ∙ l .inv .2)
 
 fixup-result-requires-2 : tie.Need-fixup-result-requires-2 Inv-loop μ-loop
 fixup-result-requires-2 c κs = search needs
 
 returns-2 : tie.Need-returns-2 Inv-loop μ-loop
-returns-2 c = let l = c .before .before .before .before .before .before .before .loop in let a = c .before .before .before .before .before .before .before .before .before .before .args in let g : isRed (a .pool .now) (owner (linkIn (a .path .now) (l .d - 1))) ≡ true = rw (← (c .before .before .before .before .before .link-in .ensures), ← (c .before .before .before .before .owner .ensures), ← (c .before .before .before .is-red .ensures)) (not-false _ (c .before .before .if1 .left)) in
+returns-2 c =
+    let c3 = c .before .before .before in
+    let c4 = c3 .before in
+    let c5 = c4 .before in
+    let c7 = c5 .before .before in
+    let c10 = c7 .before .before .before in
+    let l = c7 .loop in
+    let a = c10 .args in
+    let g : isRed (a .pool .now) (owner (linkIn (a .path .now) (l .d - 1))) ≡ true =
+        rw (← (c5 .link-in .ensures), ← (c4 .owner .ensures), ← (c3 .is-red .ensures)) (not-false _ (c .before .before .if1 .left)) in
     c .fixup-result2 .ensures ∙ (sym (insertFixup-top (a .pool .now) (l .e) (a .path .now) (l .d) (c .before .if2 .taken) g) ∙ l .inv .2)
 
 sub-link-in-2 : tie.Need-sub-link-in-2 Inv-loop μ-loop
@@ -95,8 +112,29 @@ fixup-result-requires-3 : tie.Need-fixup-result-requires-3 Inv-loop μ-loop
 fixup-result-requires-3 c κs = search needs
 
 returns-3 : tie.Need-returns-3 Inv-loop μ-loop
-returns-3 c = let l = c .before .before .before .before .before .before .before .before .before .before .before .before .before .before .before .before .before .loop in let a = c .before .before .before .before .before .before .before .before .before .before .before .before .before .before .before .before .before .before .before .before .args in let h = c .before .before .before .before .before .before .before .before .before .before .before .if2 .left in let g : isRed (a .pool .now) (owner (linkIn (a .path .now) (l .d - 1))) ≡ true = rw (← (c .before .before .before .before .before .before .before .before .before .before .before .before .before .before .before .link-in .ensures), ← (c .before .before .before .before .before .before .before .before .before .before .before .before .before .before .owner .ensures), ← (c .before .before .before .before .before .before .before .before .before .before .before .before .before .is-red .ensures)) (not-false _ (c .before .before .before .before .before .before .before .before .before .before .before .before .if1 .left)) in let i : isRed (a .pool .now) (child (a .pool .now) (other (sideOf (linkIn (a .path .now) (l .d - 2)))) (owner (linkIn (a .path .now) (l .d - 2)))) ≡ false = rw (← (c .before .before .before .before .before .before .before .before .before .before .link-in2 .ensures), ← (c .before .before .before .before .before .before .before .before .before .side-of .ensures), ← (c .before .before .before .before .before .before .before .before .other .ensures), ← (c .before .before .before .before .before .before .before .owner2 .ensures), ← (c .before .before .before .before .before .before .child .ensures), ← (c .before .before .before .before .before .is-red2 .ensures)) (not-true _ (c .before .before .before .before .if3 .taken)) in
-    rw (c .fixup-result3 .ensures, c .before .form-of .ensures, c .before .before .side-of2 .ensures, c .before .before .before .before .before .before .before .before .before .side-of .ensures, c .before .before .before .link-in3 .ensures, c .before .before .before .before .before .before .before .before .before .before .link-in2 .ensures, c .before .before .before .before .before .before .before .before .before .before .before .before .before .before .before .link-in .ensures)
+returns-3 c =
+    let c3 = c .before .before .before in
+    let c4 = c3 .before in
+    let c5 = c4 .before in
+    let c6 = c5 .before in
+    let c7 = c6 .before in
+    let c8 = c7 .before in
+    let c9 = c8 .before in
+    let c10 = c9 .before in
+    let c11 = c10 .before in
+    let c12 = c11 .before in
+    let c13 = c12 .before in
+    let c14 = c13 .before in
+    let c15 = c14 .before in
+    let c17 = c15 .before .before in
+    let c20 = c17 .before .before .before in
+    let l = c17 .loop in
+    let a = c20 .args in
+    let h = c11 .if2 .left in
+    let g : isRed (a .pool .now) (owner (linkIn (a .path .now) (l .d - 1))) ≡ true = rw (← (c15 .link-in .ensures), ← (c14 .owner .ensures), ← (c13 .is-red .ensures)) (not-false _ (c12 .if1 .left)) in
+    let i : isRed (a .pool .now) (child (a .pool .now) (other (sideOf (linkIn (a .path .now) (l .d - 2)))) (owner (linkIn (a .path .now) (l .d - 2)))) ≡ false =
+        rw (← (c10 .link-in2 .ensures), ← (c9 .side-of .ensures), ← (c8 .other .ensures), ← (c7 .owner2 .ensures), ← (c6 .child .ensures), ← (c5 .is-red2 .ensures)) (not-true _ (c4 .if3 .taken)) in
+    rw (c .fixup-result3 .ensures, c .before .form-of .ensures, c .before .before .side-of2 .ensures, c9 .side-of .ensures, c3 .link-in3 .ensures, c10 .link-in2 .ensures, c15 .link-in .ensures)
     (sym (insertFixup-turn (a .pool .now) (l .e) (a .path .now) (l .d) (omega arith) g i) ∙ l .inv .2)
 
 sub-d : tie.Need-sub-d Inv-loop μ-loop
@@ -109,20 +147,47 @@ loop-less : tie.Need-loop-less Inv-loop μ-loop
 loop-less c = search needs
 
 loop-again : tie.Need-loop-again Inv-loop μ-loop
-loop-again c = let l = c .before .before .before .before .before .before .before .before .before .before .before .before .before .loop in let a = c .before .before .before .before .before .before .before .before .before .before .before .before .before .before .before .before .args in let h = c .before .before .before .before .before .before .before .if2 .left in let g : isRed (a .pool .now) (owner (linkIn (a .path .now) (l .d - 1))) ≡ true = rw (← (c .before .before .before .before .before .before .before .before .before .before .before .link-in .ensures), ← (c .before .before .before .before .before .before .before .before .before .before .owner .ensures), ← (c .before .before .before .before .before .before .before .before .before .is-red .ensures)) (not-false _ (c .before .before .before .before .before .before .before .before .if1 .left)) in let i : isRed (a .pool .now) (child (a .pool .now) (other (sideOf (linkIn (a .path .now) (l .d - 2)))) (owner (linkIn (a .path .now) (l .d - 2)))) ≡ true = rw (← (c .before .before .before .before .before .before .link-in2 .ensures), ← (c .before .before .before .before .before .side-of .ensures), ← (c .before .before .before .before .other .ensures), ← (c .before .before .before .owner2 .ensures), ← (c .before .before .child .ensures), ← (c .before .is-red2 .ensures)) (not-false _ (c .if3 .left)) in
+loop-again c =
+    let c3 = c .before .before .before in
+    let c4 = c3 .before in
+    let c5 = c4 .before in
+    let c6 = c5 .before in
+    let c7 = c6 .before in
+    let c8 = c7 .before in
+    let c9 = c8 .before in
+    let c10 = c9 .before in
+    let c11 = c10 .before in
+    let c13 = c11 .before .before in
+    let c16 = c13 .before .before .before in
+    let l = c13 .loop in
+    let a = c16 .args in
+    let h = c7 .if2 .left in
+    let g : isRed (a .pool .now) (owner (linkIn (a .path .now) (l .d - 1))) ≡ true = rw (← (c11 .link-in .ensures), ← (c10 .owner .ensures), ← (c9 .is-red .ensures)) (not-false _ (c8 .if1 .left)) in
+    let i : isRed (a .pool .now) (child (a .pool .now) (other (sideOf (linkIn (a .path .now) (l .d - 2)))) (owner (linkIn (a .path .now) (l .d - 2)))) ≡ true =
+        rw (← (c6 .link-in2 .ensures), ← (c5 .side-of .ensures), ← (c4 .other .ensures), ← (c3 .owner2 .ensures), ← (c .before .before .child .ensures), ← (c .before .is-red2 .ensures))
+            (not-false _ (c .if3 .left)) in
     (omega arith, omega arith, sym (insertFixup-on (a .pool .now) (l .e) (a .path .now) (l .d) (omega arith) g i) ∙ l .inv .2)
 
 fixup-result-requires-4 : tie.Need-fixup-result-requires-4 Inv-loop μ-loop
 fixup-result-requires-4 c κs = search needs
 
 returns-4 : tie.Need-returns-4 Inv-loop μ-loop
-returns-4 c = let l = c .before .before .before .loop in let a = c .before .before .before .before .before .before .args in c .fixup-result4 .ensures ∙ (sym (insertFixup-none (a .pool .now) (l .e) (a .path .now) (l .d) (c .before .if4 .taken)) ∙ l .inv .2)
+returns-4 c =
+    let c3 = c .before .before .before in
+    let c6 = c3 .before .before .before in
+    let l = c3 .loop in
+    let a = c6 .args in c .fixup-result4 .ensures ∙ (sym (insertFixup-none (a .pool .now) (l .e) (a .path .now) (l .d) (c .before .if4 .taken)) ∙ l .inv .2)
 
 fixup-result-requires-5 : tie.Need-fixup-result-requires-5 Inv-loop μ-loop
 fixup-result-requires-5 c κs = search needs
 
 returns-5 : tie.Need-returns-5 Inv-loop μ-loop
-returns-5 c = let l = c .before .before .before .loop in let a = c .before .before .before .before .before .before .args in let h = c .before .if4 .left in c .fixup-result5 .ensures ∙ (sym (insertFixup-root (a .pool .now) (l .e) (a .path .now) (l .d) (omega arith)) ∙ l .inv .2)
+returns-5 c =
+    let c3 = c .before .before .before in
+    let c6 = c3 .before .before .before in
+    let l = c3 .loop in
+    let a = c6 .args in
+    let h = c .before .if4 .left in c .fixup-result5 .ensures ∙ (sym (insertFixup-root (a .pool .now) (l .e) (a .path .now) (l .d) (omega arith)) ∙ l .inv .2)
 
 pub insert-fixup-spec : {M : Type 1} → statement M
 insert-fixup-spec =

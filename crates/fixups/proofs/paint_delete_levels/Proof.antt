@@ -63,17 +63,34 @@ loop-less : tie.Need-loop-less Inv-loop μ-loop
 loop-less c = search needs
 
 loop-again : tie.Need-loop-again Inv-loop μ-loop
-loop-again c = let l = c .before .before .before .before .before .before .before .before .before .before .before .before .loop in let a = c .before .before .before .before .before .before .before .before .before .before .before .before .before .before .before .args in let g = c .before .before .before .before .before .before .before .before .before .before .before .loop-test .taken in let h = c .before .before .before .before .before .before .before .before .before .before .if1 .left in (
+loop-again c =
+    let c4 = c .before .before .before .before in
+    let c5 = c4 .before in
+    let c6 = c5 .before in
+    let c7 = c6 .before in
+    let c9 = c7 .before .before in
+    let c10 = c9 .before in
+    let c11 = c10 .before in
+    let c12 = c11 .before in
+    let c15 = c12 .before .before .before in
+    let l = c12 .loop in
+    let a = c15 .args in
+    let g = c11 .loop-test .taken in
+    let h = c10 .if1 .left in (
   omega arith,
   search needs,
-  rw (c .before .before .set-word .ensures, c .before .before .before .before .child .ensures, c .before .before .before .before .before .before .other .ensures, c .before .before .before .before .before .before .before .side-of .ensures, c .before .before .before .before .before .owner .ensures, c .before .before .before .before .before .before .before .before .before .link-in .ensures) (sym (paint-deleteFixup-level (l .e) (l .e - 1) (l .pool) (a .path .now) (l .d) (omega arith) (omega arith)) ∙ l .inv .2),
+  rw (c .before .before .set-word .ensures, c4 .child .ensures, c6 .other .ensures, c7 .side-of .ensures, c5 .owner .ensures, c9 .link-in .ensures)
+      (sym (paint-deleteFixup-level (l .e) (l .e - 1) (l .pool) (a .path .now) (l .d) (omega arith) (omega arith)) ∙ l .inv .2),
 )
 
 same-length-2 : tie.Need-same-length-2 Inv-loop μ-loop
 same-length-2 c = search needs
 
 returns-2 : tie.Need-returns-2 Inv-loop μ-loop
-returns-2 c = let l = c .before .loop in let h = c .loop-test .left in sym (paint-deleteFixup-done (l .e) (upward (c .before .before .before .before .args .path .now) (l .d)) (l .pool) (omega arith)) ∙ l .inv .2
+returns-2 c =
+    let c4 = c .before .before .before .before in
+    let l = c .before .loop in
+    let h = c .loop-test .left in sym (paint-deleteFixup-done (l .e) (upward (c4 .args .path .now) (l .d)) (l .pool) (omega arith)) ∙ l .inv .2
 
 pub paint-delete-levels-spec : {M : Type 1} → statement M
 paint-delete-levels-spec =

@@ -69,17 +69,37 @@ loop-less : tie.Need-loop-less Inv-loop μ-loop
 loop-less c = search needs
 
 loop-again : tie.Need-loop-again Inv-loop μ-loop
-loop-again c = let l = c .before .before .before .before .before .before .before .before .before .before .before .before .before .before .before .loop in let a = c .before .before .before .before .before .before .before .before .before .before .before .before .before .before .before .before .before .before .args in let g = c .before .before .before .before .before .before .before .before .before .before .before .before .before .before .loop-test .taken in let h = c .before .before .before .before .before .before .before .before .before .before .before .before .before .if1 .left in (
+loop-again c =
+    let c3 = c .before .before .before in
+    let c4 = c3 .before in
+    let c6 = c4 .before .before in
+    let c7 = c6 .before in
+    let c8 = c7 .before in
+    let c9 = c8 .before in
+    let c11 = c9 .before .before in
+    let c12 = c11 .before in
+    let c13 = c12 .before in
+    let c14 = c13 .before in
+    let c15 = c14 .before in
+    let c18 = c15 .before .before .before in
+    let l = c15 .loop in
+    let a = c18 .args in
+    let g = c14 .loop-test .taken in
+    let h = c13 .if1 .left in (
   omega arith,
   search needs,
-  rw (c .before .before .paint-level .ensures, c .before .before .before .before .before .before .child .ensures, c .before .before .before .before .before .before .before .before .other .ensures, c .before .before .before .before .before .before .before .before .before .side-of .ensures, c .before .before .before .owner3 .ensures, c .before .before .before .before .owner2 .ensures, c .before .before .before .before .before .before .before .owner .ensures, c .before .before .before .before .before .before .before .before .before .before .before .link-in2 .ensures, c .before .before .before .before .before .before .before .before .before .before .before .before .link-in .ensures) (sym (paint-insertFixup-level (l .e) (l .e - 1) (l .pool) (a .path .now) (l .d) (omega arith) h) ∙ l .inv .2),
+  rw (c .before .before .paint-level .ensures, c6 .child .ensures, c8 .other .ensures, c9 .side-of .ensures, c3 .owner3 .ensures, c4 .owner2 .ensures, c7 .owner .ensures, c11 .link-in2 .ensures,
+      c12 .link-in .ensures) (sym (paint-insertFixup-level (l .e) (l .e - 1) (l .pool) (a .path .now) (l .d) (omega arith) h) ∙ l .inv .2),
 )
 
 same-length-2 : tie.Need-same-length-2 Inv-loop μ-loop
 same-length-2 c = search needs
 
 returns-2 : tie.Need-returns-2 Inv-loop μ-loop
-returns-2 c = let l = c .before .loop in let h = c .loop-test .left in sym (paint-insertFixup-done (l .e) (upward (c .before .before .before .before .args .path .now) (l .d)) (l .pool) (omega arith)) ∙ l .inv .2
+returns-2 c =
+    let c4 = c .before .before .before .before in
+    let l = c .before .loop in
+    let h = c .loop-test .left in sym (paint-insertFixup-done (l .e) (upward (c4 .args .path .now) (l .d)) (l .pool) (omega arith)) ∙ l .inv .2
 
 pub paint-insert-fixup-spec : {M : Type 1} → statement M
 paint-insert-fixup-spec =

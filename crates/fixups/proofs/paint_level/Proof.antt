@@ -21,7 +21,10 @@ same-length : tie.Need-same-length
 same-length c = search needs
 
 returns : tie.Need-returns
-returns c = rw (c .before .before .set-word3 .ensures, c .before .before .before .before .before .before .set-word2 .ensures, c .before .before .before .before .before .before .before .before .before .before .set-word .ensures)
+returns c =
+    let c6 = c .before .before .before .before .before .before in
+    let c10 = c6 .before .before .before .before in
+    rw (c .before .before .set-word3 .ensures, c6 .set-word2 .ensures, c10 .set-word .ensures)
 
 pub paint-level-spec : {M : Type 1} → statement M
 paint-level-spec =

@@ -25,7 +25,10 @@ child-requires c κs = search needs
 
 returns : tie.Need-returns
 unfolding redSibling
-returns c = let a = c .before .before .before .before .args in let e : child (a .pool .now) (other (a .z)) (a .w) ≡ 0 = rw (← (c .before .before .other .ensures), ← (c .before .child .ensures)) (c .if1 .taken) in rw (eq-eqb _ _ e)
+returns c =
+    let c4 = c .before .before .before .before in
+    let a = c4 .args in
+    let e : child (a .pool .now) (other (a .z)) (a .w) ≡ 0 = rw (← (c .before .before .other .ensures), ← (c .before .child .ensures)) (c .if1 .taken) in rw (eq-eqb _ _ e)
 
 red-child-requires : tie.Need-red-child-requires
 red-child-requires c κs = search needs
@@ -38,14 +41,27 @@ black-sibling-requires c κs = search needs
 
 returns-2 : tie.Need-returns-2
 unfolding redSibling
-returns-2 c = let a = c .before .before .before .before .before .before .before .before .args in let e : (child (a .pool .now) (other (a .z)) (a .w) ≡ 0) → ⊥ = rw (← (c .before .before .before .before .before .before .other .ensures), ← (c .before .before .before .before .before .child .ensures)) (c .before .before .before .before .if1 .left) in
-    let f : redChild (a .pool .now) (child (a .pool .now) (other (a .z)) (a .w)) ≡ true = rw (← (c .before .before .before .before .before .before .other .ensures), ← (c .before .before .before .before .before .child .ensures), ← (c .before .before .before .red-child .ensures)) (c .before .before .if2 .taken) in
-    rw (ne-eqb _ _ e, f, c .black-sibling .ensures, c .before .link-at .ensures, c .before .before .before .before .before .child .ensures, c .before .before .before .before .before .before .other .ensures)
+returns-2 c =
+    let c3 = c .before .before .before in
+    let c4 = c3 .before in
+    let c5 = c4 .before in
+    let c6 = c5 .before in
+    let c8 = c6 .before .before in
+    let a = c8 .args in
+    let e : (child (a .pool .now) (other (a .z)) (a .w) ≡ 0) → ⊥ = rw (← (c6 .other .ensures), ← (c5 .child .ensures)) (c4 .if1 .left) in
+    let f : redChild (a .pool .now) (child (a .pool .now) (other (a .z)) (a .w)) ≡ true =
+        rw (← (c6 .other .ensures), ← (c5 .child .ensures), ← (c3 .red-child .ensures)) (c .before .before .if2 .taken) in
+    rw (ne-eqb _ _ e, f, c .black-sibling .ensures, c .before .link-at .ensures, c5 .child .ensures, c6 .other .ensures)
 
 returns-3 : tie.Need-returns-3
 unfolding redSibling
-returns-3 c = let a = c .before .before .before .before .before .before .args in let e : (child (a .pool .now) (other (a .z)) (a .w) ≡ 0) → ⊥ = rw (← (c .before .before .before .before .other .ensures), ← (c .before .before .before .child .ensures)) (c .before .before .if1 .left) in
-    let f : redChild (a .pool .now) (child (a .pool .now) (other (a .z)) (a .w)) ≡ false = rw (← (c .before .before .before .before .other .ensures), ← (c .before .before .before .child .ensures), ← (c .before .red-child .ensures)) (c .if2 .left) in
+returns-3 c =
+    let c3 = c .before .before .before in
+    let c4 = c3 .before in
+    let c6 = c4 .before .before in
+    let a = c6 .args in
+    let e : (child (a .pool .now) (other (a .z)) (a .w) ≡ 0) → ⊥ = rw (← (c4 .other .ensures), ← (c3 .child .ensures)) (c .before .before .if1 .left) in
+    let f : redChild (a .pool .now) (child (a .pool .now) (other (a .z)) (a .w)) ≡ false = rw (← (c4 .other .ensures), ← (c3 .child .ensures), ← (c .before .red-child .ensures)) (c .if2 .left) in
     rw (ne-eqb _ _ e, f)
 
 pub red-sibling-spec : {M : Type 1} → statement M

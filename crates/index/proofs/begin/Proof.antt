@@ -38,9 +38,17 @@ refused-requires c κs = search needs
 
 returns : tie.Need-returns
 unfolding begin
-returns c = let a = c .before .before .before .before .before .before .args in let st = state (a .pool .now) (a .t2) in let i = c .before .before .before .slot-index in
-    let w : c .before .before .slot-refusal .result ≡ firstOf (beginTests st (a .s)) = c .before .before .slot-refusal .ensures ∙ rw (c .before .before .before .before .lent-refusal .ensures) (slot-tests st (a .s) (i .result) (λ (b : Bool). b) 4 (i .ensures .0)) in
-    let e = unless-refused (beginTests st (a .s)) st (outcome ok (state (st .pool) (withReader (st .register) (a .s) (begunReader (a .k))))) (c .before .before .slot-refusal .result) (sym w) (c .before .if1 .taken) in
+returns c =
+    let c3 = c .before .before .before in
+    let c4 = c3 .before in
+    let c6 = c4 .before .before in
+    let a = c6 .args in
+    let st = state (a .pool .now) (a .t2) in
+    let i = c3 .slot-index in
+    let w : c .before .before .slot-refusal .result ≡ firstOf (beginTests st (a .s)) =
+        c .before .before .slot-refusal .ensures ∙ rw (c4 .lent-refusal .ensures) (slot-tests st (a .s) (i .result) (λ (b : Bool). b) 4 (i .ensures .0)) in
+    let e = unless-refused (beginTests st (a .s)) st (outcome ok (state (st .pool) (withReader (st .register) (a .s) (begunReader (a .k))))) (c .before .before .slot-refusal .result) (sym w)
+        (c .before .if1 .taken) in
     (c .refused .ensures .0 ∙ sym (ap (λ (o : Outcome). o .answer) e), rw (c .refused .ensures .1) (sym (ap (λ (o : Outcome). o .after) e)))
 
 begun-reader-requires : tie.Need-begun-reader-requires
@@ -57,12 +65,21 @@ accepted-requires c κs = search needs
 
 returns-2 : tie.Need-returns-2
 unfolding begin withReader
-returns-2 c = let a = c .before .before .before .before .before .before .before .args in let st = state (a .pool .now) (a .t2) in let i = c .before .before .before .before .slot-index in
-    let w : c .before .before .before .slot-refusal .result ≡ firstOf (beginTests st (a .s)) = c .before .before .before .slot-refusal .ensures ∙ rw (c .before .before .before .before .before .lent-refusal .ensures) (slot-tests st (a .s) (i .result) (λ (b : Bool). b) 4 (i .ensures .0)) in
+returns-2 c =
+    let c3 = c .before .before .before in
+    let c4 = c3 .before in
+    let c5 = c4 .before in
+    let c7 = c5 .before .before in
+    let a = c7 .args in
+    let st = state (a .pool .now) (a .t2) in
+    let i = c4 .slot-index in
+    let w : c3 .slot-refusal .result ≡ firstOf (beginTests st (a .s)) =
+        c3 .slot-refusal .ensures ∙ rw (c5 .lent-refusal .ensures) (slot-tests st (a .s) (i .result) (λ (b : Bool). b) 4 (i .ensures .0)) in
     let z = sym w ∙ c .before .before .if1 .left in
     let e = unless-done (beginTests st (a .s)) st (outcome ok (state (st .pool) (withReader (st .register) (a .s) (begunReader (a .k))))) z in (
       c .accepted .ensures .0 ∙ sym (ap (λ (o : Outcome). o .answer) e),
-      rw (c .accepted .ensures .1, c .before .begun-reader .ensures, index-of (a .s) (i .result) (i .ensures .0) (slot-of st (a .s) (reading st (a .s)) 4 (omega arith) z)) (sym (ap (λ (o : Outcome). o .after) e)),
+      rw (c .accepted .ensures .1, c .before .begun-reader .ensures, index-of (a .s) (i .result) (i .ensures .0) (slot-of st (a .s) (reading st (a .s)) 4 (omega arith) z))
+          (sym (ap (λ (o : Outcome). o .after) e)),
     )
 
 pub begin-spec : {M : Type 1} → statement M

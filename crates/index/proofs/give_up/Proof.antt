@@ -44,14 +44,28 @@ same-length c = search needs
 
 returns : tie.Need-returns
 unfolding giveUp
-returns c = let a = c .before .before .before .before .before .before .before .args in let st = state (a .pool .now) (a .t2) in let i = c .before .before .before .slot-index in
-    let w : c .before .before .slot-refusal .result ≡ firstOf (readerTests st (a .s)) = c .before .before .slot-refusal .ensures ∙ rw (c .before .before .before .before .lent-refusal .ensures) (slot-tests st (a .s) (i .result) (not) 5 (i .ensures .0)) in
+returns c =
+    let c3 = c .before .before .before in
+    let c4 = c3 .before in
+    let c7 = c4 .before .before .before in
+    let a = c7 .args in
+    let st = state (a .pool .now) (a .t2) in
+    let i = c3 .slot-index in
+    let w : c .before .before .slot-refusal .result ≡ firstOf (readerTests st (a .s)) =
+        c .before .before .slot-refusal .ensures ∙ rw (c4 .lent-refusal .ensures) (slot-tests st (a .s) (i .result) (not) 5 (i .ensures .0)) in
     let e = unless-refused (readerTests st (a .s)) st (outcome ok (endReading st (a .s))) (c .before .before .slot-refusal .result) (sym w) (c .before .if1 .taken) in
     (c .refused .ensures .0 ∙ sym (ap (λ (o : Outcome). o .answer) e), rw (c .refused .ensures .1) (sym (ap (λ (o : Outcome). o .after) e)))
 
 end-reading-requires : tie.Need-end-reading-requires
-end-reading-requires c κs = let a = c .before .before .before .before .before .before .before .args in let st = state (a .pool .now) (a .t2) in let i = c .before .before .before .slot-index in
-    let w : c .before .before .slot-refusal .result ≡ firstOf (readerTests st (a .s)) = c .before .before .slot-refusal .ensures ∙ rw (c .before .before .before .before .lent-refusal .ensures) (slot-tests st (a .s) (i .result) (not) 5 (i .ensures .0)) in
+end-reading-requires c κs =
+    let c3 = c .before .before .before in
+    let c4 = c3 .before in
+    let c7 = c4 .before .before .before in
+    let a = c7 .args in
+    let st = state (a .pool .now) (a .t2) in
+    let i = c3 .slot-index in
+    let w : c .before .before .slot-refusal .result ≡ firstOf (readerTests st (a .s)) =
+        c .before .before .slot-refusal .ensures ∙ rw (c4 .lent-refusal .ensures) (slot-tests st (a .s) (i .result) (not) 5 (i .ensures .0)) in
     let z = sym w ∙ c .before .if1 .left in
     (lent-of st (slotTooHigh (a .s) gives 3 ∷ not (reading st (a .s)) gives 5 ∷ []) z .size, slot-of st (a .s) (not (reading st (a .s))) 5 (omega arith) z)
 
@@ -72,12 +86,22 @@ same-length-2 c = search needs
 
 returns-2 : tie.Need-returns-2
 unfolding giveUp withReader
-returns-2 c = let a = c .before .before .before .before .before .before .before .before .before .before .before .before .args in let st = state (a .pool .now) (a .t2) in let i = c .before .before .before .before .before .before .before .before .slot-index in
-    let w : c .before .before .before .before .before .before .before .slot-refusal .result ≡ firstOf (readerTests st (a .s)) = c .before .before .before .before .before .before .before .slot-refusal .ensures ∙ rw (c .before .before .before .before .before .before .before .before .before .lent-refusal .ensures) (slot-tests st (a .s) (i .result) (not) 5 (i .ensures .0)) in
-    let z = sym w ∙ c .before .before .before .before .before .before .if1 .left in
+returns-2 c =
+    let c4 = c .before .before .before .before in
+    let c6 = c4 .before .before in
+    let c7 = c6 .before in
+    let c8 = c7 .before in
+    let c9 = c8 .before in
+    let c12 = c9 .before .before .before in
+    let a = c12 .args in
+    let st = state (a .pool .now) (a .t2) in
+    let i = c8 .slot-index in
+    let w : c7 .slot-refusal .result ≡ firstOf (readerTests st (a .s)) = c7 .slot-refusal .ensures ∙ rw (c9 .lent-refusal .ensures) (slot-tests st (a .s) (i .result) (not) 5 (i .ensures .0)) in
+    let z = sym w ∙ c6 .if1 .left in
     let e = unless-done (readerTests st (a .s)) st (outcome ok (endReading st (a .s))) z in (
       c .accepted .ensures .0 ∙ sym (ap (λ (o : Outcome). o .answer) e),
-      rw (c .accepted .ensures .1, index-of (a .s) (i .result) (i .ensures .0) (slot-of st (a .s) (not (reading st (a .s))) 5 (omega arith) z), c .before .no-reader .ensures) (c .before .before .before .before .end-reading .ensures (a .t2) ∙ sym (ap (λ (o : Outcome). o .after) e)),
+      rw (c .accepted .ensures .1, index-of (a .s) (i .result) (i .ensures .0) (slot-of st (a .s) (not (reading st (a .s))) 5 (omega arith) z), c .before .no-reader .ensures)
+          (c4 .end-reading .ensures (a .t2) ∙ sym (ap (λ (o : Outcome). o .after) e)),
     )
 
 pub give-up-spec : {M : Type 1} → statement M

@@ -45,8 +45,15 @@ same-length c = search needs
 
 returns : tie.Need-returns
 unfolding readerTurn
-returns c = let a = c .before .before .before .before .before .before .before .before .before .args in let st = state (a .pool .now) (a .t2) in let i = c .before .before .before .before .before .slot-index in
-    let w : c .before .before .slot-refusal .result ≡ firstOf (readerTests st (a .s)) = c .before .before .slot-refusal .ensures ∙ rw (c .before .before .before .before .before .before .lent-refusal .ensures) (slot-tests st (a .s) (i .result) (not) 5 (i .ensures .0)) in
+returns c =
+    let c5 = c .before .before .before .before .before in
+    let c6 = c5 .before in
+    let c9 = c6 .before .before .before in
+    let a = c9 .args in
+    let st = state (a .pool .now) (a .t2) in
+    let i = c5 .slot-index in
+    let w : c .before .before .slot-refusal .result ≡ firstOf (readerTests st (a .s)) =
+        c .before .before .slot-refusal .ensures ∙ rw (c6 .lent-refusal .ensures) (slot-tests st (a .s) (i .result) (not) 5 (i .ensures .0)) in
     let e = unless-refused (readerTests st (a .s)) st (readerStep st (a .s)) (c .before .before .slot-refusal .result) (sym w) (c .before .if1 .taken) in
     (c .refuses-reader .ensures .0 ∙ sym (ap (λ (o : Outcome). o .answer) e), rw (c .refuses-reader .ensures .1) (sym (ap (λ (o : Outcome). o .after) e)))
 
@@ -54,9 +61,17 @@ look-requires : tie.Need-look-requires
 look-requires c κs = search needs
 
 leave-requires : tie.Need-leave-requires
-leave-requires c κs = let a = c .before .before .before .before .before .before .before .before .before .before .before .args in let st = state (a .pool .now) (a .t2) in let i = c .before .before .before .before .before .before .before .slot-index in
-    let w : c .before .before .before .before .slot-refusal .result ≡ firstOf (readerTests st (a .s)) = c .before .before .before .before .slot-refusal .ensures ∙ rw (c .before .before .before .before .before .before .before .before .lent-refusal .ensures) (slot-tests st (a .s) (i .result) (not) 5 (i .ensures .0)) in
-    let z = sym w ∙ c .before .before .before .if1 .left in
+leave-requires c κs =
+    let c3 = c .before .before .before in
+    let c4 = c3 .before in
+    let c7 = c4 .before .before .before in
+    let c8 = c7 .before in
+    let c11 = c8 .before .before .before in
+    let a = c11 .args in
+    let st = state (a .pool .now) (a .t2) in
+    let i = c7 .slot-index in
+    let w : c4 .slot-refusal .result ≡ firstOf (readerTests st (a .s)) = c4 .slot-refusal .ensures ∙ rw (c8 .lent-refusal .ensures) (slot-tests st (a .s) (i .result) (not) 5 (i .ensures .0)) in
+    let z = sym w ∙ c3 .if1 .left in
     (lent-of st (slotTooHigh (a .s) gives 3 ∷ not (reading st (a .s)) gives 5 ∷ []) z .size, slot-of st (a .s) (not (reading st (a .s))) 5 (omega arith) z)
 
 reader-at-requires : tie.Need-reader-at-requires
@@ -76,14 +91,26 @@ same-length-2 c = search needs
 
 returns-2 : tie.Need-returns-2
 unfolding readerTurn withReader
-returns-2 c = let a = c .before .before .before .before .before .before .before .before .before .before .before .before .before .before .before .before .args in let st = state (a .pool .now) (a .t2) in let i = c .before .before .before .before .before .before .before .before .before .before .before .before .slot-index in
-    let w : c .before .before .before .before .before .before .before .before .before .slot-refusal .result ≡ firstOf (readerTests st (a .s)) = c .before .before .before .before .before .before .before .before .before .slot-refusal .ensures ∙ rw (c .before .before .before .before .before .before .before .before .before .before .before .before .before .lent-refusal .ensures) (slot-tests st (a .s) (i .result) (not) 5 (i .ensures .0)) in
-    let z = sym w ∙ c .before .before .before .before .before .before .before .before .if1 .left in
+returns-2 c =
+    let c4 = c .before .before .before .before in
+    let c6 = c4 .before .before in
+    let c8 = c6 .before .before in
+    let c9 = c8 .before in
+    let c12 = c9 .before .before .before in
+    let c13 = c12 .before in
+    let c16 = c13 .before .before .before in
+    let a = c16 .args in
+    let st = state (a .pool .now) (a .t2) in
+    let i = c12 .slot-index in
+    let w : c9 .slot-refusal .result ≡ firstOf (readerTests st (a .s)) = c9 .slot-refusal .ensures ∙ rw (c13 .lent-refusal .ensures) (slot-tests st (a .s) (i .result) (not) 5 (i .ensures .0)) in
+    let z = sym w ∙ c8 .if1 .left in
     let s = a .s in
     let j : i .result ≡ s = index-of s (i .result) (i .ensures .0) (slot-of st s (not (reading st s)) 5 (omega arith) z) in
     let e = unless-done (readerTests st s) st (readerStep st s) z in
-    let l = c .before .before .before .before .leave in let k = c .before .before .before .before .before .before .look in
-    let f = turn-looked (a .pool .now) (l .last .0) (a .t2) (l .result) s (i .result) (k .result .node) (c .before .reader-at .result) (readerSays (k .result .answer)) j (k .ensures .0, k .ensures .1, c .before .reader-at .ensures) (l .ensures) in
+    let l = c4 .leave in
+    let k = c6 .look in
+    let f = turn-looked (a .pool .now) (l .last .0) (a .t2) (l .result) s (i .result) (k .result .node) (c .before .reader-at .result) (readerSays (k .result .answer)) j
+        (k .ensures .0, k .ensures .1, c .before .reader-at .ensures) (l .ensures) in
     (c .answers-reader .ensures .0 ∙ f .0 ∙ sym (ap (λ (o : Outcome). o .answer) e), rw (c .answers-reader .ensures .1) (f .1 ∙ sym (ap (λ (o : Outcome). o .after) e)))
 
 pub reader-turn-spec : {M : Type 1} → statement M

@@ -39,7 +39,11 @@ fresh-register-requires : tie.Need-fresh-register-requires
 fresh-register-requires c κs = search needs
 
 fresh-pool-requires : tie.Need-fresh-pool-requires
-fresh-pool-requires c κs = let e : lengthRight (c .before .before .before .before .before .before .before .before .args .pool .now) ≡ true = sym (c .before .before .before .before .before .length-right .ensures) ∙ not-false _ (c .before .before .before .before .if1 .left) in (right-length (c .before .before .before .before .before .before .before .before .args .pool .now) e, whole-length (c .before .before .before .before .before .before .before .before .args .pool .now) e)
+fresh-pool-requires c κs =
+    let c4 = c .before .before .before .before in
+    let c5 = c4 .before in
+    let c8 = c5 .before .before .before in
+    let e : lengthRight (c8 .args .pool .now) ≡ true = sym (c5 .length-right .ensures) ∙ not-false _ (c4 .if1 .left) in (right-length (c8 .args .pool .now) e, whole-length (c8 .args .pool .now) e)
 
 accepted-requires : tie.Need-accepted-requires
 accepted-requires c κs = search needs
@@ -49,8 +53,15 @@ same-length-2 c = search needs
 
 returns-2 : tie.Need-returns-2
 unfolding setUp fresh
-returns-2 c = let e : lengthRight (c .before .before .before .before .before .before .before .before .before .before .before .before .args .pool .now) ≡ true = sym (c .before .before .before .before .before .before .before .before .before .length-right .ensures) ∙ not-false _ (c .before .before .before .before .before .before .before .before .if1 .left) in
-    rw (e, c .accepted .ensures .1) (c .accepted .ensures .0, rw (c .before .before .before .before .before .fresh-register .ensures, c .before .before .before .fresh-pool .ensures, c .before .before .before .before .before .before .nodes .ensures))
+returns-2 c =
+    let c3 = c .before .before .before in
+    let c5 = c3 .before .before in
+    let c6 = c5 .before in
+    let c8 = c6 .before .before in
+    let c9 = c8 .before in
+    let c12 = c9 .before .before .before in
+    let e : lengthRight (c12 .args .pool .now) ≡ true = sym (c9 .length-right .ensures) ∙ not-false _ (c8 .if1 .left) in
+    rw (e, c .accepted .ensures .1) (c .accepted .ensures .0, rw (c5 .fresh-register .ensures, c3 .fresh-pool .ensures, c6 .nodes .ensures))
 
 pub set-up-spec : {M : Type 1} → statement M
 set-up-spec =

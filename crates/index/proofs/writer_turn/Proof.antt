@@ -25,8 +25,13 @@ same-length : tie.Need-same-length
 same-length c = search needs
 
 returns : tie.Need-returns
-returns c = let a = c .before .before .before .before .before .args in let st = state (a .pool .now) (a .reg) in let e = writer-lent st (λ z. c .before .if1 .taken (c .before .before .lent-refusal .ensures ∙ z)) in
-    (c .refuses-writer .ensures .0 ∙ rw (c .before .before .lent-refusal .ensures) (sym (ap (λ (o : Outcome). o .answer) e)), rw (c .refuses-writer .ensures .1) (sym (ap (λ (o : Outcome). o .after) e)))
+returns c =
+    let c5 = c .before .before .before .before .before in
+    let a = c5 .args in
+    let st = state (a .pool .now) (a .reg) in
+    let e = writer-lent st (λ z. c .before .if1 .taken (c .before .before .lent-refusal .ensures ∙ z)) in
+    (c .refuses-writer .ensures .0 ∙ rw (c .before .before .lent-refusal .ensures) (sym (ap (λ (o : Outcome). o .answer) e)),
+        rw (c .refuses-writer .ensures .1) (sym (ap (λ (o : Outcome). o .after) e)))
 
 refuses-writer-requires-2 : tie.Need-refuses-writer-requires-2
 refuses-writer-requires-2 c κs = search needs
@@ -35,7 +40,14 @@ same-length-2 : tie.Need-same-length-2
 same-length-2 c = search needs
 
 returns-2 : tie.Need-returns-2
-returns-2 c = let a = c .before .before .before .before .before .before .before .before .args in let st = state (a .pool .now) (a .reg) in let w : writeInHand st ≡ false = rw (eq-eqb _ _ (c .before .if2 .taken)) in let e = writer-idle st (sym (c .before .before .before .before .before .lent-refusal .ensures) ∙ c .before .before .before .before .if1 .left) w in
+returns-2 c =
+    let c4 = c .before .before .before .before in
+    let c5 = c4 .before in
+    let c8 = c5 .before .before .before in
+    let a = c8 .args in
+    let st = state (a .pool .now) (a .reg) in
+    let w : writeInHand st ≡ false = rw (eq-eqb _ _ (c .before .if2 .taken)) in
+    let e = writer-idle st (sym (c5 .lent-refusal .ensures) ∙ c4 .if1 .left) w in
     (c .refuses-writer2 .ensures .0 ∙ sym (ap (λ (o : Outcome). o .answer) e), rw (c .refuses-writer2 .ensures .1) (sym (ap (λ (o : Outcome). o .after) e)))
 
 waits-requires : tie.Need-waits-requires
@@ -45,11 +57,26 @@ same-length-3 : tie.Need-same-length-3
 same-length-3 c = search needs
 
 returns-3 : tie.Need-returns-3
-returns-3 c = let a = c .before .before .before .before .before .before .before .before .before .before .args in let st = state (a .pool .now) (a .reg) in let w : writeInHand st ≡ true = rw (ne-eqb _ _ (c .before .before .before .if2 .left)) in let e = writer-waits st (sym (c .before .before .before .before .before .before .before .lent-refusal .ensures) ∙ c .before .before .before .before .before .before .if1 .left) w (c .before .if3 .taken) in
+returns-3 c =
+    let c3 = c .before .before .before in
+    let c6 = c3 .before .before .before in
+    let c7 = c6 .before in
+    let c10 = c7 .before .before .before in
+    let a = c10 .args in
+    let st = state (a .pool .now) (a .reg) in
+    let w : writeInHand st ≡ true = rw (ne-eqb _ _ (c3 .if2 .left)) in
+    let e = writer-waits st (sym (c7 .lent-refusal .ensures) ∙ c6 .if1 .left) w (c .before .if3 .taken) in
     (c .waits .ensures .0 ∙ sym (ap (λ (o : Outcome). o .answer) e), rw (c .waits .ensures .1) (sym (ap (λ (o : Outcome). o .after) e)))
 
 make-first-requires : tie.Need-make-first-requires
-make-first-requires c κs = let a = c .before .before .before .before .before .before .before .before .before .before .args in let st = state (a .pool .now) (a .reg) in let w : writeInHand st ≡ true = rw (ne-eqb _ _ (c .before .before .before .if2 .left)) in (sym (c .before .before .before .before .before .before .before .lent-refusal .ensures) ∙ c .before .before .before .before .before .before .if1 .left, w, c .before .if3 .left)
+make-first-requires c κs =
+    let c3 = c .before .before .before in
+    let c6 = c3 .before .before .before in
+    let c7 = c6 .before in
+    let c10 = c7 .before .before .before in
+    let a = c10 .args in
+    let st = state (a .pool .now) (a .reg) in
+    let w : writeInHand st ≡ true = rw (ne-eqb _ _ (c3 .if2 .left)) in (sym (c7 .lent-refusal .ensures) ∙ c6 .if1 .left, w, c .before .if3 .left)
 
 same-length-4 : tie.Need-same-length-4
 same-length-4 c = search needs

@@ -37,7 +37,10 @@ returns-3 c = rw (le-leb _ _ (c .before .before .before .before .if1 .left), le-
 
 returns-4 : tie.Need-returns-4
 unfolding fieldTaken isDigit
-returns-4 c = rw (le-leb _ _ (c .before .before .before .before .before .if1 .left), le-leb _ _ (c .before .before .before .before .if2 .left), c .before .before .f .given .1) (c .with-digit2 .ensures)
+returns-4 c =
+    let c4 = c .before .before .before .before in
+    let c5 = c4 .before in
+    rw (le-leb _ _ (c5 .if1 .left), le-leb _ _ (c4 .if2 .left), c .before .before .f .given .1) (c .with-digit2 .ensures)
 
 returns-5 : tie.Need-returns-5
 unfolding fieldTaken isDigit

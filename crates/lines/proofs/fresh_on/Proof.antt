@@ -38,7 +38,9 @@ letter-on-requires : tie.Need-letter-on-requires
 letter-on-requires c κs = search needs
 
 returns-4 : tie.Need-returns-4
-returns-4 c = let a = c .before .before .before .before .before .before .args in c .letter-on .ensures ∙ sym (cut-byte (a .input .now) (a .from) Fresh (omega arith) (c .before .before .if2 .left) (c .before .if3 .left))
+returns-4 c =
+    let c6 = c .before .before .before .before .before .before in
+    let a = c6 .args in c .letter-on .ensures ∙ sym (cut-byte (a .input .now) (a .from) Fresh (omega arith) (c .before .before .if2 .left) (c .before .if3 .left))
 
 pub fresh-on-spec : {M : Type 1} → statement M
 fresh-on-spec =

@@ -25,7 +25,10 @@ add-t11 : tie.Need-add-t11 Inv-loop μ-loop
 add-t11 c = search needs
 
 returns : tie.Need-returns Inv-loop μ-loop
-returns c = sym (cut-line (c .before .before .before .before .args .input .now) (c .before .before .before .loop .i) Ill (c .before .before .loop-test .taken) (c .if1 .taken)) ∙ c .before .before .before .loop .inv .1
+returns c =
+    let c3 = c .before .before .before in
+    let c4 = c3 .before in
+    sym (cut-line (c4 .args .input .now) (c3 .loop .i) Ill (c .before .before .loop-test .taken) (c .if1 .taken)) ∙ c3 .loop .inv .1
 
 add-i : tie.Need-add-i Inv-loop μ-loop
 add-i c = search needs
@@ -34,7 +37,10 @@ loop-less : tie.Need-loop-less Inv-loop μ-loop
 loop-less c = search needs
 
 loop-again : tie.Need-loop-again Inv-loop μ-loop
-loop-again c = (search needs, sym (cut-ill (c .before .before .before .before .args .input .now) (c .before .before .before .loop .i) (c .before .before .loop-test .taken) (c .if1 .left)) ∙ c .before .before .before .loop .inv .1)
+loop-again c =
+    let c3 = c .before .before .before in
+    let c4 = c3 .before in
+    (search needs, sym (cut-ill (c4 .args .input .now) (c3 .loop .i) (c .before .before .loop-test .taken) (c .if1 .left)) ∙ c3 .loop .inv .1)
 
 returns-2 : tie.Need-returns-2 Inv-loop μ-loop
 returns-2 c = sym (cut-end (c .before .before .args .input .now) (c .before .loop .i) Ill (c .loop-test .left)) ∙ c .before .loop .inv .1

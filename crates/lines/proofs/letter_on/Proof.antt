@@ -43,7 +43,9 @@ ill-on-requires : tie.Need-ill-on-requires
 ill-on-requires c κs = search needs
 
 returns-4 : tie.Need-returns-4
-returns-4 c = let a = c .before .before .before .before .before .before .args in c .ill-on .ensures ∙ sym (cut-byte (a .input .now) (a .from) (Letter (a .l)) (omega arith) (c .before .before .if2 .left) (c .before .if3 .left))
+returns-4 c =
+    let c6 = c .before .before .before .before .before .before in
+    let a = c6 .args in c .ill-on .ensures ∙ sym (cut-byte (a .input .now) (a .from) (Letter (a .l)) (omega arith) (c .before .before .if2 .left) (c .before .if3 .left))
 
 pub letter-on-spec : {M : Type 1} → statement M
 letter-on-spec =

@@ -19,13 +19,21 @@ link-field-requires : tie.Need-link-field-requires
 link-field-requires c κs = omega (arith, simp length-append at (c .before .before .before .text-field .ensures .ends))
 
 number-field-requires : tie.Need-number-field-requires
-number-field-requires c κs = omega (arith, simp length-append at (c .before .before .before .before .before .before .before .text-field .ensures .ends), c .before .before .before .link-field .ensures .1, short-length (c .before .before .before .before .before .before .before .before .before .before .before .args .n) (search needs))
+number-field-requires c κs =
+    let c3 = c .before .before .before in
+    let c7 = c3 .before .before .before .before in
+    let c11 = c7 .before .before .before .before in
+    omega (arith, simp length-append at (c7 .text-field .ensures .ends), c3 .link-field .ensures .1, short-length (c11 .args .n) (search needs))
 
 same-length : tie.Need-same-length
 same-length c = search needs
 
 returns : tie.Need-returns
-returns c = put-field (c .before .before .before .before .before .before .before .before .before .before .before .before .before .before .args .word .now) (c .before .before .before .before .before .before .before .before .before .before .text-field .ensures) (put-field (linkText (c .before .before .before .before .before .before .before .before .before .before .before .before .before .before .args .l)) (c .before .before .before .before .before .before .link-field .ensures .0) (c .before .before .number-field .ensures))
+returns c =
+    let c6 = c .before .before .before .before .before .before in
+    let c10 = c6 .before .before .before .before in
+    let c14 = c10 .before .before .before .before in
+    put-field (c14 .args .word .now) (c10 .text-field .ensures) (put-field (linkText (c14 .args .l)) (c6 .link-field .ensures .0) (c .before .before .number-field .ensures))
 
 pub linked-spec : {M : Type 1} → statement M
 linked-spec =

@@ -21,13 +21,21 @@ text-field-requires-2 : tie.Need-text-field-requires-2
 text-field-requires-2 c κs = omega (arith, simp length-append at (c .before .before .before .before .text-field .ensures .ends))
 
 number-field-requires : tie.Need-number-field-requires
-number-field-requires c κs = omega (arith, simp length-append at (c .before .before .before .before .before .before .before .before .text-field .ensures .ends), c .before .before .before .text-field2 .ensures .ends, short-length (c .before .before .before .before .before .before .before .before .before .before .before .before .args .n) (search needs))
+number-field-requires c κs =
+    let c3 = c .before .before .before in
+    let c8 = c3 .before .before .before .before .before in
+    let c12 = c8 .before .before .before .before in
+    omega (arith, simp length-append at (c8 .text-field .ensures .ends), c3 .text-field2 .ensures .ends, short-length (c12 .args .n) (search needs))
 
 same-length : tie.Need-same-length
 same-length c = search needs
 
 returns : tie.Need-returns
-returns c = put-field (c .before .before .before .before .before .before .before .before .before .before .before .before .before .before .before .args .word .now) (c .before .before .before .before .before .before .before .before .before .before .before .text-field .ensures) (put-field (text "-") (c .before .before .before .before .before .before .text-field2 .ensures) (c .before .before .number-field .ensures))
+returns c =
+    let c6 = c .before .before .before .before .before .before in
+    let c11 = c6 .before .before .before .before .before in
+    let c15 = c11 .before .before .before .before in
+    put-field (c15 .args .word .now) (c11 .text-field .ensures) (put-field (text "-") (c6 .text-field2 .ensures) (c .before .before .number-field .ensures))
 
 pub numbered-spec : {M : Type 1} → statement M
 numbered-spec =

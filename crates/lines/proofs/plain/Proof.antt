@@ -22,13 +22,20 @@ slice-aggregate-text-field-2 : tie.Need-slice-aggregate-text-field-2
 slice-aggregate-text-field-2 c = search needs
 
 text-field-requires-3 : tie.Need-text-field-requires-3
-text-field-requires-3 c κs = omega (arith, simp length-append at (c .before .before .before .before .before .before .before .before .before .text-field .ensures .ends), c .before .before .before .before .text-field2 .ensures .ends)
+text-field-requires-3 c κs =
+    let c4 = c .before .before .before .before in
+    let c9 = c4 .before .before .before .before .before in
+    omega (arith, simp length-append at (c9 .text-field .ensures .ends), c4 .text-field2 .ensures .ends)
 
 same-length : tie.Need-same-length
 same-length c = search needs
 
 returns : tie.Need-returns
-returns c = put-field (c .before .before .before .before .before .before .before .before .before .before .before .before .before .before .before .before .args .word .now) (c .before .before .before .before .before .before .before .before .before .before .before .before .text-field .ensures) (put-field (text "-") (c .before .before .before .before .before .before .before .text-field2 .ensures) (c .before .before .text-field3 .ensures))
+returns c =
+    let c7 = c .before .before .before .before .before .before .before in
+    let c12 = c7 .before .before .before .before .before in
+    let c16 = c12 .before .before .before .before in
+    put-field (c16 .args .word .now) (c12 .text-field .ensures) (put-field (text "-") (c7 .text-field2 .ensures) (c .before .before .text-field3 .ensures))
 
 pub plain-spec : {M : Type 1} → statement M
 plain-spec =

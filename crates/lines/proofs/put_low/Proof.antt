@@ -33,7 +33,10 @@ same-length-2 : tie.Need-same-length-2
 same-length-2 c = search needs
 
 returns-2 : tie.Need-returns-2
-returns-2 c = put-as (sym (decimal-two (c .before .before .before .before .before .before .args .n) (c .before .before .before .before .if1 .left) (c .before .before .before .before .before .before .pre .0))) (c .before .before .put-two .ensures)
+returns-2 c =
+    let c4 = c .before .before .before .before in
+    let c6 = c4 .before .before in
+    put-as (sym (decimal-two (c6 .args .n) (c4 .if1 .left) (c6 .pre .0))) (c .before .before .put-two .ensures)
 
 pub put-low-spec : {M : Type 1} → statement M
 put-low-spec =

@@ -23,13 +23,21 @@ put-low-requires-2 : tie.Need-put-low-requires-2
 put-low-requires-2 c κs = (search needs, omega (arith, length-hundred (c .before .before .before .args .n) (c .before .if1 .left)))
 
 put-two-requires : tie.Need-put-two-requires
-put-two-requires c κs = (search needs, omega (arith, c .before .before .before .put-low2 .ensures .ends, length-hundred (c .before .before .before .before .before .before .before .args .n) (c .before .before .before .before .before .if1 .left)))
+put-two-requires c κs =
+    let c3 = c .before .before .before in
+    let c5 = c3 .before .before in
+    let c7 = c5 .before .before in
+    (search needs, omega (arith, c3 .put-low2 .ensures .ends, length-hundred (c7 .args .n) (c5 .if1 .left)))
 
 same-length-2 : tie.Need-same-length-2
 same-length-2 c = search needs
 
 returns-2 : tie.Need-returns-2
-returns-2 c = put-as (sym (decimal-hundred (c .before .before .before .before .before .before .before .before .before .before .args .n) (c .before .before .before .before .before .before .before .before .if1 .left))) (put-both (c .before .before .before .before .before .before .put-low2 .ensures) (c .before .before .put-two .ensures))
+returns-2 c =
+    let c6 = c .before .before .before .before .before .before in
+    let c8 = c6 .before .before in
+    let c10 = c8 .before .before in
+    put-as (sym (decimal-hundred (c10 .args .n) (c8 .if1 .left))) (put-both (c6 .put-low2 .ensures) (c .before .before .put-two .ensures))
 
 pub put-small-spec : {M : Type 1} → statement M
 put-small-spec =

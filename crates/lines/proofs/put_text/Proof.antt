@@ -35,7 +35,10 @@ loop-less : tie.Need-loop-less Inv-loop μ-loop
 loop-less c = search needs
 
 loop-again : tie.Need-loop-again Inv-loop μ-loop
-loop-again c = let l = c .before .before .loop in (search needs, search needs, put-next (c .before .before .before .args .out .now) (c .before .before .before .args .at) (c .before .before .before .args .s .now) (l .out) (l .i) (c .before .loop-test .taken) (omega arith) (l .inv .2))
+loop-again c =
+    let c3 = c .before .before .before in
+    let l = c .before .before .loop in
+    (search needs, search needs, put-next (c3 .args .out .now) (c3 .args .at) (c3 .args .s .now) (l .out) (l .i) (c .before .loop-test .taken) (omega arith) (l .inv .2))
 
 add-result : tie.Need-add-result Inv-loop μ-loop
 add-result c = search needs
@@ -44,7 +47,9 @@ same-length : tie.Need-same-length Inv-loop μ-loop
 same-length c = search needs
 
 returns : tie.Need-returns Inv-loop μ-loop
-returns c = put-all (c .before .before .args .out .now) (c .before .before .args .at) (c .before .before .args .s .now) (c .before .loop .out) (c .before .loop .i) (c .loop-test .left) (c .before .loop .inv .2)
+returns c =
+    put-all (c .before .before .args .out .now) (c .before .before .args .at) (c .before .before .args .s .now) (c .before .loop .out) (c .before .loop .i) (c .loop-test .left)
+        (c .before .loop .inv .2)
 
 pub put-text-spec : {M : Type 1} → statement M
 put-text-spec =

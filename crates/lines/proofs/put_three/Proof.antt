@@ -13,7 +13,10 @@ number-field-requires : tie.Need-number-field-requires
 number-field-requires c κs = omega (arith, short-length (c .before .before .args .a) (search needs))
 
 number-field-requires-2 : tie.Need-number-field-requires-2
-number-field-requires-2 c κs = omega (arith, short-length (c .before .before .before .before .before .before .args .a) (search needs), simp length-append at (c .before .before .before .number-field .ensures .ends), short-length (c .before .before .before .before .before .before .args .b) (search needs))
+number-field-requires-2 c κs =
+    let c3 = c .before .before .before in
+    let c6 = c3 .before .before .before in
+    omega (arith, short-length (c6 .args .a) (search needs), simp length-append at (c3 .number-field .ensures .ends), short-length (c6 .args .b) (search needs))
 
 number-field-requires-3 : tie.Need-number-field-requires-3
 number-field-requires-3 c κs = omega (
@@ -29,15 +32,19 @@ same-length : tie.Need-same-length
 same-length c = search needs
 
 returns : tie.Need-returns
-returns c = (
-  put-field (decimal (c .before .before .before .before .before .before .before .before .before .before .before .before .before .args .a)) (c .before .before .before .before .before .before .before .before .before .before .number-field .ensures) (put-field (decimal (c .before .before .before .before .before .before .before .before .before .before .before .before .before .args .b)) (c .before .before .before .before .before .before .number-field2 .ensures) (c .before .before .number-field3 .ensures)),
+returns c =
+    let c6 = c .before .before .before .before .before .before in
+    let c10 = c6 .before .before .before .before in
+    let c13 = c10 .before .before .before in
+    (
+  put-field (decimal (c13 .args .a)) (c10 .number-field .ensures) (put-field (decimal (c13 .args .b)) (c6 .number-field2 .ensures) (c .before .before .number-field3 .ensures)),
   omega (
     arith,
-    short-length (c .before .before .before .before .before .before .before .before .before .before .before .before .before .args .a) (search needs),
-    simp length-append at (c .before .before .before .before .before .before .before .before .before .before .number-field .ensures .ends),
-    short-length (c .before .before .before .before .before .before .before .before .before .before .before .before .before .args .b) (search needs),
-    simp length-append at (c .before .before .before .before .before .before .number-field2 .ensures .ends),
-    short-length (c .before .before .before .before .before .before .before .before .before .before .before .before .before .args .c) (search needs),
+    short-length (c13 .args .a) (search needs),
+    simp length-append at (c10 .number-field .ensures .ends),
+    short-length (c13 .args .b) (search needs),
+    simp length-append at (c6 .number-field2 .ensures .ends),
+    short-length (c13 .args .c) (search needs),
     simp length-append at (c .before .before .number-field3 .ensures .ends),
   ),
 )

@@ -22,9 +22,12 @@ same-length : tie.Need-same-length
 same-length c = search needs
 
 returns : tie.Need-returns
-returns c = (
-  put-as (sym (append-assoc (decimal (c .before .before .before .before .before .before .before .before .before .before .args .n)) (c .before .before .before .before .before .before .before .before .before .before .args .side .now) _)) (put-both (c .before .before .before .before .before .before .put-number .ensures) (c .before .before .text-field .ensures)),
-  omega (arith, c .before .before .before .before .before .before .put-number .ensures .ends, simp length-append at (c .before .before .text-field .ensures .ends), short-length (c .before .before .before .before .before .before .before .before .before .before .args .n) (search needs)),
+returns c =
+    let c6 = c .before .before .before .before .before .before in
+    let c10 = c6 .before .before .before .before in
+    (
+  put-as (sym (append-assoc (decimal (c10 .args .n)) (c10 .args .side .now) _)) (put-both (c6 .put-number .ensures) (c .before .before .text-field .ensures)),
+  omega (arith, c6 .put-number .ensures .ends, simp length-append at (c .before .before .text-field .ensures .ends), short-length (c10 .args .n) (search needs)),
 )
 
 pub side-field-spec : {M : Type 1} → statement M

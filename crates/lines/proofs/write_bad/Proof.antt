@@ -20,20 +20,31 @@ slice-aggregate-text-field : tie.Need-slice-aggregate-text-field
 slice-aggregate-text-field c = search needs
 
 text-field-requires : tie.Need-text-field-requires
-text-field-requires c κs = omega (arith, long-length (c .before .before .before .before .before .before .before .args .number) (search needs), simp length-append at (c .before .before .before .before .number-field .ensures .ends))
+text-field-requires c κs =
+    let c4 = c .before .before .before .before in
+    let c7 = c4 .before .before .before in
+    omega (arith, long-length (c7 .args .number) (search needs), simp length-append at (c4 .number-field .ensures .ends))
 
 slice-aggregate-plain : tie.Need-slice-aggregate-plain
 slice-aggregate-plain c = search needs
 
 plain-requires : tie.Need-plain-requires
-plain-requires c κs = omega (arith, long-length (c .before .before .before .before .before .before .before .before .before .before .before .before .args .number) (search needs), simp length-append at (c .before .before .before .before .before .before .before .before .before .number-field .ensures .ends), c .before .before .before .before .text-field .ensures .ends)
+plain-requires c κs =
+    let c4 = c .before .before .before .before in
+    let c9 = c4 .before .before .before .before .before in
+    let c12 = c9 .before .before .before in
+    omega (arith, long-length (c12 .args .number) (search needs), simp length-append at (c9 .number-field .ensures .ends), c4 .text-field .ensures .ends)
 
 same-length : tie.Need-same-length
 same-length c = search needs
 
 returns : tie.Need-returns
 unfolding badLine
-returns c = put-field (decimal (c .before .before .before .before .before .before .before .before .before .before .before .before .before .before .before .args .number)) (c .before .before .before .before .before .before .before .before .before .before .before .before .number-field .ensures) (put-field (text "-") (c .before .before .before .before .before .before .before .text-field .ensures) (c .before .before .plain .ensures))
+returns c =
+    let c7 = c .before .before .before .before .before .before .before in
+    let c12 = c7 .before .before .before .before .before in
+    let c15 = c12 .before .before .before in
+    put-field (decimal (c15 .args .number)) (c12 .number-field .ensures) (put-field (text "-") (c7 .text-field .ensures) (c .before .before .plain .ensures))
 
 pub write-bad-spec : {M : Type 1} → statement M
 write-bad-spec =

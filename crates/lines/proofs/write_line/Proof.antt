@@ -16,19 +16,36 @@ number-field-requires : tie.Need-number-field-requires
 number-field-requires c κs = omega (arith, long-length (c .before .before .args .number) (search needs))
 
 put-byte-requires : tie.Need-put-byte-requires
-put-byte-requires c κs = omega (arith, long-length (c .before .before .before .before .before .before .args .number) (search needs), simp length-append at (c .before .before .before .number-field .ensures .ends))
+put-byte-requires c κs =
+    let c3 = c .before .before .before in
+    let c6 = c3 .before .before .before in
+    omega (arith, long-length (c6 .args .number) (search needs), simp length-append at (c3 .number-field .ensures .ends))
 
 put-byte-requires-2 : tie.Need-put-byte-requires-2
-put-byte-requires-2 c κs = omega (arith, long-length (c .before .before .before .before .before .before .before .before .before .before .args .number) (search needs), simp length-append at (c .before .before .before .before .before .before .before .number-field .ensures .ends), c .before .before .before .put-byte .ensures .ends)
+put-byte-requires-2 c κs =
+    let c3 = c .before .before .before in
+    let c7 = c3 .before .before .before .before in
+    let c10 = c7 .before .before .before in
+    omega (arith, long-length (c10 .args .number) (search needs), simp length-append at (c7 .number-field .ensures .ends), c3 .put-byte .ensures .ends)
 
 put-said-requires : tie.Need-put-said-requires
-put-said-requires c κs = omega (arith, long-length (c .before .before .before .before .before .before .before .before .before .before .before .before .before .before .args .number) (search needs), simp length-append at (c .before .before .before .before .before .before .before .before .before .before .before .number-field .ensures .ends), c .before .before .before .before .before .before .before .put-byte .ensures .ends, c .before .before .before .put-byte2 .ensures .ends)
+put-said-requires c κs =
+    let c3 = c .before .before .before in
+    let c7 = c3 .before .before .before .before in
+    let c11 = c7 .before .before .before .before in
+    let c14 = c11 .before .before .before in
+    omega (arith, long-length (c14 .args .number) (search needs), simp length-append at (c11 .number-field .ensures .ends), c7 .put-byte .ensures .ends, c3 .put-byte2 .ensures .ends)
 
 same-length : tie.Need-same-length
 same-length c = search needs
 
 returns : tie.Need-returns
-returns c = put-line (c .before .before .before .before .before .before .before .before .before .before .before .before .before .before .before .before .before .args .number) (c .before .before .before .before .before .before .before .before .before .before .before .before .before .before .before .before .before .args .letter) (says (c .before .before .before .before .before .before .before .before .before .before .before .before .before .before .before .before .before .args .a)) (c .before .before .before .before .before .before .before .before .before .before .before .before .before .before .number-field .ensures) (c .before .before .before .before .before .before .before .before .before .before .put-byte .ensures) (c .before .before .before .before .before .before .put-byte2 .ensures) (c .before .before .put-said .ensures)
+returns c =
+    let c6 = c .before .before .before .before .before .before in
+    let c10 = c6 .before .before .before .before in
+    let c14 = c10 .before .before .before .before in
+    let c17 = c14 .before .before .before in
+    put-line (c17 .args .number) (c17 .args .letter) (says (c17 .args .a)) (c14 .number-field .ensures) (c10 .put-byte .ensures) (c6 .put-byte2 .ensures) (c .before .before .put-said .ensures)
 
 pub write-line-spec : {M : Type 1} → statement M
 write-line-spec =

@@ -44,7 +44,18 @@ same-length c = search needs
 
 returns-2 : tie.Need-returns-2
 unfolding nodeLine nodeShown
-returns-2 c = rw (← (c .before .before .before .before .before .before .before .before .before .before .before .before .before .before .word .ensures), eq-eqb _ _ (c .before .before .before .before .before .before .before .before .before .before .before .before .before .if1 .left), ← (c .before .before .before .before .before .before .before .before .before .before .before .before .word2 .ensures), ← (c .before .before .before .before .before .before .before .before .before .before .before .word3 .ensures), ← (c .before .before .before .before .before .before .before .before .before .before .word4 .ensures), ← (c .before .before .before .before .before .before .before .before .before .word5 .ensures), ← (c .before .before .before .before .before .before .before .before .word6 .ensures)) (put-six (decimal (c .before .before .before .before .before .before .before .before .before .before .before .before .before .before .before .before .before .args .n)) (decimal (c .before .before .before .before .before .before .before .before .before .before .before .before .word2 .result)) (decimal (c .before .before .before .before .before .before .before .before .before .before .before .word3 .result)) (c .before .before .before .before .before .before .put-three .ensures .0) (c .before .before .put-three2 .ensures .0))
+returns-2 c =
+    let c6 = c .before .before .before .before .before .before in
+    let c8 = c6 .before .before in
+    let c9 = c8 .before in
+    let c10 = c9 .before in
+    let c11 = c10 .before in
+    let c12 = c11 .before in
+    let c13 = c12 .before in
+    let c14 = c13 .before in
+    let c17 = c14 .before .before .before in
+    rw (← (c14 .word .ensures), eq-eqb _ _ (c13 .if1 .left), ← (c12 .word2 .ensures), ← (c11 .word3 .ensures), ← (c10 .word4 .ensures), ← (c9 .word5 .ensures), ← (c8 .word6 .ensures))
+        (put-six (decimal (c17 .args .n)) (decimal (c12 .word2 .result)) (decimal (c11 .word3 .result)) (c6 .put-three .ensures .0) (c .before .before .put-three2 .ensures .0))
 
 pub write-node-spec : {M : Type 1} → statement M
 write-node-spec =

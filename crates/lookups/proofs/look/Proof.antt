@@ -31,7 +31,10 @@ load-requires-2 : tie.Need-load-requires-2
 load-requires-2 c κs = search needs
 
 returns-3 : tie.Need-returns-3
-returns-3 c = rw (← (c .before .child-towards .ensures), ne-eqb _ _ (c .before .before .before .before .if1 .left), ← (c .before .before .before .word .ensures), ne-eqb _ _ (c .before .before .if2 .left)) (c .load2 .ensures)
+returns-3 c =
+    let c3 = c .before .before .before in
+    let c4 = c3 .before in
+    rw (← (c .before .child-towards .ensures), ne-eqb _ _ (c4 .if1 .left), ← (c3 .word .ensures), ne-eqb _ _ (c .before .before .if2 .left)) (c .load2 .ensures)
 
 pub look-spec : {M : Type 1} → statement M
 look-spec =

@@ -29,7 +29,12 @@ same-length : tie.Need-same-length Inv-loop μ-loop
 same-length c = search needs
 
 returns : tie.Need-returns Inv-loop μ-loop
-returns c = let l = c .before .before .before .loop in let h = c .before .before .loop-test .taken in (sym (leftmost-here (c .before .before .before .before .before .before .args .pool .now) (l .node) (upward (l .path) (l .d)) (65 - l .d) (omega arith) (sym (c .before .child .ensures) ∙ c .if1 .taken)) ∙ l .inv .3, omega arith)
+returns c =
+    let c3 = c .before .before .before in
+    let c6 = c3 .before .before .before in
+    let l = c3 .loop in
+    let h = c .before .before .loop-test .taken in
+    (sym (leftmost-here (c6 .args .pool .now) (l .node) (upward (l .path) (l .d)) (65 - l .d) (omega arith) (sym (c .before .child .ensures) ∙ c .if1 .taken)) ∙ l .inv .3, omega arith)
 
 cast-i : tie.Need-cast-i Inv-loop μ-loop
 cast-i c = search needs
@@ -50,18 +55,29 @@ loop-less : tie.Need-loop-less Inv-loop μ-loop
 loop-less c = search needs
 
 loop-again : tie.Need-loop-again Inv-loop μ-loop
-loop-again c = let l = c .before .before .before .before .loop in let a = c .before .before .before .before .before .before .before .args in let h = c .before .before .before .loop-test .taken in (
+loop-again c =
+    let c3 = c .before .before .before in
+    let c4 = c3 .before in
+    let c7 = c4 .before .before .before in
+    let l = c4 .loop in
+    let a = c7 .args in
+    let h = c3 .loop-test .taken in (
   omega arith,
   search needs,
   length-set (l .path) (l .d) (c .code-of .result) ∙ l .inv .2,
-  rw (c .code-of .ensures, upward-push (l .path) (l .d) (Left (l .node)) (omega arith) (l .inv .1), c .before .before .child .ensures) (sym (leftmost-step (a .pool .now) (l .node) (upward (l .path) (l .d)) (65 - l .d) (65 - (l .d + 1)) (omega arith) (λ z. c .before .if1 .left (c .before .before .child .ensures ∙ z))) ∙ l .inv .3),
+  rw (c .code-of .ensures, upward-push (l .path) (l .d) (Left (l .node)) (omega arith) (l .inv .1), c .before .before .child .ensures)
+      (sym (leftmost-step (a .pool .now) (l .node) (upward (l .path) (l .d)) (65 - l .d) (65 - (l .d + 1)) (omega arith) (λ z. c .before .if1 .left (c .before .before .child .ensures ∙ z)))
+          ∙ l .inv .3),
 )
 
 same-length-2 : tie.Need-same-length-2 Inv-loop μ-loop
 same-length-2 c = search needs
 
 returns-2 : tie.Need-returns-2 Inv-loop μ-loop
-returns-2 c = let l = c .before .loop in let h = c .loop-test .left in (upward-none _ ∙ (sym (leftmost-deep (c .before .before .before .before .args .pool .now) (l .node) (upward (l .path) (l .d)) (65 - l .d) (omega arith)) ∙ l .inv .3), omega arith)
+returns-2 c =
+    let c4 = c .before .before .before .before in
+    let l = c .before .loop in
+    let h = c .loop-test .left in (upward-none _ ∙ (sym (leftmost-deep (c4 .args .pool .now) (l .node) (upward (l .path) (l .d)) (65 - l .d) (omega arith)) ∙ l .inv .3), omega arith)
 
 pub leftmost-spec : {M : Type 1} → statement M
 leftmost-spec =

@@ -42,8 +42,16 @@ successor-plan-requires : tie.Need-successor-plan-requires
 successor-plan-requires c κs = search needs
 
 returns : tie.Need-returns
-returns c = let a = c .before .before .before .before .before .before .before .before .before .before .before .before .args in let e : twoChildren (a .pool .now) (a .b) ≡ true = sym (c .before .before .before .before .before .before .two-children .ensures) ∙ c .before .before .before .before .before .if1 .taken in
-    rw (delete-two (state (a .pool .now) (a .reg)) (a .l) (a .b) e, ← (c .before .before .before .before .before .before .before .before .before .before .word .ensures), ← (c .before .before .before .before .before .before .before .before .path-to .ensures .0), ← (c .before .before .before .successor-path .ensures .0)) (c .successor-plan .ensures)
+returns c =
+    let c3 = c .before .before .before in
+    let c5 = c3 .before .before in
+    let c6 = c5 .before in
+    let c8 = c6 .before .before in
+    let c10 = c8 .before .before in
+    let c12 = c10 .before .before in
+    let a = c12 .args in
+    let e : twoChildren (a .pool .now) (a .b) ≡ true = sym (c6 .two-children .ensures) ∙ c5 .if1 .taken in
+    rw (delete-two (state (a .pool .now) (a .reg)) (a .l) (a .b) e, ← (c10 .word .ensures), ← (c8 .path-to .ensures .0), ← (c3 .successor-path .ensures .0)) (c .successor-plan .ensures)
 
 slice-aggregate-unlink-plan : tie.Need-slice-aggregate-unlink-plan
 slice-aggregate-unlink-plan c = search needs
@@ -52,8 +60,14 @@ unlink-plan-requires : tie.Need-unlink-plan-requires
 unlink-plan-requires c κs = search needs
 
 returns-2 : tie.Need-returns-2
-returns-2 c = let a = c .before .before .before .before .before .before .before .before .before .args in let e : twoChildren (a .pool .now) (a .b) ≡ false = sym (c .before .before .before .two-children .ensures) ∙ c .before .before .if1 .left in
-    rw (delete-one (state (a .pool .now) (a .reg)) (a .l) (a .b) e, ← (c .before .before .before .before .before .before .before .word .ensures), ← (c .before .before .before .before .before .path-to .ensures .0)) (c .unlink-plan .ensures)
+returns-2 c =
+    let c3 = c .before .before .before in
+    let c5 = c3 .before .before in
+    let c7 = c5 .before .before in
+    let c9 = c7 .before .before in
+    let a = c9 .args in
+    let e : twoChildren (a .pool .now) (a .b) ≡ false = sym (c3 .two-children .ensures) ∙ c .before .before .if1 .left in
+    rw (delete-one (state (a .pool .now) (a .reg)) (a .l) (a .b) e, ← (c7 .word .ensures), ← (c5 .path-to .ensures .0)) (c .unlink-plan .ensures)
 
 pub delete-plan-spec : {M : Type 1} → statement M
 delete-plan-spec =

@@ -25,7 +25,11 @@ fixup-result-requires : tie.Need-fixup-result-requires
 fixup-result-requires c κs = search needs
 
 returns : tie.Need-returns
-returns c = let e : isRed (c .before .before .before .before .before .args .pool .now) (owner (c .before .before .before .before .before .args .l)) ≡ false = rw (← (c .before .before .before .owner .ensures), ← (c .before .before .is-red .ensures)) (not-true _ (c .before .if1 .taken)) in rw (e, c .fixup-result .ensures)
+returns c =
+    let c3 = c .before .before .before in
+    let c5 = c3 .before .before in
+    let e : isRed (c5 .args .pool .now) (owner (c5 .args .l)) ≡ false =
+        rw (← (c3 .owner .ensures), ← (c .before .before .is-red .ensures)) (not-true _ (c .before .if1 .taken)) in rw (e, c .fixup-result .ensures)
 
 slice-aggregate-path-to : tie.Need-slice-aggregate-path-to
 slice-aggregate-path-to c = search needs
@@ -40,7 +44,14 @@ insert-fixup-requires : tie.Need-insert-fixup-requires
 insert-fixup-requires c κs = search needs
 
 returns-2 : tie.Need-returns-2
-returns-2 c = let e : isRed (c .before .before .before .before .before .before .before .before .before .args .pool .now) (owner (c .before .before .before .before .before .before .before .before .before .args .l)) ≡ true = rw (← (c .before .before .before .before .before .before .before .owner .ensures), ← (c .before .before .before .before .before .before .is-red .ensures)) (not-false _ (c .before .before .before .before .before .if1 .left)) in rw (e, c .insert-fixup .ensures, c .before .before .before .path-to .ensures .0)
+returns-2 c =
+    let c3 = c .before .before .before in
+    let c5 = c3 .before .before in
+    let c6 = c5 .before in
+    let c7 = c6 .before in
+    let c9 = c7 .before .before in
+    let e : isRed (c9 .args .pool .now) (owner (c9 .args .l)) ≡ true =
+        rw (← (c7 .owner .ensures), ← (c6 .is-red .ensures)) (not-false _ (c5 .if1 .left)) in rw (e, c .insert-fixup .ensures, c3 .path-to .ensures .0)
 
 pub fixup-after-insert-spec : {M : Type 1} → statement M
 fixup-after-insert-spec =

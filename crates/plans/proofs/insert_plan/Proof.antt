@@ -23,12 +23,21 @@ one-store-requires c κs = search needs
 
 plan-requires : tie.Need-plan-requires
 unfolding writeOf fixupAfterInsert
-plan-requires c κs = let a = c .before .before .before .args in let h = insert-short (state (a .pool .now) (a .reg)) (a .k) (a .l) in rw (c .one-store .ensures, c .before .fixup-after-insert .ensures) (omega arith)
+plan-requires c κs =
+    let c3 = c .before .before .before in
+    let a = c3 .args in
+    let h = insert-short (state (a .pool .now) (a .reg)) (a .k) (a .l) in rw (c .one-store .ensures, c .before .fixup-after-insert .ensures) (omega arith)
 
 returns : tie.Need-returns
 unfolding insertPlan fixupAfterInsert
-returns c = let a = c .before .before .before .before .args in let st = state (a .pool .now) (a .reg) in let h = insert-short st (a .k) (a .l) in
-    (rw (c .plan .ensures .0, c .before .before .fixup-after-insert .ensures), rw (c .plan .ensures .1, c .before .one-store .ensures, c .before .before .fixup-after-insert .ensures) (push-write (store (a .l) (Insert (a .k) (a .v)) ∷ []) (endingStores (fixupAfterInsert st (a .k) (a .l) .ending)) (omega arith)))
+returns c =
+    let c4 = c .before .before .before .before in
+    let a = c4 .args in
+    let st = state (a .pool .now) (a .reg) in
+    let h = insert-short st (a .k) (a .l) in
+    (rw (c .plan .ensures .0, c .before .before .fixup-after-insert .ensures),
+        rw (c .plan .ensures .1, c .before .one-store .ensures, c .before .before .fixup-after-insert .ensures)
+            (push-write (store (a .l) (Insert (a .k) (a .v)) ∷ []) (endingStores (fixupAfterInsert st (a .k) (a .l) .ending)) (omega arith)))
 
 pub insert-plan-spec : {M : Type 1} → statement M
 insert-plan-spec =

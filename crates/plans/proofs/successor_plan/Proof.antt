@@ -53,16 +53,35 @@ two-stores-requires c κs = search needs
 
 plan-requires : tie.Need-plan-requires
 unfolding writeOf
-plan-requires c κs = let a = c .before .before .before .before .before .before .before .before .before .before .before .args in rw (c .two-stores .ensures, c .before .before .before .before .fixup-after-removal .ensures) (omega (arith, removal-short (a .pool .now) (c .before .before .before .before .before .before .node-at .result) (c .before .before .before .before .before .child .result) (upward (a .path .now) (a .depth))))
+plan-requires c κs =
+    let c4 = c .before .before .before .before in
+    let c5 = c4 .before in
+    let c6 = c5 .before in
+    let c11 = c6 .before .before .before .before .before in
+    let a = c11 .args in rw (c .two-stores .ensures, c4 .fixup-after-removal .ensures)
+        (omega (arith, removal-short (a .pool .now) (c6 .node-at .result) (c5 .child .result) (upward (a .path .now) (a .depth))))
 
 returns-2 : tie.Need-returns-2
-returns-2 c = let a = c .before .before .before .before .before .before .before .before .before .before .before .before .args in let p = a .pool .now in let st = state p (a .reg) in let path = upward (a .path .now) (a .depth) in
-    let n : c .before .before .before .before .before .before .before .node-at .result ≡ nextNode st path = rw (c .before .before .before .before .before .before .before .node-at .ensures, c .before .before .before .before .before .before .before .before .nearest .ensures) in
-    let i : c .before .before .before .before .before .fixup-after-removal .result .ending ≡ nextRemoval st path = rw (c .before .before .before .before .before .fixup-after-removal .ensures, c .before .before .before .before .before .before .child .ensures, n) in
-    let z : child p L (child p R (a .b)) ≡ 0 = rw (← (c .before .before .before .before .child2 .ensures), ← (c .before .before .before .child3 .ensures)) (c .before .before .if2 .taken) in
+returns-2 c =
+    let c3 = c .before .before .before in
+    let c4 = c3 .before in
+    let c5 = c4 .before in
+    let c6 = c5 .before in
+    let c7 = c6 .before in
+    let c8 = c7 .before in
+    let c9 = c8 .before in
+    let c12 = c9 .before .before .before in
+    let a = c12 .args in
+    let p = a .pool .now in
+    let st = state p (a .reg) in
+    let path = upward (a .path .now) (a .depth) in
+    let n : c7 .node-at .result ≡ nextNode st path = rw (c7 .node-at .ensures, c8 .nearest .ensures) in
+    let i : c5 .fixup-after-removal .result .ending ≡ nextRemoval st path = rw (c5 .fixup-after-removal .ensures, c6 .child .ensures, n) in
+    let z : child p L (child p R (a .b)) ≡ 0 = rw (← (c4 .child2 .ensures), ← (c3 .child3 .ensures)) (c .before .before .if2 .taken) in
     let h = removal-short p (nextNode st path) (child p R (nextNode st path)) path in
-    rw (successor-near st (a .l) (a .b) path (upward-some (a .path .now) (a .depth) (c .before .before .before .before .before .before .before .before .before .if1 .left)) z)
-    (rw (c .plan .ensures .0, i), rw (c .plan .ensures .1, c .before .two-stores .ensures, i) (push-write (store (a .l) Adopt ∷ store (a .l) Replace ∷ []) (endingStores (nextRemoval st path)) (omega arith)))
+    rw (successor-near st (a .l) (a .b) path (upward-some (a .path .now) (a .depth) (c9 .if1 .left)) z)
+    (rw (c .plan .ensures .0, i),
+        rw (c .plan .ensures .1, c .before .two-stores .ensures, i) (push-write (store (a .l) Adopt ∷ store (a .l) Replace ∷ []) (endingStores (nextRemoval st path)) (omega arith)))
 
 word-requires : tie.Need-word-requires
 word-requires c κs = search needs
@@ -72,16 +91,37 @@ two-stores-requires-2 c κs = search needs
 
 plan-requires-2 : tie.Need-plan-requires-2
 unfolding writeOf
-plan-requires-2 c κs = let a = c .before .before .before .before .before .before .before .before .before .before .before .before .args in rw (c .two-stores2 .ensures, c .before .before .before .before .before .fixup-after-removal .ensures) (omega (arith, removal-short (a .pool .now) (c .before .before .before .before .before .before .before .node-at .result) (c .before .before .before .before .before .before .child .result) (upward (a .path .now) (a .depth))))
+plan-requires-2 c κs =
+    let c5 = c .before .before .before .before .before in
+    let c6 = c5 .before in
+    let c7 = c6 .before in
+    let c12 = c7 .before .before .before .before .before in
+    let a = c12 .args in rw (c .two-stores2 .ensures, c5 .fixup-after-removal .ensures)
+        (omega (arith, removal-short (a .pool .now) (c7 .node-at .result) (c6 .child .result) (upward (a .path .now) (a .depth))))
 
 returns-3 : tie.Need-returns-3
-returns-3 c = let a = c .before .before .before .before .before .before .before .before .before .before .before .before .before .args in let p = a .pool .now in let st = state p (a .reg) in let path = upward (a .path .now) (a .depth) in
-    let n : c .before .before .before .before .before .before .before .before .node-at .result ≡ nextNode st path = rw (c .before .before .before .before .before .before .before .before .node-at .ensures, c .before .before .before .before .before .before .before .before .before .nearest .ensures) in
-    let i : c .before .before .before .before .before .before .fixup-after-removal .result .ending ≡ nextRemoval st path = rw (c .before .before .before .before .before .before .fixup-after-removal .ensures, c .before .before .before .before .before .before .before .child .ensures, n) in
-    let z : child p L (child p R (a .b)) ≡ 0 → ⊥ = rw (← (c .before .before .before .before .before .child2 .ensures), ← (c .before .before .before .before .child3 .ensures)) (c .before .before .before .if2 .left) in
+returns-3 c =
+    let c3 = c .before .before .before in
+    let c4 = c3 .before in
+    let c5 = c4 .before in
+    let c6 = c5 .before in
+    let c7 = c6 .before in
+    let c8 = c7 .before in
+    let c9 = c8 .before in
+    let c10 = c9 .before in
+    let c13 = c10 .before .before .before in
+    let a = c13 .args in
+    let p = a .pool .now in
+    let st = state p (a .reg) in
+    let path = upward (a .path .now) (a .depth) in
+    let n : c8 .node-at .result ≡ nextNode st path = rw (c8 .node-at .ensures, c9 .nearest .ensures) in
+    let i : c6 .fixup-after-removal .result .ending ≡ nextRemoval st path = rw (c6 .fixup-after-removal .ensures, c7 .child .ensures, n) in
+    let z : child p L (child p R (a .b)) ≡ 0 → ⊥ = rw (← (c5 .child2 .ensures), ← (c4 .child3 .ensures)) (c3 .if2 .left) in
     let h = removal-short p (nextNode st path) (child p R (nextNode st path)) path in
-    rw (successor-far st (a .l) (a .b) path (upward-some (a .path .now) (a .depth) (c .before .before .before .before .before .before .before .before .before .before .if1 .left)) z)
-    (rw (c .plan2 .ensures .0, i), rw (c .plan2 .ensures .1, c .before .two-stores2 .ensures, c .before .before .word .ensures, n, i) (push-write (store (a .l) (Publish (nextNode st path)) ∷ store (a .l) (Detach (word p (a .b) keyWord)) ∷ []) (endingStores (nextRemoval st path)) (omega arith)))
+    rw (successor-far st (a .l) (a .b) path (upward-some (a .path .now) (a .depth) (c10 .if1 .left)) z)
+    (rw (c .plan2 .ensures .0, i),
+        rw (c .plan2 .ensures .1, c .before .two-stores2 .ensures, c .before .before .word .ensures, n, i)
+            (push-write (store (a .l) (Publish (nextNode st path)) ∷ store (a .l) (Detach (word p (a .b) keyWord)) ∷ []) (endingStores (nextRemoval st path)) (omega arith)))
 
 pub successor-plan-spec : {M : Type 1} → statement M
 successor-plan-spec =

@@ -28,12 +28,23 @@ one-store-requires c κs = search needs
 
 plan-requires : tie.Need-plan-requires
 unfolding writeOf
-plan-requires c κs = let a = c .before .before .before .before .before .args in let h = removal-short (a .pool .now) (a .b) (onlyChild (a .pool .now) (a .b)) (upward (a .path .now) (a .depth)) in rw (c .one-store .ensures, c .before .fixup-after-removal .ensures, c .before .before .only-child .ensures) (omega arith)
+plan-requires c κs =
+    let c5 = c .before .before .before .before .before in
+    let a = c5 .args in
+    let h = removal-short (a .pool .now) (a .b) (onlyChild (a .pool .now) (a .b)) (upward (a .path .now) (a .depth)) in
+    rw (c .one-store .ensures, c .before .fixup-after-removal .ensures, c .before .before .only-child .ensures) (omega arith)
 
 returns : tie.Need-returns
 unfolding unlinkPlan
-returns c = let a = c .before .before .before .before .before .before .args in let p = a .pool .now in let h = removal-short p (a .b) (onlyChild p (a .b)) (upward (a .path .now) (a .depth)) in
-    (rw (c .plan .ensures .0, c .before .before .fixup-after-removal .ensures, c .before .before .before .only-child .ensures), rw (c .plan .ensures .1, c .before .one-store .ensures, c .before .before .fixup-after-removal .ensures, c .before .before .before .only-child .ensures) (push-write (store (a .l) Unlink ∷ []) (endingStores (fixupAfterRemoval p (a .b) (onlyChild p (a .b)) (upward (a .path .now) (a .depth)) .ending)) (omega arith)))
+returns c =
+    let c3 = c .before .before .before in
+    let c6 = c3 .before .before .before in
+    let a = c6 .args in
+    let p = a .pool .now in
+    let h = removal-short p (a .b) (onlyChild p (a .b)) (upward (a .path .now) (a .depth)) in
+    (rw (c .plan .ensures .0, c .before .before .fixup-after-removal .ensures, c3 .only-child .ensures),
+        rw (c .plan .ensures .1, c .before .one-store .ensures, c .before .before .fixup-after-removal .ensures, c3 .only-child .ensures)
+            (push-write (store (a .l) Unlink ∷ []) (endingStores (fixupAfterRemoval p (a .b) (onlyChild p (a .b)) (upward (a .path .now) (a .depth)) .ending)) (omega arith)))
 
 pub unlink-plan-spec : {M : Type 1} → statement M
 unlink-plan-spec =

@@ -28,22 +28,35 @@ register-in-range-requires : tie.Need-register-in-range-requires
 register-in-range-requires c κs = search needs
 
 pool-in-range-requires : tie.Need-pool-in-range-requires
-pool-in-range-requires c κs = right-length (c .before .before .before .before .before .args .pool .now) (sym (c .before .before .before .length-right .ensures) ∙ not-false _ (c .before .before .if1 .left))
+pool-in-range-requires c κs =
+    let c3 = c .before .before .before in
+    let c5 = c3 .before .before in
+    right-length (c5 .args .pool .now) (sym (c3 .length-right .ensures) ∙ not-false _ (c .before .before .if1 .left))
 
 returns-2 : tie.Need-returns-2
 returns-2 c =
-    let a = c .before .before .before .before .before .before .before .args in
-    let long : lengthRight (a .pool .now) ≡ true = sym (c .before .before .before .before .before .length-right .ensures) ∙ not-false _ (c .before .before .before .before .if1 .left) in
+    let c3 = c .before .before .before in
+    let c4 = c3 .before in
+    let c5 = c4 .before in
+    let c7 = c5 .before .before in
+    let a = c7 .args in
+    let long : lengthRight (a .pool .now) ≡ true = sym (c5 .length-right .ensures) ∙ not-false _ (c4 .if1 .left) in
     let ranges : (poolInRange (a .pool .now) && registerInRange (nodes (a .pool .now)) (a .reg)) ≡ false =
-    and-swap (poolInRange (a .pool .now)) (registerInRange (nodes (a .pool .now)) (a .reg)) ∙ rw (← (c .before .pool-in-range .ensures), ← (c .before .before .before .nodes .ensures), ← (c .before .before .register-in-range .ensures)) (not-true _ (c .if2 .taken)) in
+    and-swap (poolInRange (a .pool .now)) (registerInRange (nodes (a .pool .now)) (a .reg))
+        ∙ rw (← (c .before .pool-in-range .ensures), ← (c3 .nodes .ensures), ← (c .before .before .register-in-range .ensures)) (not-true _ (c .if2 .taken)) in
     rw (long, ranges)
 
 returns-3 : tie.Need-returns-3
 returns-3 c =
-    let a = c .before .before .before .before .before .before .before .args in
-    let long : lengthRight (a .pool .now) ≡ true = sym (c .before .before .before .before .before .length-right .ensures) ∙ not-false _ (c .before .before .before .before .if1 .left) in
+    let c3 = c .before .before .before in
+    let c4 = c3 .before in
+    let c5 = c4 .before in
+    let c7 = c5 .before .before in
+    let a = c7 .args in
+    let long : lengthRight (a .pool .now) ≡ true = sym (c5 .length-right .ensures) ∙ not-false _ (c4 .if1 .left) in
     let ranges : (poolInRange (a .pool .now) && registerInRange (nodes (a .pool .now)) (a .reg)) ≡ true =
-    and-swap (poolInRange (a .pool .now)) (registerInRange (nodes (a .pool .now)) (a .reg)) ∙ rw (← (c .before .pool-in-range .ensures), ← (c .before .before .before .nodes .ensures), ← (c .before .before .register-in-range .ensures)) (not-false _ (c .if2 .left)) in
+    and-swap (poolInRange (a .pool .now)) (registerInRange (nodes (a .pool .now)) (a .reg))
+        ∙ rw (← (c .before .pool-in-range .ensures), ← (c3 .nodes .ensures), ← (c .before .before .register-in-range .ensures)) (not-false _ (c .if2 .left)) in
     rw (long, ranges)
 
 pub lent-refusal-spec : {M : Type 1} → statement M

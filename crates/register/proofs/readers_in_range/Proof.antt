@@ -37,10 +37,13 @@ loop-less : tie.Need-loop-less Inv-loop μ-loop
 loop-less c = search needs
 
 loop-again : tie.Need-loop-again Inv-loop μ-loop
-loop-again c = let l = c .before .loop in (search needs, rw and-assoc (rw (sym (all-and (readerInRange (c .before .before .args .capacity) (c .before .before .args .t1)) (l .s) slots (c .loop-test .taken))) (l .inv .1)))
+loop-again c =
+    let l = c .before .loop in
+    (search needs, rw and-assoc (rw (sym (all-and (readerInRange (c .before .before .args .capacity) (c .before .before .args .t1)) (l .s) slots (c .loop-test .taken))) (l .inv .1)))
 
 returns : tie.Need-returns Inv-loop μ-loop
-returns c = let l = c .before .loop in sym (and-true _) ∙ (rw (all-end (readerInRange (c .before .before .args .capacity) (c .before .before .args .t1)) (l .s) slots (c .loop-test .left)) at (l .inv .1))
+returns c =
+    let l = c .before .loop in sym (and-true _) ∙ (rw (all-end (readerInRange (c .before .before .args .capacity) (c .before .before .args .t1)) (l .s) slots (c .loop-test .left)) at (l .inv .1))
 
 pub readers-in-range-spec : {M : Type 1} → statement M
 readers-in-range-spec =

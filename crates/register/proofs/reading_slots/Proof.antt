@@ -41,7 +41,9 @@ loop-less : tie.Need-loop-less Inv-loop μ-loop
 loop-less c = search needs
 
 loop-again : tie.Need-loop-again Inv-loop μ-loop
-loop-again c = let l = c .before .before .loop in (search needs, rw (c .add-slot .ensures) (sym (fold-step (addReading (c .before .before .before .args .t1)) (l .s) slots (l .m) (c .before .loop-test .taken)) ∙ l .inv .1))
+loop-again c =
+    let c3 = c .before .before .before in
+    let l = c .before .before .loop in (search needs, rw (c .add-slot .ensures) (sym (fold-step (addReading (c3 .args .t1)) (l .s) slots (l .m) (c .before .loop-test .taken)) ∙ l .inv .1))
 
 returns : tie.Need-returns Inv-loop μ-loop
 returns c = let l = c .before .loop in sym (fold-end (addReading (c .before .before .args .t1)) (l .s) slots (l .m) (c .loop-test .left)) ∙ l .inv .1

@@ -20,7 +20,10 @@ same-length c = search needs
 
 returns : tie.Need-returns
 unfolding paintDeleteFixup
-returns c = λ q r. c .before .before .retire .ensures q r ∙ rw (c .before .before .before .before .before .before .paint-delete-fixup .ensures (withHead q (c .before .before .before .before .before .before .before .before .before .before .args .h)) refl)
+returns c =
+    let c6 = c .before .before .before .before .before .before in
+    let c10 = c6 .before .before .before .before in
+    λ q r. c .before .before .retire .ensures q r ∙ rw (c6 .paint-delete-fixup .ensures (withHead q (c10 .args .h)) refl)
 
 pub colour-and-retire-spec : {M : Type 1} → statement M
 colour-and-retire-spec = tie.close (tie.spec paint-delete-fixup-requires retire-requires same-length returns)

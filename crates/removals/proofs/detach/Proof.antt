@@ -67,8 +67,19 @@ same-length c = search needs
 
 returns : tie.Need-returns
 unfolding stepFinds
-returns c = let a = c .before .before .before .before .before .before .before .before .before .before .before .before .before .before .before .before .before .before .before .before .before .before .before .args in λ q r. let st : State = at (a .pool .now) (a .h) q in
-    let f : stepFinds st (a .l) (Detach (a .key)) ≡ false = rw (← (c .before .before .before .before .before .before .before .before .before .before .before .before .before .before .before .before .before .before .before .before .node-at .ensures), ← (c .before .before .before .before .before .before .before .before .before .before .before .before .before .before .before .before .before .path-to .ensures .0), ← (c .before .before .before .before .before .before .before .before .before .before .before .before .before .successor-path .ensures .0), reached-some, ← (c .before .before .before .before .before .before .before .before .before .before .nearest .ensures), ← (c .before .before .before .before .before .before .before .before .node-at2 .ensures), ← (c .before .before .before .before .before .before .child .ensures), ← (c .before .before .before .fixup-after-removal .ensures), ← (c .before .before .nodes-found .ensures)) (not-true _ (c .before .if1 .taken)) in
+returns c =
+    let c3 = c .before .before .before in
+    let c6 = c3 .before .before .before in
+    let c8 = c6 .before .before in
+    let c10 = c8 .before .before in
+    let c13 = c10 .before .before .before in
+    let c17 = c13 .before .before .before .before in
+    let c20 = c17 .before .before .before in
+    let c23 = c20 .before .before .before in
+    let a = c23 .args in λ q r. let st : State = at (a .pool .now) (a .h) q in
+    let f : stepFinds st (a .l) (Detach (a .key)) ≡ false =
+        rw (← (c20 .node-at .ensures), ← (c17 .path-to .ensures .0), ← (c13 .successor-path .ensures .0), reached-some, ← (c10 .nearest .ensures), ← (c8 .node-at2 .ensures), ← (c6 .child .ensures),
+            ← (c3 .fixup-after-removal .ensures), ← (c .before .before .nodes-found .ensures)) (not-true _ (c .before .if1 .taken)) in
     tells-missed (a .pool .now) (a .h) (a .l) (Detach (a .key)) q (c .missed .result) f (c .missed .ensures)
 
 set-link-requires : tie.Need-set-link-requires
@@ -78,16 +89,37 @@ slice-aggregate-colour-and-retire : tie.Need-slice-aggregate-colour-and-retire
 slice-aggregate-colour-and-retire c = search needs
 
 colour-and-retire-requires : tie.Need-colour-and-retire-requires
-colour-and-retire-requires c κs = (omega (arith, c .before .before .before .before .before .before .before .before .before .before .before .before .before .before .before .before .before .before .before .before .before .before .before .before .before .before .before .before .pre, c .before .before .before .before .set-link .kept .0), omega (arith, c .before .before .before .before .before .before .before .before .before .before .before .before .before .before .before .before .before .before .successor-path .ensures .1, c .before .before .before .before .before .before .before .before .before .before .before .before .before .before .before .before .before .before .successor-path .kept .1 .1 .0, c .before .before .before .before .before .before .before .before .before .before .before .before .before .before .before .before .before .before .before .before .before .before .path-to .kept .1 .1 .1 .1 .0))
+colour-and-retire-requires c κs =
+    let c4 = c .before .before .before .before in
+    let c18 = c4 .before .before .before .before .before .before .before .before .before .before .before .before .before .before in
+    let c22 = c18 .before .before .before .before in
+    let c28 = c22 .before .before .before .before .before .before in
+    (omega (arith, c28 .pre, c4 .set-link .kept .0), omega (arith, c18 .successor-path .ensures .1, c18 .successor-path .kept .1 .1 .0, c22 .path-to .kept .1 .1 .1 .1 .0))
 
 same-length-2 : tie.Need-same-length-2
 same-length-2 c = search needs
 
 returns-2 : tie.Need-returns-2
 unfolding stepFinds stepMade detachStore
-returns-2 c = let a = c .before .before .before .before .before .before .before .before .before .before .before .before .before .before .before .before .before .before .before .before .before .before .before .before .before .before .before .before .before .before .before .args in λ q r. let st : State = at (a .pool .now) (a .h) q in
-    let f : stepFinds st (a .l) (Detach (a .key)) ≡ true = rw (← (c .before .before .before .before .before .before .before .before .before .before .before .before .before .before .before .before .before .before .before .before .before .before .before .before .before .before .before .before .node-at .ensures), ← (c .before .before .before .before .before .before .before .before .before .before .before .before .before .before .before .before .before .before .before .before .before .before .before .before .before .path-to .ensures .0), ← (c .before .before .before .before .before .before .before .before .before .before .before .before .before .before .before .before .before .before .before .before .before .successor-path .ensures .0), reached-some, ← (c .before .before .before .before .before .before .before .before .before .before .before .before .before .before .before .before .before .before .nearest .ensures), ← (c .before .before .before .before .before .before .before .before .before .before .before .before .before .before .before .before .node-at2 .ensures), ← (c .before .before .before .before .before .before .before .before .before .before .before .before .before .before .child .ensures), ← (c .before .before .before .before .before .before .before .before .before .before .before .fixup-after-removal .ensures), ← (c .before .before .before .before .before .before .before .before .before .before .nodes-found .ensures)) (not-false _ (c .before .before .before .before .before .before .before .before .before .if1 .left)) in
-    tells-made (a .pool .now) (a .h) (a .l) (Detach (a .key)) q _ _ f (not-false _ (c .before .before .before .before .before .before .before .before .before .if1 .left)) (rw (c .before .before .colour-and-retire .ensures q r, c .before .before .before .before .before .before .before .set-link .ensures q, c .before .before .before .before .before .before .before .before .before .before .before .fixup-after-removal .ensures, c .before .before .before .before .before .before .before .before .before .before .before .before .before .before .child .ensures, c .before .before .before .before .before .before .before .before .before .before .before .before .before .before .before .before .node-at2 .ensures, c .before .before .before .before .before .before .before .before .before .before .before .before .before .before .before .before .before .before .nearest .ensures, c .before .before .before .before .before .before .before .before .before .before .before .before .before .before .before .before .before .before .before .before .before .successor-path .ensures .0, c .before .before .before .before .before .before .before .before .before .before .before .before .before .before .before .before .before .before .before .before .before .before .before .before .before .path-to .ensures .0, c .before .before .before .before .before .before .before .before .before .before .before .before .before .before .before .before .before .before .before .before .before .before .before .before .before .before .before .before .node-at .ensures))
+returns-2 c =
+    let c7 = c .before .before .before .before .before .before .before in
+    let c9 = c7 .before .before in
+    let c10 = c9 .before in
+    let c11 = c10 .before in
+    let c14 = c11 .before .before .before in
+    let c16 = c14 .before .before in
+    let c18 = c16 .before .before in
+    let c21 = c18 .before .before .before in
+    let c25 = c21 .before .before .before .before in
+    let c28 = c25 .before .before .before in
+    let c31 = c28 .before .before .before in
+    let a = c31 .args in λ q r. let st : State = at (a .pool .now) (a .h) q in
+    let f : stepFinds st (a .l) (Detach (a .key)) ≡ true =
+        rw (← (c28 .node-at .ensures), ← (c25 .path-to .ensures .0), ← (c21 .successor-path .ensures .0), reached-some, ← (c18 .nearest .ensures), ← (c16 .node-at2 .ensures),
+            ← (c14 .child .ensures), ← (c11 .fixup-after-removal .ensures), ← (c10 .nodes-found .ensures)) (not-false _ (c9 .if1 .left)) in
+    tells-made (a .pool .now) (a .h) (a .l) (Detach (a .key)) q _ _ f (not-false _ (c9 .if1 .left))
+        (rw (c .before .before .colour-and-retire .ensures q r, c7 .set-link .ensures q, c11 .fixup-after-removal .ensures, c14 .child .ensures, c16 .node-at2 .ensures, c18 .nearest .ensures,
+            c21 .successor-path .ensures .0, c25 .path-to .ensures .0, c28 .node-at .ensures))
 
 pub detach-spec : {M : Type 1} → statement M
 detach-spec =

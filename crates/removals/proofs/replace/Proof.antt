@@ -63,8 +63,19 @@ same-length c = search needs
 
 returns : tie.Need-returns
 unfolding stepFinds
-returns c = let a = c .before .before .before .before .before .before .before .before .before .before .before .before .before .before .before .before .before .before .before .before .before .before .args in λ q r. let st : State = at (a .pool .now) (a .h) q in
-    let f : stepFinds st (a .l) Replace ≡ false = rw (← (c .before .before .before .before .before .before .before .before .before .before .before .before .before .before .before .before .before .before .before .node-at .ensures), ← (c .before .before .before .before .before .before .before .before .before .before .before .before .before .before .before .before .before .child .ensures), ← (c .before .before .before .before .before .before .before .before .before .before .before .before .before .before .before .child2 .ensures), ← (c .before .before .before .before .before .before .before .before .before .before .before .before .before .word .ensures), ← (c .before .before .before .before .before .before .before .before .before .before .path-to .ensures .0), ← (c .before .before .before .before .before .before .before .below-right .ensures .0), ← (c .before .before .before .fixup-after-removal .ensures), ← (c .before .before .nodes-found .ensures)) (not-true _ (c .before .if1 .taken)) in
+returns c =
+    let c3 = c .before .before .before in
+    let c7 = c3 .before .before .before .before in
+    let c10 = c7 .before .before .before in
+    let c13 = c10 .before .before .before in
+    let c15 = c13 .before .before in
+    let c17 = c15 .before .before in
+    let c19 = c17 .before .before in
+    let c22 = c19 .before .before .before in
+    let a = c22 .args in λ q r. let st : State = at (a .pool .now) (a .h) q in
+    let f : stepFinds st (a .l) Replace ≡ false =
+        rw (← (c19 .node-at .ensures), ← (c17 .child .ensures), ← (c15 .child2 .ensures), ← (c13 .word .ensures), ← (c10 .path-to .ensures .0), ← (c7 .below-right .ensures .0),
+            ← (c3 .fixup-after-removal .ensures), ← (c .before .before .nodes-found .ensures)) (not-true _ (c .before .if1 .taken)) in
     tells-missed (a .pool .now) (a .h) (a .l) Replace q (c .missed .result) f (c .missed .ensures)
 
 word-requires-2 : tie.Need-word-requires-2
@@ -77,16 +88,36 @@ slice-aggregate-colour-and-retire : tie.Need-slice-aggregate-colour-and-retire
 slice-aggregate-colour-and-retire c = search needs
 
 colour-and-retire-requires : tie.Need-colour-and-retire-requires
-colour-and-retire-requires c κs = (omega (arith, c .before .before .before .before .before .before .before .before .before .before .before .before .before .before .before .before .before .before .before .before .before .before .before .before .before .before .before .before .before .pre, c .before .before .before .before .store-successor .kept .0), search needs)
+colour-and-retire-requires c κs =
+    let c4 = c .before .before .before .before in
+    let c29 = c4 .before .before .before .before .before .before .before .before .before .before .before .before .before .before .before .before .before .before .before .before .before .before .before .before .before in
+    (omega (arith, c29 .pre, c4 .store-successor .kept .0), search needs)
 
 same-length-2 : tie.Need-same-length-2
 same-length-2 c = search needs
 
 returns-2 : tie.Need-returns-2
 unfolding stepFinds stepMade replaceStore
-returns-2 c = let a = c .before .before .before .before .before .before .before .before .before .before .before .before .before .before .before .before .before .before .before .before .before .before .before .before .before .before .before .before .before .before .before .before .args in λ q r. let st : State = at (a .pool .now) (a .h) q in
-    let f : stepFinds st (a .l) Replace ≡ true = rw (← (c .before .before .before .before .before .before .before .before .before .before .before .before .before .before .before .before .before .before .before .before .before .before .before .before .before .before .before .before .before .node-at .ensures), ← (c .before .before .before .before .before .before .before .before .before .before .before .before .before .before .before .before .before .before .before .before .before .before .before .before .before .before .before .child .ensures), ← (c .before .before .before .before .before .before .before .before .before .before .before .before .before .before .before .before .before .before .before .before .before .before .before .before .before .child2 .ensures), ← (c .before .before .before .before .before .before .before .before .before .before .before .before .before .before .before .before .before .before .before .before .before .before .before .word .ensures), ← (c .before .before .before .before .before .before .before .before .before .before .before .before .before .before .before .before .before .before .before .before .path-to .ensures .0), ← (c .before .before .before .before .before .before .before .before .before .before .before .before .before .before .before .before .before .below-right .ensures .0), ← (c .before .before .before .before .before .before .before .before .before .before .before .before .before .fixup-after-removal .ensures), ← (c .before .before .before .before .before .before .before .before .before .before .before .before .nodes-found .ensures)) (not-false _ (c .before .before .before .before .before .before .before .before .before .before .before .if1 .left)) in
-    tells-made (a .pool .now) (a .h) (a .l) Replace q _ _ f (not-false _ (c .before .before .before .before .before .before .before .before .before .before .before .if1 .left)) (rw (c .before .before .colour-and-retire .ensures q r, c .before .before .before .before .before .before .before .store-successor .ensures q, c .before .before .before .before .before .before .before .before .before .word2 .ensures, c .before .before .before .before .before .before .before .before .before .before .before .before .before .fixup-after-removal .ensures, c .before .before .before .before .before .before .before .before .before .before .before .before .before .before .before .before .before .below-right .ensures .0, c .before .before .before .before .before .before .before .before .before .before .before .before .before .before .before .before .before .before .before .before .path-to .ensures .0, c .before .before .before .before .before .before .before .before .before .before .before .before .before .before .before .before .before .before .before .before .before .before .before .word .ensures, c .before .before .before .before .before .before .before .before .before .before .before .before .before .before .before .before .before .before .before .before .before .before .before .before .before .child2 .ensures, c .before .before .before .before .before .before .before .before .before .before .before .before .before .before .before .before .before .before .before .before .before .before .before .before .before .before .before .child .ensures, c .before .before .before .before .before .before .before .before .before .before .before .before .before .before .before .before .before .before .before .before .before .before .before .before .before .before .before .before .before .node-at .ensures))
+returns-2 c =
+    let c7 = c .before .before .before .before .before .before .before in
+    let c9 = c7 .before .before in
+    let c11 = c9 .before .before in
+    let c12 = c11 .before in
+    let c13 = c12 .before in
+    let c17 = c13 .before .before .before .before in
+    let c20 = c17 .before .before .before in
+    let c23 = c20 .before .before .before in
+    let c25 = c23 .before .before in
+    let c27 = c25 .before .before in
+    let c29 = c27 .before .before in
+    let c32 = c29 .before .before .before in
+    let a = c32 .args in λ q r. let st : State = at (a .pool .now) (a .h) q in
+    let f : stepFinds st (a .l) Replace ≡ true =
+        rw (← (c29 .node-at .ensures), ← (c27 .child .ensures), ← (c25 .child2 .ensures), ← (c23 .word .ensures), ← (c20 .path-to .ensures .0), ← (c17 .below-right .ensures .0),
+            ← (c13 .fixup-after-removal .ensures), ← (c12 .nodes-found .ensures)) (not-false _ (c11 .if1 .left)) in
+    tells-made (a .pool .now) (a .h) (a .l) Replace q _ _ f (not-false _ (c11 .if1 .left))
+        (rw (c .before .before .colour-and-retire .ensures q r, c7 .store-successor .ensures q, c9 .word2 .ensures, c13 .fixup-after-removal .ensures, c17 .below-right .ensures .0,
+            c20 .path-to .ensures .0, c23 .word .ensures, c25 .child2 .ensures, c27 .child .ensures, c29 .node-at .ensures))
 
 pub replace-spec : {M : Type 1} → statement M
 replace-spec =

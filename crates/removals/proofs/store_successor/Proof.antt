@@ -19,7 +19,10 @@ same-length : tie.Need-same-length
 same-length c = search needs
 
 returns : tie.Need-returns
-returns c = λ q. rw (c .before .before .set-word .ensures) (ap (λ (st : State). painted st (c .before .before .before .before .before .before .before .before .before .args .n) (c .before .before .before .before .before .before .before .before .before .args .colour)) (c .before .before .before .before .before .before .store-one-less .ensures q))
+returns c =
+    let c6 = c .before .before .before .before .before .before in
+    let c9 = c6 .before .before .before in
+    λ q. rw (c .before .before .set-word .ensures) (ap (λ (st : State). painted st (c9 .args .n) (c9 .args .colour)) (c6 .store-one-less .ensures q))
 
 pub store-successor-spec : {M : Type 1} → statement M
 store-successor-spec =

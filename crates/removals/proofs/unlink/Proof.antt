@@ -53,8 +53,17 @@ same-length c = search needs
 
 returns : tie.Need-returns
 unfolding stepFinds
-returns c = let a = c .before .before .before .before .before .before .before .before .before .before .before .before .before .before .before .before .before .args in λ q r. let st : State = at (a .pool .now) (a .h) q in
-    let f : stepFinds st (a .l) Unlink ≡ false = rw (← (c .before .before .before .before .before .before .before .before .before .before .before .before .before .before .node-at .ensures), ← (c .before .before .before .before .before .before .before .before .before .before .before .before .only-child .ensures), ← (c .before .before .before .before .before .before .before .before .before .before .word .ensures), ← (c .before .before .before .before .before .before .before .path-to .ensures .0), ← (c .before .before .before .fixup-after-removal .ensures), ← (c .before .before .nodes-found .ensures)) (not-true _ (c .before .if1 .taken)) in
+returns c =
+    let c3 = c .before .before .before in
+    let c7 = c3 .before .before .before .before in
+    let c10 = c7 .before .before .before in
+    let c12 = c10 .before .before in
+    let c14 = c12 .before .before in
+    let c17 = c14 .before .before .before in
+    let a = c17 .args in λ q r. let st : State = at (a .pool .now) (a .h) q in
+    let f : stepFinds st (a .l) Unlink ≡ false =
+        rw (← (c14 .node-at .ensures), ← (c12 .only-child .ensures), ← (c10 .word .ensures), ← (c7 .path-to .ensures .0), ← (c3 .fixup-after-removal .ensures),
+            ← (c .before .before .nodes-found .ensures)) (not-true _ (c .before .if1 .taken)) in
     tells-missed (a .pool .now) (a .h) (a .l) Unlink q (c .missed .result) f (c .missed .ensures)
 
 store-one-less-requires : tie.Need-store-one-less-requires
@@ -64,16 +73,33 @@ slice-aggregate-colour-and-retire : tie.Need-slice-aggregate-colour-and-retire
 slice-aggregate-colour-and-retire c = search needs
 
 colour-and-retire-requires : tie.Need-colour-and-retire-requires
-colour-and-retire-requires c κs = (omega (arith, c .before .before .before .before .before .before .before .before .before .before .before .before .before .before .before .before .before .before .before .before .before .before .pre, c .before .before .before .before .store-one-less .kept .0), search needs)
+colour-and-retire-requires c κs =
+    let c4 = c .before .before .before .before in
+    let c22 = c4 .before .before .before .before .before .before .before .before .before .before .before .before .before .before .before .before .before .before in
+    (omega (arith, c22 .pre, c4 .store-one-less .kept .0), search needs)
 
 same-length-2 : tie.Need-same-length-2
 same-length-2 c = search needs
 
 returns-2 : tie.Need-returns-2
 unfolding stepFinds stepMade unlinkStore
-returns-2 c = let a = c .before .before .before .before .before .before .before .before .before .before .before .before .before .before .before .before .before .before .before .before .before .before .before .before .before .args in λ q r. let st : State = at (a .pool .now) (a .h) q in
-    let f : stepFinds st (a .l) Unlink ≡ true = rw (← (c .before .before .before .before .before .before .before .before .before .before .before .before .before .before .before .before .before .before .before .before .before .before .node-at .ensures), ← (c .before .before .before .before .before .before .before .before .before .before .before .before .before .before .before .before .before .before .before .before .only-child .ensures), ← (c .before .before .before .before .before .before .before .before .before .before .before .before .before .before .before .before .before .before .word .ensures), ← (c .before .before .before .before .before .before .before .before .before .before .before .before .before .before .before .path-to .ensures .0), ← (c .before .before .before .before .before .before .before .before .before .before .before .fixup-after-removal .ensures), ← (c .before .before .before .before .before .before .before .before .before .before .nodes-found .ensures)) (not-false _ (c .before .before .before .before .before .before .before .before .before .if1 .left)) in
-    tells-made (a .pool .now) (a .h) (a .l) Unlink q _ _ f (not-false _ (c .before .before .before .before .before .before .before .before .before .if1 .left)) (rw (c .before .before .colour-and-retire .ensures q r, c .before .before .before .before .before .before .before .store-one-less .ensures q, c .before .before .before .before .before .before .before .before .before .before .before .fixup-after-removal .ensures, c .before .before .before .before .before .before .before .before .before .before .before .before .before .before .before .path-to .ensures .0, c .before .before .before .before .before .before .before .before .before .before .before .before .before .before .before .before .before .before .word .ensures, c .before .before .before .before .before .before .before .before .before .before .before .before .before .before .before .before .before .before .before .before .only-child .ensures, c .before .before .before .before .before .before .before .before .before .before .before .before .before .before .before .before .before .before .before .before .before .before .node-at .ensures))
+returns-2 c =
+    let c7 = c .before .before .before .before .before .before .before in
+    let c9 = c7 .before .before in
+    let c10 = c9 .before in
+    let c11 = c10 .before in
+    let c15 = c11 .before .before .before .before in
+    let c18 = c15 .before .before .before in
+    let c20 = c18 .before .before in
+    let c22 = c20 .before .before in
+    let c25 = c22 .before .before .before in
+    let a = c25 .args in λ q r. let st : State = at (a .pool .now) (a .h) q in
+    let f : stepFinds st (a .l) Unlink ≡ true =
+        rw (← (c22 .node-at .ensures), ← (c20 .only-child .ensures), ← (c18 .word .ensures), ← (c15 .path-to .ensures .0), ← (c11 .fixup-after-removal .ensures), ← (c10 .nodes-found .ensures))
+            (not-false _ (c9 .if1 .left)) in
+    tells-made (a .pool .now) (a .h) (a .l) Unlink q _ _ f (not-false _ (c9 .if1 .left))
+        (rw (c .before .before .colour-and-retire .ensures q r, c7 .store-one-less .ensures q, c11 .fixup-after-removal .ensures, c15 .path-to .ensures .0, c18 .word .ensures,
+            c20 .only-child .ensures, c22 .node-at .ensures))
 
 pub unlink-spec : {M : Type 1} → statement M
 unlink-spec =

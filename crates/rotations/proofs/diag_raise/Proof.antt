@@ -37,7 +37,13 @@ same-length c = search needs
 
 returns : tie.Need-returns
 unfolding stepFinds
-returns c = let a = c .before .before .before .before .before .before .before .args in λ q r. let st : State = at (a .pool .now) (a .h) q in let e : diagChild st (a .l) (a .s) ≡ 0 = rw (← (c .before .before .before .before .node-at .ensures), ← (c .before .before .child .ensures)) (c .before .if1 .taken) in tells-missed (a .pool .now) (a .h) (a .l) (DiagRaise (a .s) (a .purpose)) q (c .missed .result) (no-node (diagChild st (a .l) (a .s)) _ e) (c .missed .ensures)
+returns c =
+    let c4 = c .before .before .before .before in
+    let c7 = c4 .before .before .before in
+    let a = c7 .args in λ q r. let st : State = at (a .pool .now) (a .h) q in
+    let e : diagChild st (a .l) (a .s) ≡ 0 =
+        rw (← (c4 .node-at .ensures), ← (c .before .before .child .ensures)) (c .before .if1 .taken) in
+        tells-missed (a .pool .now) (a .h) (a .l) (DiagRaise (a .s) (a .purpose)) q (c .missed .result) (no-node (diagChild st (a .l) (a .s)) _ e) (c .missed .ensures)
 
 end-diag-finds-requires : tie.Need-end-diag-finds-requires
 end-diag-finds-requires c κs = search needs
@@ -50,7 +56,15 @@ same-length-2 c = search needs
 
 returns-2 : tie.Need-returns-2
 unfolding stepFinds
-returns-2 c = let a = c .before .before .before .before .before .before .before .before .before .before .args in λ q r. let st : State = at (a .pool .now) (a .h) q in let b = diagChild st (a .l) (a .s) in let e : endDiagFinds (a .purpose) st (a .s) (diagChild st (a .l) (a .s)) ≡ false = rw (← (c .before .before .before .before .before .before .before .node-at .ensures), ← (c .before .before .before .before .before .child .ensures)) (sym (c .before .before .end-diag-finds .ensures (withHead q (a .h))) ∙ not-true _ (c .before .if2 .taken)) in tells-missed (a .pool .now) (a .h) (a .l) (DiagRaise (a .s) (a .purpose)) q (c .missed2 .result) (and-false (isNode b) (endDiagFinds (a .purpose) st (a .s) b) e) (c .missed2 .ensures)
+returns-2 c =
+    let c5 = c .before .before .before .before .before in
+    let c7 = c5 .before .before in
+    let c10 = c7 .before .before .before in
+    let a = c10 .args in λ q r. let st : State = at (a .pool .now) (a .h) q in
+    let b = diagChild st (a .l) (a .s) in
+    let e : endDiagFinds (a .purpose) st (a .s) (diagChild st (a .l) (a .s)) ≡ false =
+        rw (← (c7 .node-at .ensures), ← (c5 .child .ensures)) (sym (c .before .before .end-diag-finds .ensures (withHead q (a .h))) ∙ not-true _ (c .before .if2 .taken)) in
+        tells-missed (a .pool .now) (a .h) (a .l) (DiagRaise (a .s) (a .purpose)) q (c .missed2 .result) (and-false (isNode b) (endDiagFinds (a .purpose) st (a .s) b) e) (c .missed2 .ensures)
 
 risen-colour-requires : tie.Need-risen-colour-requires
 risen-colour-requires c κs = search needs
@@ -69,8 +83,25 @@ same-length-3 c = search needs
 
 returns-3 : tie.Need-returns-3
 unfolding stepFinds stepMade
-returns-3 c = let a = c .before .before .before .before .before .before .before .before .before .before .before .before .before .before .before .before .before .before .before .before .before .before .before .args in λ q r. let st : State = at (a .pool .now) (a .h) q in let b = diagChild st (a .l) (a .s) in let d : diagChild st (a .l) (a .s) ≡ 0 → ⊥ = rw (← (c .before .before .before .before .before .before .before .before .before .before .before .before .before .before .before .before .before .before .before .before .node-at .ensures), ← (c .before .before .before .before .before .before .before .before .before .before .before .before .before .before .before .before .before .before .child .ensures)) (c .before .before .before .before .before .before .before .before .before .before .before .before .before .before .before .before .before .if1 .left) in let e : endDiagFinds (a .purpose) st (a .s) (diagChild st (a .l) (a .s)) ≡ true = rw (← (c .before .before .before .before .before .before .before .before .before .before .before .before .before .before .before .before .before .before .before .before .node-at .ensures), ← (c .before .before .before .before .before .before .before .before .before .before .before .before .before .before .before .before .before .before .child .ensures)) (sym (c .before .before .before .before .before .before .before .before .before .before .before .before .before .before .before .end-diag-finds .ensures (withHead q (a .h))) ∙ not-false _ (c .before .before .before .before .before .before .before .before .before .before .before .before .before .before .if2 .left)) in tells-made (a .pool .now) (a .h) (a .l) (DiagRaise (a .s) (a .purpose)) q _ _ (node-there b (endDiagFinds (a .purpose) st (a .s) b) d e) refl
-    (diag-raised st (a .l) (a .s) (a .purpose) (c .before .before .before .before .before .before .before .before .before .before .before .before .before .before .before .before .before .before .before .before .node-at .result) (c .before .before .before .before .before .before .before .before .before .before .before .before .before .before .before .before .before .before .child .result) (c .before .before .before .before .before .before .before .before .before .before .before .before .risen-colour .result) (c .before .before .before .before .before .before .before .before .before .before .raise .last .0) (c .before .before .before .before .before .before .end-diag .last .0) (withHead q (c .before .before .before .before .before .before .before .before .before .before .raise .result)) (at (c .before .before .retire .last .0) (c .before .before .retire .result) q) (c .before .before .before .before .before .before .before .before .before .before .before .before .before .before .before .before .before .before .before .before .node-at .ensures) (c .before .before .before .before .before .before .before .before .before .before .before .before .risen-colour .ensures (withHead q (a .h))) (c .before .before .before .before .before .before .before .before .before .before .raise .ensures q) (c .before .before .before .before .before .before .before .before .before .before .before .before .before .before .before .before .before .before .child .ensures ∙ rw (c .before .before .before .before .before .before .before .before .before .before .before .before .before .before .before .before .before .before .before .before .node-at .ensures)) (c .before .before .before .before .before .before .end-diag .ensures (withHead q (c .before .before .before .before .before .before .before .before .before .before .raise .result)) refl) (c .before .before .retire .ensures q r))
+returns-3 c =
+    let c6 = c .before .before .before .before .before .before in
+    let c10 = c6 .before .before .before .before in
+    let c12 = c10 .before .before in
+    let c14 = c12 .before .before in
+    let c15 = c14 .before in
+    let c17 = c15 .before .before in
+    let c18 = c17 .before in
+    let c20 = c18 .before .before in
+    let c23 = c20 .before .before .before in
+    let a = c23 .args in λ q r. let st : State = at (a .pool .now) (a .h) q in
+    let b = diagChild st (a .l) (a .s) in
+    let d : diagChild st (a .l) (a .s) ≡ 0 → ⊥ = rw (← (c20 .node-at .ensures), ← (c18 .child .ensures)) (c17 .if1 .left) in
+    let e : endDiagFinds (a .purpose) st (a .s) (diagChild st (a .l) (a .s)) ≡ true =
+        rw (← (c20 .node-at .ensures), ← (c18 .child .ensures)) (sym (c15 .end-diag-finds .ensures (withHead q (a .h))) ∙ not-false _ (c14 .if2 .left)) in
+        tells-made (a .pool .now) (a .h) (a .l) (DiagRaise (a .s) (a .purpose)) q _ _ (node-there b (endDiagFinds (a .purpose) st (a .s) b) d e) refl
+    (diag-raised st (a .l) (a .s) (a .purpose) (c20 .node-at .result) (c18 .child .result) (c12 .risen-colour .result) (c10 .raise .last .0) (c6 .end-diag .last .0)
+        (withHead q (c10 .raise .result)) (at (c .before .before .retire .last .0) (c .before .before .retire .result) q) (c20 .node-at .ensures) (c12 .risen-colour .ensures (withHead q (a .h)))
+            (c10 .raise .ensures q) (c18 .child .ensures ∙ rw (c20 .node-at .ensures)) (c6 .end-diag .ensures (withHead q (c10 .raise .result)) refl) (c .before .before .retire .ensures q r))
 
 pub diag-raise-spec : {M : Type 1} → statement M
 diag-raise-spec =

@@ -48,7 +48,11 @@ same-length-2 : tie.Need-same-length-2
 same-length-2 c = search needs
 
 returns-2 : tie.Need-returns-2
-returns-2 c = λ q e. rw (c .before .before .before .before .before .before .before .enum-told2 .given .1) (c .before .before .under-copy .ensures q ∙ rw (c .before .before .before .before .child .ensures, c .before .before .before .before .before .other .ensures))
+returns-2 c =
+    let c4 = c .before .before .before .before in
+    let c5 = c4 .before in
+    let c7 = c5 .before .before in
+    λ q e. rw (c7 .enum-told2 .given .1) (c .before .before .under-copy .ensures q ∙ rw (c4 .child .ensures, c5 .other .ensures))
 
 same-length-3 : tie.Need-same-length-3
 same-length-3 c = search needs

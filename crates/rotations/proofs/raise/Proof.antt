@@ -20,7 +20,10 @@ same-length : tie.Need-same-length
 same-length c = search needs
 
 returns : tie.Need-returns
-returns c = let a = c .before .before .before .before .before .before .before .before .before .args in λ q. rw (c .before .before .set-word .ensures) (ap (λ (st : State). painted st (a .b) (a .colour)) (c .before .before .before .before .before .before .set-link .ensures q))
+returns c =
+    let c6 = c .before .before .before .before .before .before in
+    let c9 = c6 .before .before .before in
+    let a = c9 .args in λ q. rw (c .before .before .set-word .ensures) (ap (λ (st : State). painted st (a .b) (a .colour)) (c6 .set-link .ensures q))
 
 pub raise-spec : {M : Type 1} → statement M
 raise-spec = tie.close (tie.spec set-link-requires set-word-requires same-length returns)

@@ -24,7 +24,11 @@ same-length : tie.Need-same-length
 same-length c = search needs
 
 returns : tie.Need-returns
-returns c = λ q. let a = c .before .before .before .before .before .before .args in let e : redChild (a .pool .now) (child (a .pool .now) (a .s) (a .copy)) ≡ true = rw (← (c .before .before .before .child .ensures), ← (c .before .red-child .ensures)) (c .if1 .taken) in rw e
+returns c =
+    let c3 = c .before .before .before in
+    let c6 = c3 .before .before .before in
+    λ q. let a = c6 .args in
+    let e : redChild (a .pool .now) (child (a .pool .now) (a .s) (a .copy)) ≡ true = rw (← (c3 .child .ensures), ← (c .before .red-child .ensures)) (c .if1 .taken) in rw e
 
 set-word-requires : tie.Need-set-word-requires
 set-word-requires c κs = search needs
@@ -36,7 +40,15 @@ same-length-2 : tie.Need-same-length-2
 same-length-2 c = search needs
 
 returns-2 : tie.Need-returns-2
-returns-2 c = λ q. let a = c .before .before .before .before .before .before .before .before .before .before .before .before .before .before .args in let e : redChild (a .pool .now) (child (a .pool .now) (a .s) (a .copy)) ≡ false = rw (← (c .before .before .before .before .before .before .before .before .before .before .before .child .ensures), ← (c .before .before .before .before .before .before .before .before .before .red-child .ensures)) (c .before .before .before .before .before .before .before .before .if1 .left) in rw (e, c .before .before .set-word2 .ensures, c .before .before .before .before .before .before .set-word .ensures, c .before .before .before .before .before .before .before .before .before .before .before .child .ensures)
+returns-2 c =
+    let c6 = c .before .before .before .before .before .before in
+    let c8 = c6 .before .before in
+    let c9 = c8 .before in
+    let c11 = c9 .before .before in
+    let c14 = c11 .before .before .before in
+    λ q. let a = c14 .args in
+    let e : redChild (a .pool .now) (child (a .pool .now) (a .s) (a .copy)) ≡ false =
+        rw (← (c11 .child .ensures), ← (c9 .red-child .ensures)) (c8 .if1 .left) in rw (e, c .before .before .set-word2 .ensures, c6 .set-word .ensures, c11 .child .ensures)
 
 pub under-copy-spec : {M : Type 1} → statement M
 under-copy-spec =

@@ -38,7 +38,15 @@ same-length c = search needs
 
 returns : tie.Need-returns
 unfolding stepFinds
-returns c = let a = c .before .before .before .before .before .before .before .before .before .args in λ q. let st : State = at (a .pool .now) (a .h) q in let e : zigChild st (a .l) (a .s) ≡ 0 = rw (← (c .before .before .before .before .before .before .node-at .ensures), ← (c .before .before .before .before .before .child .ensures), ← (c .before .before .before .other .ensures), ← (c .before .before .child2 .ensures)) (c .before .if1 .taken) in tells-missed (a .pool .now) (a .h) (a .l) (ZigLowerA (a .s) (a .purpose)) q (c .missed .result) (no-node (zigChild st (a .l) (a .s)) _ e) (c .missed .ensures)
+returns c =
+    let c3 = c .before .before .before in
+    let c5 = c3 .before .before in
+    let c6 = c5 .before in
+    let c9 = c6 .before .before .before in
+    let a = c9 .args in λ q. let st : State = at (a .pool .now) (a .h) q in
+    let e : zigChild st (a .l) (a .s) ≡ 0 =
+        rw (← (c6 .node-at .ensures), ← (c5 .child .ensures), ← (c3 .other .ensures), ← (c .before .before .child2 .ensures)) (c .before .if1 .taken) in
+        tells-missed (a .pool .now) (a .h) (a .l) (ZigLowerA (a .s) (a .purpose)) q (c .missed .result) (no-node (zigChild st (a .l) (a .s)) _ e) (c .missed .ensures)
 
 missed-requires-2 : tie.Need-missed-requires-2
 missed-requires-2 c κs = search needs
@@ -48,7 +56,11 @@ same-length-2 c = search needs
 
 returns-2 : tie.Need-returns-2
 unfolding stepFinds
-returns-2 c = let a = c .before .before .before .before .before .before .before .before .before .before .before .args in λ q. let st : State = at (a .pool .now) (a .h) q in tells-missed (a .pool .now) (a .h) (a .l) (ZigLowerA (a .s) (a .purpose)) q (c .missed2 .result) (no-free st (zigChild st (a .l) (a .s)) (c .before .if2 .taken)) (c .missed2 .ensures)
+returns-2 c =
+    let c11 = c .before .before .before .before .before .before .before .before .before .before .before in
+    let a = c11 .args in λ q. let st : State =
+        at (a .pool .now) (a .h) q in
+        tells-missed (a .pool .now) (a .h) (a .l) (ZigLowerA (a .s) (a .purpose)) q (c .missed2 .result) (no-free st (zigChild st (a .l) (a .s)) (c .before .if2 .taken)) (c .missed2 .ensures)
 
 child-requires-3 : tie.Need-child-requires-3
 child-requires-3 c κs = search needs
@@ -73,9 +85,24 @@ same-length-3 c = search needs
 
 returns-3 : tie.Need-returns-3
 unfolding stepFinds stepMade zigLowerA
-returns-3 c = let a = c .before .before .before .before .before .before .before .before .before .before .before .before .before .before .before .before .before .before .before .before .before .before .before .before .args in λ q. let st : State = at (a .pool .now) (a .h) q in let d : zigChild st (a .l) (a .s) ≡ 0 → ⊥ = rw (← (c .before .before .before .before .before .before .before .before .before .before .before .before .before .before .before .before .before .before .before .before .before .node-at .ensures), ← (c .before .before .before .before .before .before .before .before .before .before .before .before .before .before .before .before .before .before .before .before .child .ensures), ← (c .before .before .before .before .before .before .before .before .before .before .before .before .before .before .before .before .before .before .other .ensures), ← (c .before .before .before .before .before .before .before .before .before .before .before .before .before .before .before .before .before .child2 .ensures)) (c .before .before .before .before .before .before .before .before .before .before .before .before .before .before .before .before .if1 .left) in
-    tells-made (a .pool .now) (a .h) (a .l) (ZigLowerA (a .s) (a .purpose)) q _ _ (takes-node st (zigChild st (a .l) (a .s)) d (c .before .before .before .before .before .before .before .before .before .before .before .before .before .before .if2 .left)) refl
-    (rw (c .before .before .set-link .ensures q, c .before .before .before .before .before .before .take-copy .ensures q, c .before .before .before .before .before .before .before .copy-colour .ensures, c .before .before .before .before .before .before .before .before .before .link-at .ensures, c .before .before .before .before .before .before .before .before .before .before .child4 .ensures, c .before .before .before .before .before .before .before .before .before .before .before .before .child3 .ensures, c .before .before .before .before .before .before .before .before .before .before .before .before .before .before .before .before .before .child2 .ensures, c .before .before .before .before .before .before .before .before .before .before .before .before .before .before .before .before .before .before .other .ensures, c .before .before .before .before .before .before .before .before .before .before .before .before .before .before .before .before .before .before .before .before .child .ensures, c .before .before .before .before .before .before .before .before .before .before .before .before .before .before .before .before .before .before .before .before .before .node-at .ensures))
+returns-3 c =
+    let c6 = c .before .before .before .before .before .before in
+    let c7 = c6 .before in
+    let c9 = c7 .before .before in
+    let c10 = c9 .before in
+    let c12 = c10 .before .before in
+    let c14 = c12 .before .before in
+    let c16 = c14 .before .before in
+    let c17 = c16 .before in
+    let c18 = c17 .before in
+    let c20 = c18 .before .before in
+    let c21 = c20 .before in
+    let c24 = c21 .before .before .before in
+    let a = c24 .args in λ q. let st : State = at (a .pool .now) (a .h) q in
+    let d : zigChild st (a .l) (a .s) ≡ 0 → ⊥ = rw (← (c21 .node-at .ensures), ← (c20 .child .ensures), ← (c18 .other .ensures), ← (c17 .child2 .ensures)) (c16 .if1 .left) in
+    tells-made (a .pool .now) (a .h) (a .l) (ZigLowerA (a .s) (a .purpose)) q _ _ (takes-node st (zigChild st (a .l) (a .s)) d (c14 .if2 .left)) refl
+    (rw (c .before .before .set-link .ensures q, c6 .take-copy .ensures q, c7 .copy-colour .ensures, c9 .link-at .ensures, c10 .child4 .ensures, c12 .child3 .ensures, c17 .child2 .ensures,
+        c18 .other .ensures, c20 .child .ensures, c21 .node-at .ensures))
 
 pub zig-lower-a-spec : {M : Type 1} → statement M
 zig-lower-a-spec =

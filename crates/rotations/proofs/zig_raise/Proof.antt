@@ -40,7 +40,15 @@ same-length c = search needs
 
 returns : tie.Need-returns
 unfolding stepFinds
-returns c = let a = c .before .before .before .before .before .before .before .before .before .before .args in λ q r. let st : State = at (a .pool .now) (a .h) q in let e : zigChild st (a .l) (a .s) ≡ 0 = rw (← (c .before .before .before .before .before .before .before .node-at .ensures), ← (c .before .before .before .before .before .child .ensures), ← (c .before .before .before .other .ensures), ← (c .before .before .child2 .ensures)) (c .before .if1 .taken) in tells-missed (a .pool .now) (a .h) (a .l) (ZigRaise (a .s) (a .purpose)) q (c .missed .result) (rw (eq-eqb (zigChild st (a .l) (a .s)) 0 e)) (c .missed .ensures)
+returns c =
+    let c3 = c .before .before .before in
+    let c5 = c3 .before .before in
+    let c7 = c5 .before .before in
+    let c10 = c7 .before .before .before in
+    let a = c10 .args in λ q r. let st : State = at (a .pool .now) (a .h) q in
+    let e : zigChild st (a .l) (a .s) ≡ 0 =
+        rw (← (c7 .node-at .ensures), ← (c5 .child .ensures), ← (c3 .other .ensures), ← (c .before .before .child2 .ensures)) (c .before .if1 .taken) in
+        tells-missed (a .pool .now) (a .h) (a .l) (ZigRaise (a .s) (a .purpose)) q (c .missed .result) (rw (eq-eqb (zigChild st (a .l) (a .s)) 0 e)) (c .missed .ensures)
 
 risen-colour-requires : tie.Need-risen-colour-requires
 risen-colour-requires c κs = search needs
@@ -59,8 +67,24 @@ same-length-2 c = search needs
 
 returns-2 : tie.Need-returns-2
 unfolding stepFinds stepMade
-returns-2 c = let a = c .before .before .before .before .before .before .before .before .before .before .before .before .before .before .before .before .before .before .before .before .before .before .before .args in λ q r. let st : State = at (a .pool .now) (a .h) q in let d : zigChild st (a .l) (a .s) ≡ 0 → ⊥ = rw (← (c .before .before .before .before .before .before .before .before .before .before .before .before .before .before .before .before .before .before .before .before .node-at .ensures), ← (c .before .before .before .before .before .before .before .before .before .before .before .before .before .before .before .before .before .before .child .ensures), ← (c .before .before .before .before .before .before .before .before .before .before .before .before .before .before .before .before .other .ensures), ← (c .before .before .before .before .before .before .before .before .before .before .before .before .before .before .before .child2 .ensures)) (c .before .before .before .before .before .before .before .before .before .before .before .before .before .before .if1 .left) in tells-made (a .pool .now) (a .h) (a .l) (ZigRaise (a .s) (a .purpose)) q _ _ (rw (ne-eqb (zigChild st (a .l) (a .s)) 0 d)) refl
-    (zig-raised st (a .l) (a .s) (a .purpose) (c .before .before .before .before .before .before .before .before .before .before .before .before .before .before .before .before .before .before .before .before .node-at .result) (c .before .before .before .before .before .before .before .before .before .before .before .before .before .before .before .child2 .result) (c .before .before .before .before .before .before .before .before .before .before .before .before .risen-colour .result) (c .before .before .before .before .before .before .before .before .before .before .raise .last .0) (c .before .before .before .before .before .before .end-zig .last .0) (withHead q (c .before .before .before .before .before .before .before .before .before .before .raise .result)) (at (c .before .before .retire-two .last .0) (c .before .before .retire-two .result) q) (c .before .before .before .before .before .before .before .before .before .before .before .before .before .before .before .before .before .before .before .before .node-at .ensures) (c .before .before .before .before .before .before .before .before .before .before .before .before .risen-colour .ensures (withHead q (a .h))) (c .before .before .before .before .before .before .before .before .before .before .raise .ensures q) (c .before .before .before .before .before .before .before .before .before .before .before .before .before .before .before .before .before .before .child .result) (c .before .before .before .before .before .before .before .before .before .before .before .before .before .before .before .before .before .before .child .ensures ∙ rw (c .before .before .before .before .before .before .before .before .before .before .before .before .before .before .before .before .before .before .before .before .node-at .ensures)) (c .before .before .before .before .before .before .before .before .before .before .before .before .before .before .before .child2 .ensures ∙ rw (c .before .before .before .before .before .before .before .before .before .before .before .before .before .before .before .before .other .ensures, c .before .before .before .before .before .before .before .before .before .before .before .before .before .before .before .before .before .before .child .ensures, c .before .before .before .before .before .before .before .before .before .before .before .before .before .before .before .before .before .before .before .before .node-at .ensures)) (c .before .before .before .before .before .before .end-zig .ensures (withHead q (c .before .before .before .before .before .before .before .before .before .before .raise .result)) refl) (c .before .before .retire-two .ensures q r))
+returns-2 c =
+    let c6 = c .before .before .before .before .before .before in
+    let c10 = c6 .before .before .before .before in
+    let c12 = c10 .before .before in
+    let c14 = c12 .before .before in
+    let c15 = c14 .before in
+    let c16 = c15 .before in
+    let c18 = c16 .before .before in
+    let c20 = c18 .before .before in
+    let c23 = c20 .before .before .before in
+    let a = c23 .args in λ q r. let st : State = at (a .pool .now) (a .h) q in
+    let d : zigChild st (a .l) (a .s) ≡ 0 → ⊥ =
+        rw (← (c20 .node-at .ensures), ← (c18 .child .ensures), ← (c16 .other .ensures), ← (c15 .child2 .ensures)) (c14 .if1 .left) in
+        tells-made (a .pool .now) (a .h) (a .l) (ZigRaise (a .s) (a .purpose)) q _ _ (rw (ne-eqb (zigChild st (a .l) (a .s)) 0 d)) refl
+    (zig-raised st (a .l) (a .s) (a .purpose) (c20 .node-at .result) (c15 .child2 .result) (c12 .risen-colour .result) (c10 .raise .last .0) (c6 .end-zig .last .0) (withHead q (c10 .raise .result))
+        (at (c .before .before .retire-two .last .0) (c .before .before .retire-two .result) q) (c20 .node-at .ensures) (c12 .risen-colour .ensures (withHead q (a .h))) (c10 .raise .ensures q)
+            (c18 .child .result) (c18 .child .ensures ∙ rw (c20 .node-at .ensures)) (c15 .child2 .ensures ∙ rw (c16 .other .ensures, c18 .child .ensures, c20 .node-at .ensures))
+                (c6 .end-zig .ensures (withHead q (c10 .raise .result)) refl) (c .before .before .retire-two .ensures q r))
 
 pub zig-raise-spec : {M : Type 1} → statement M
 zig-raise-spec =

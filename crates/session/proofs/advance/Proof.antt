@@ -40,13 +40,19 @@ returns c = let l = c .before .before .before .loop in let i = l .inv in
     ((i .0, i .1, i .2), λ h. done-full (length (l .out)) (i .1) (c .if2 .taken) (at-most (i .5) h) (i .6))
 
 show-node-requires : tie.Need-show-node-requires Inv-loop μ-loop
-show-node-requires c κs = let i = c .before .before .before .before .before .before .before .loop .inv in ((i .0 .lent, i .0 .pending, c .before .before .if3 .taken), (i .3, fits (i .1) (c .before .before .before .before .if2 .left)))
+show-node-requires c κs =
+    let c4 = c .before .before .before .before in
+    let c7 = c4 .before .before .before in
+    let i = c7 .loop .inv in ((i .0 .lent, i .0 .pending, c .before .before .if3 .taken), (i .3, fits (i .1) (c4 .if2 .left)))
 
 sub-session : tie.Need-sub-session Inv-loop μ-loop
 sub-session c = search needs
 
 loop-less : tie.Need-loop-less Inv-loop μ-loop
-loop-less c = let l = c .before .before .before .before .before .before .before .before .before .before .before .loop in shown-less (l .session .pending) _ (l .from) (c .before .before .before .before .before .before .if3 .taken)
+loop-less c =
+    let c6 = c .before .before .before .before .before .before in
+    let c11 = c6 .before .before .before .before .before in
+    let l = c11 .loop in shown-less (l .session .pending) _ (l .from) (c6 .if3 .taken)
 
 loop-again : tie.Need-loop-again Inv-loop μ-loop
 loop-again c = let l = c .before .before .before .before .before .before .before .before .before .before .before .loop in let i = l .inv in (
@@ -60,31 +66,62 @@ loop-again c = let l = c .before .before .before .before .before .before .before
 )
 
 read-line-requires : tie.Need-read-line-requires Inv-loop μ-loop
-read-line-requires c κs = let i = c .before .before .before .before .before .before .loop .inv in (i .0, fits (i .1) (c .before .before .before .if2 .left), bytes-left (c .before .if3 .left) (c .before .before .before .before .before .left .ensures .0) (c .before .before .before .before .if1 .taken))
+read-line-requires c κs =
+    let c3 = c .before .before .before in
+    let c4 = c3 .before in
+    let c5 = c4 .before in
+    let c6 = c5 .before in
+    let i = c6 .loop .inv in (i .0, fits (i .1) (c3 .if2 .left), bytes-left (c .before .if3 .left) (c5 .left .ensures .0) (c4 .if1 .taken))
 
 answer-requires : tie.Need-answer-requires Inv-loop μ-loop
-answer-requires c κs = let i = c .before .before .before .before .before .before .before .before .before .before .before .before .before .loop .inv in (c .before .before .before .before .before .before .read-line .ensures .0 .0, i .3, at-most (c .before .before .before .before .before .out2 .given) (fits (i .1) (c .before .before .before .before .before .before .before .before .before .before .if2 .left)))
+answer-requires c κs =
+    let c5 = c .before .before .before .before .before in
+    let c6 = c5 .before in
+    let c10 = c6 .before .before .before .before in
+    let c13 = c10 .before .before .before in
+    let i = c13 .loop .inv in (c6 .read-line .ensures .0 .0, i .3, at-most (c5 .out2 .given) (fits (i .1) (c10 .if2 .left)))
 
 loop-less-2 : tie.Need-loop-less-2 Inv-loop μ-loop
-loop-less-2 c = let e = c .before .before .before .before .before .before .before .before .before .before .before .before .before .read-line .ensures .0 in line-less (c .before .before .before .before .before .before .before .before .before .before .before .before .before .before .before .before .before .before .before .before .loop .session .pending) (c .before .before .before .before .before .before .answer .ensures .0) (e .2) (e .3)
+loop-less-2 c =
+    let c6 = c .before .before .before .before .before .before in
+    let c13 = c6 .before .before .before .before .before .before .before in
+    let c20 = c13 .before .before .before .before .before .before .before in
+    let e = c13 .read-line .ensures .0 in line-less (c20 .loop .session .pending) (c6 .answer .ensures .0) (e .2) (e .3)
 
 loop-again-2 : tie.Need-loop-again-2 Inv-loop μ-loop
-loop-again-2 c = let i = c .before .before .before .before .before .before .before .before .before .before .before .before .before .before .before .before .before .before .before .before .loop .inv in let e = c .before .before .before .before .before .before .before .before .before .before .before .before .before .read-line .ensures .0 in let a = c .before .before .before .before .before .before .answer .ensures in (
+loop-again-2 c =
+    let c3 = c .before .before .before in
+    let c5 = c3 .before .before in
+    let c6 = c5 .before in
+    let c12 = c6 .before .before .before .before .before .before in
+    let c13 = c12 .before in
+    let c20 = c13 .before .before .before .before .before .before .before in
+    let i = c20 .loop .inv in
+    let e = c13 .read-line .ensures .0 in
+    let a = c6 .answer .ensures in (
   a .0,
   a .1,
   e .3,
-  c .before .before .before .before .before .words .given ∙ i .3,
-  c .before .before .before .before .before .words .given ∙ i .4,
-  c .before .before .before .out3 .given ∙ (c .before .before .before .before .before .before .before .before .before .before .before .before .out2 .given ∙ i .5),
-  done-more _ _ (line-less (c .before .before .before .before .before .before .before .before .before .before .before .before .before .before .before .before .before .before .before .before .loop .session .pending) (a .0) (e .2) (e .3)) (i .6),
+  c5 .words .given ∙ i .3,
+  c5 .words .given ∙ i .4,
+  c3 .out3 .given ∙ (c12 .out2 .given ∙ i .5),
+  done-more _ _ (line-less (c20 .loop .session .pending) (a .0) (e .2) (e .3)) (i .6),
 )
 
 loop-less-3 : tie.Need-loop-less-3 Inv-loop μ-loop
-loop-less-3 c = let e = c .before .before .before .before .read-line .ensures .0 in line-less (c .before .before .before .before .before .before .before .before .before .before .before .loop .session .pending) (e .0) (e .2) (e .3)
+loop-less-3 c =
+    let c4 = c .before .before .before .before in
+    let c11 = c4 .before .before .before .before .before .before .before in
+    let e = c4 .read-line .ensures .0 in line-less (c11 .loop .session .pending) (e .0) (e .2) (e .3)
 
 loop-again-3 : tie.Need-loop-again-3 Inv-loop μ-loop
-loop-again-3 c = let i = c .before .before .before .before .before .before .before .before .before .before .before .loop .inv in let e = c .before .before .before .before .read-line .ensures in
-    (e .0 .0, e .1, e .0 .3, i .3, i .4, c .before .before .before .out2 .given ∙ i .5, done-more _ _ (line-less (c .before .before .before .before .before .before .before .before .before .before .before .loop .session .pending) (e .0 .0) (e .0 .2) (e .0 .3)) (i .6))
+loop-again-3 c =
+    let c3 = c .before .before .before in
+    let c4 = c3 .before in
+    let c11 = c4 .before .before .before .before .before .before .before in
+    let i = c11 .loop .inv in
+    let e = c4 .read-line .ensures in
+    (e .0 .0, e .1, e .0 .3, i .3, i .4, c3 .out2 .given ∙ i .5, done-more _ _ (line-less (c11 .loop .session .pending) (e .0 .0) (e .0 .2) (e .0 .3)) (i .6))
 
 same-length-3 : tie.Need-same-length-3 Inv-loop μ-loop
 same-length-3 c = c .before .before .loop .inv .4

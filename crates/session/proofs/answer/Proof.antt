@@ -24,7 +24,12 @@ write-line-requires : tie.Need-write-line-requires
 write-line-requires c κs = search needs
 
 after-requires : tie.Need-after-requires
-after-requires c κs = let a = c .before .before .before .before .before .before .before .before .before .before .before .before .before .args in let p = c .before .before .before .before .before .before .before .before .perform in let h = c .before .before .before .before .before .before .before .before .before .before .before .before .before .pre .0 .lent in
+after-requires c κs =
+    let c8 = c .before .before .before .before .before .before .before .before in
+    let c13 = c8 .before .before .before .before .before in
+    let a = c13 .args in
+    let p = c8 .perform in
+    let h = c13 .pre .0 .lent in
     rw (p .ensures .1 .1 .0) (kept-fits (a .s .lent) (triedWords (a .s .lent) (a .c)) (says (p .result .said)) h (tried-fits (a .s .lent) (a .c) h))
 
 same-length : tie.Need-same-length

@@ -18,9 +18,13 @@ enum-known-piece : tie.Need-enum-known-piece
 enum-known-piece c = search needs
 
 whole-line-requires : tie.Need-whole-line-requires
-whole-line-requires c κs = let a = c .before .before .before .before .before .before .before .args in let n = c .before .before .before .before .scan in
-    let h : n .result .next ≤ length (a .input .now) = rw (n .ensures) (cut-within (a .input .now) (a .from) (a .s .reading) (omega (arith, c .before .before .before .before .before .before .before .pre .2))) in
-    (c .before .before .before .before .before .before .before .pre .0, h, c .before .before .before .before .before .before .before .pre .1)
+whole-line-requires c κs =
+    let c4 = c .before .before .before .before in
+    let c7 = c4 .before .before .before in
+    let a = c7 .args in
+    let n = c4 .scan in
+    let h : n .result .next ≤ length (a .input .now) = rw (n .ensures) (cut-within (a .input .now) (a .from) (a .s .reading) (omega (arith, c7 .pre .2))) in
+    (c7 .pre .0, h, c7 .pre .1)
 
 enum-known-piece-2 : tie.Need-enum-known-piece-2
 enum-known-piece-2 c = search needs
@@ -32,15 +36,25 @@ same-length : tie.Need-same-length
 same-length c = search needs
 
 returns : tie.Need-returns
-returns c = let a = c .before .before .before .before .before .before .before .before .before .before .args in let n = c .before .before .before .before .before .before .before .scan in let w = c .before .before .whole-line in
-    let g : a .from < n .result .next = rw (n .ensures) (cut-after (a .input .now) (a .from) (a .s .reading) (c .before .before .before .before .before .before .before .before .before .before .pre .2)) in
+returns c =
+    let c7 = c .before .before .before .before .before .before .before in
+    let c10 = c7 .before .before .before in
+    let a = c10 .args in
+    let n = c7 .scan in
+    let w = c .before .before .whole-line in
+    let g : a .from < n .result .next = rw (n .ensures) (cut-after (a .input .now) (a .from) (a .s .reading) (c10 .pre .2)) in
     ((w .ensures .0 .0, w .ensures .0 .1, omega (arith, g, w .ensures .0 .2), w .ensures .0 .3), w .ensures .1)
 
 returns-2 : tie.Need-returns-2
-returns-2 c = let a = c .before .before .before .before .before .before .before .args in let n = c .before .before .before .before .scan in let w = c .part-line in
-    let g : a .from < n .result .next = rw (n .ensures) (cut-after (a .input .now) (a .from) (a .s .reading) (c .before .before .before .before .before .before .before .pre .2)) in
-    let h : n .result .next ≤ length (a .input .now) = rw (n .ensures) (cut-within (a .input .now) (a .from) (a .s .reading) (omega (arith, c .before .before .before .before .before .before .before .pre .2))) in
-    ((w .ensures .0, w .ensures .1, omega (arith, g, w .ensures .2), omega (arith, h, w .ensures .2)), omega (arith, w .ensures .3, c .before .before .before .before .before .before .before .pre .1))
+returns-2 c =
+    let c4 = c .before .before .before .before in
+    let c7 = c4 .before .before .before in
+    let a = c7 .args in
+    let n = c4 .scan in
+    let w = c .part-line in
+    let g : a .from < n .result .next = rw (n .ensures) (cut-after (a .input .now) (a .from) (a .s .reading) (c7 .pre .2)) in
+    let h : n .result .next ≤ length (a .input .now) = rw (n .ensures) (cut-within (a .input .now) (a .from) (a .s .reading) (omega (arith, c7 .pre .2))) in
+    ((w .ensures .0, w .ensures .1, omega (arith, g, w .ensures .2), omega (arith, h, w .ensures .2)), omega (arith, w .ensures .3, c7 .pre .1))
 
 pub read-line-spec : {M : Type 1} → statement M
 read-line-spec =

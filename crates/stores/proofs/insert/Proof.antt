@@ -21,7 +21,11 @@ missed-requires : tie.Need-missed-requires
 missed-requires c κs = search needs
 
 returns : tie.Need-returns
-returns c = let a = c .before .before .before .before .args in λ q. let st : State = at (a .pool .now) (a .h) q in tells-missed (a .pool .now) (a .h) (a .l) (Insert (a .k) (a .v)) q (c .missed .result) (insert-empty st (a .l) (a .k) (a .v) (c .before .if1 .taken)) (c .missed .ensures)
+returns c =
+    let c4 = c .before .before .before .before in
+    let a = c4 .args in λ q. let st : State =
+        at (a .pool .now) (a .h) q in
+        tells-missed (a .pool .now) (a .h) (a .l) (Insert (a .k) (a .v)) q (c .missed .result) (insert-empty st (a .l) (a .k) (a .v) (c .before .if1 .taken)) (c .missed .ensures)
 
 owner-requires : tie.Need-owner-requires
 owner-requires c κs = search needs
@@ -30,7 +34,12 @@ is-red-requires : tie.Need-is-red-requires
 is-red-requires c κs = search needs
 
 insert-under-red-requires : tie.Need-insert-under-red-requires
-insert-under-red-requires c κs = let a = c .before .before .before .before .before .before .before .before .args in let e : isRed (a .pool .now) (owner (a .l)) ≡ true = rw (← (c .before .before .before .owner .ensures), ← (c .before .before .is-red .ensures)) (c .before .if2 .taken) in (c .before .before .before .before .before .before .before .before .pre, e, c .before .before .before .before .before .if1 .left)
+insert-under-red-requires c κs =
+    let c3 = c .before .before .before in
+    let c5 = c3 .before .before in
+    let c8 = c5 .before .before .before in
+    let a = c8 .args in
+    let e : isRed (a .pool .now) (owner (a .l)) ≡ true = rw (← (c3 .owner .ensures), ← (c .before .before .is-red .ensures)) (c .before .if2 .taken) in (c8 .pre, e, c5 .if1 .left)
 
 same-length : tie.Need-same-length
 same-length c = search needs
@@ -39,7 +48,12 @@ returns-2 : tie.Need-returns-2
 returns-2 c = c .before .before .insert-under-red .ensures
 
 insert-under-black-requires : tie.Need-insert-under-black-requires
-insert-under-black-requires c κs = let a = c .before .before .before .before .before .before .before .before .args in let e : isRed (a .pool .now) (owner (a .l)) ≡ false = rw (← (c .before .before .before .owner .ensures), ← (c .before .before .is-red .ensures)) (c .before .if2 .left) in (c .before .before .before .before .before .before .before .before .pre, e, c .before .before .before .before .before .if1 .left)
+insert-under-black-requires c κs =
+    let c3 = c .before .before .before in
+    let c5 = c3 .before .before in
+    let c8 = c5 .before .before .before in
+    let a = c8 .args in
+    let e : isRed (a .pool .now) (owner (a .l)) ≡ false = rw (← (c3 .owner .ensures), ← (c .before .before .is-red .ensures)) (c .before .if2 .left) in (c8 .pre, e, c5 .if1 .left)
 
 same-length-2 : tie.Need-same-length-2
 same-length-2 c = search needs

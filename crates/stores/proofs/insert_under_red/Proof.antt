@@ -41,7 +41,16 @@ same-length : tie.Need-same-length
 same-length c = search needs
 
 returns : tie.Need-returns
-returns c = let a = c .before .before .before .before .before .before .before .before .before .before .before .args in λ q. let st : State = at (a .pool .now) (a .h) q in let k = c .before .before .before .insert-fixup .result in let e : k ≡ insertFixup (a .pool .now) 0 (pathTo (a .pool .now) (a .h .root) (a .k) (a .l)) = rw (c .before .before .before .insert-fixup .ensures, c .before .before .before .before .before .before .before .path-to .ensures .0) in let m : missing (k .ending) ≡ true = sym (c .before .before .missing .ensures) ∙ c .before .if1 .taken in tells-missed (a .pool .now) (a .h) (a .l) (Insert (a .k) (a .v)) q (c .missed .result) (fixup-missing st (a .l) (a .k) (a .v) (c .before .before .before .before .before .before .before .before .before .before .before .pre .1) k e m) (c .missed .ensures)
+returns c =
+    let c3 = c .before .before .before in
+    let c7 = c3 .before .before .before .before in
+    let c11 = c7 .before .before .before .before in
+    let a = c11 .args in λ q. let st : State = at (a .pool .now) (a .h) q in
+    let k = c3 .insert-fixup .result in
+    let e : k ≡ insertFixup (a .pool .now) 0 (pathTo (a .pool .now) (a .h .root) (a .k) (a .l)) = rw (c3 .insert-fixup .ensures, c7 .path-to .ensures .0) in
+    let m : missing (k .ending) ≡ true =
+        sym (c .before .before .missing .ensures) ∙ c .before .if1 .taken in
+        tells-missed (a .pool .now) (a .h) (a .l) (Insert (a .k) (a .v)) q (c .missed .result) (fixup-missing st (a .l) (a .k) (a .v) (c11 .pre .1) k e m) (c .missed .ensures)
 
 link-new-requires : tie.Need-link-new-requires
 link-new-requires c κs = search needs
@@ -59,9 +68,23 @@ same-length-2 : tie.Need-same-length-2
 same-length-2 c = search needs
 
 returns-2 : tie.Need-returns-2
-returns-2 c = let a = c .before .before .before .before .before .before .before .before .before .before .before .before .before .before .before .before .before .before .before .before .before .before .before .args in λ q. let st : State = at (a .pool .now) (a .h) q in let k = c .before .before .before .before .before .before .before .before .before .before .before .before .before .before .before .insert-fixup .result in let path = pathTo (a .pool .now) (a .h .root) (a .k) (a .l) in let e : k ≡ insertFixup (a .pool .now) 0 path = rw (c .before .before .before .before .before .before .before .before .before .before .before .before .before .before .before .insert-fixup .ensures, c .before .before .before .before .before .before .before .before .before .before .before .before .before .before .before .before .before .before .before .path-to .ensures .0) in let m : missing (k .ending) ≡ false = sym (c .before .before .before .before .before .before .before .before .before .before .before .before .before .before .missing .ensures) ∙ c .before .before .before .before .before .before .before .before .before .before .before .before .before .if1 .left in
-    let f : c .before .before .before .before .before .before .paint-insert-fixup .last .0 ≡ paintInsertFixup (k .levels) path (c .before .before .before .before .before .before .before .before .before .before .before .link-new .last .0) = rw (c .before .before .before .before .before .before .paint-insert-fixup .ensures, c .before .before .before .before .before .before .before .before .before .before .before .before .before .before .before .before .before .before .before .path-to .ensures .0) in
-    tells-made (a .pool .now) (a .h) (a .l) (Insert (a .k) (a .v)) q _ _ (fixup-found st (a .l) (a .k) (a .v) (c .before .before .before .before .before .before .before .before .before .before .before .before .before .before .before .before .before .before .before .before .before .before .before .pre .1) k e m (c .before .before .before .before .before .before .before .before .before .before .before .before .before .before .before .before .before .before .before .before .before .before .before .pre .2)) refl (fixup-made st (a .l) (a .k) (a .v) (c .before .before .before .before .before .before .before .before .before .before .before .before .before .before .before .before .before .before .before .before .before .before .before .pre .1) k e (c .before .before .before .before .before .before .before .before .before .before .before .link-new .last .0) (c .before .before .before .before .before .before .paint-insert-fixup .last .0) (c .before .before .end-insert .last .0) (withHead q (c .before .before .before .before .before .before .before .before .before .before .before .link-new .result)) (c .before .before .before .before .before .before .before .before .before .before .before .link-new .ensures q) f (c .before .before .end-insert .ensures (withHead q (c .before .before .before .before .before .before .before .before .before .before .before .link-new .result)) refl))
+returns-2 c =
+    let c6 = c .before .before .before .before .before .before in
+    let c11 = c6 .before .before .before .before .before in
+    let c13 = c11 .before .before in
+    let c14 = c13 .before in
+    let c15 = c14 .before in
+    let c19 = c15 .before .before .before .before in
+    let c23 = c19 .before .before .before .before in
+    let a = c23 .args in λ q. let st : State = at (a .pool .now) (a .h) q in
+    let k = c15 .insert-fixup .result in
+    let path = pathTo (a .pool .now) (a .h .root) (a .k) (a .l) in
+    let e : k ≡ insertFixup (a .pool .now) 0 path = rw (c15 .insert-fixup .ensures, c19 .path-to .ensures .0) in
+    let m : missing (k .ending) ≡ false = sym (c14 .missing .ensures) ∙ c13 .if1 .left in
+    let f : c6 .paint-insert-fixup .last .0 ≡ paintInsertFixup (k .levels) path (c11 .link-new .last .0) = rw (c6 .paint-insert-fixup .ensures, c19 .path-to .ensures .0) in
+    tells-made (a .pool .now) (a .h) (a .l) (Insert (a .k) (a .v)) q _ _ (fixup-found st (a .l) (a .k) (a .v) (c23 .pre .1) k e m (c23 .pre .2)) refl
+        (fixup-made st (a .l) (a .k) (a .v) (c23 .pre .1) k e (c11 .link-new .last .0) (c6 .paint-insert-fixup .last .0) (c .before .before .end-insert .last .0)
+            (withHead q (c11 .link-new .result)) (c11 .link-new .ensures q) f (c .before .before .end-insert .ensures (withHead q (c11 .link-new .result)) refl))
 
 pub insert-under-red-spec : {M : Type 1} → statement M
 insert-under-red-spec =

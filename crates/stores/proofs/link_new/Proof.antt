@@ -28,7 +28,10 @@ same-length c = search needs
 
 returns : tie.Need-returns
 unfolding withHeld
-returns c = λ q. rw (c .count-up .ensures, c .before .nodes .ensures) (ap oneMore (c .before .before .before .before .before .set-link .ensures q ∙ rw (c .before .before .before .before .before .before .before .before .before .take-node .ensures q)))
+returns c =
+    let c5 = c .before .before .before .before .before in
+    let c9 = c5 .before .before .before .before in
+    λ q. rw (c .count-up .ensures, c .before .nodes .ensures) (ap oneMore (c5 .set-link .ensures q ∙ rw (c9 .take-node .ensures q)))
 
 pub link-new-spec : {M : Type 1} → statement M
 link-new-spec =

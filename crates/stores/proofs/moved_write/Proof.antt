@@ -48,11 +48,18 @@ loop-less : tie.Need-loop-less Inv-loop μ-loop
 loop-less c = search needs
 
 loop-again : tie.Need-loop-again Inv-loop μ-loop
-loop-again c = let l = c .before .before .before .loop in let f = movedStore (c .before .before .before .before .args .b) (c .before .before .before .before .args .n) in (search needs, l .inv .1, rw length-set (l .inv .2), rw (c .moved-store .ensures) (map-next f (l .i) (l .r .stores) ∙ l .inv .3))
+loop-again c =
+    let c3 = c .before .before .before in
+    let c4 = c3 .before in
+    let l = c3 .loop in
+    let f = movedStore (c4 .args .b) (c4 .args .n) in (search needs, l .inv .1, rw length-set (l .inv .2), rw (c .moved-store .ensures) (map-next f (l .i) (l .r .stores) ∙ l .inv .3))
 
 returns : tie.Need-returns Inv-loop μ-loop
 unfolding movedWrite
-returns c = let l = c .before .loop in let f = movedStore (c .before .before .args .b) (c .before .before .args .n) in let e = sym (map-none f (l .i) (l .r .stores) (omega arith)) ∙ l .inv .3 in λ i. record { stores = e i; count = l .inv .1 i }
+returns c =
+    let l = c .before .loop in
+    let f = movedStore (c .before .before .args .b) (c .before .before .args .n) in
+    let e = sym (map-none f (l .i) (l .r .stores) (omega arith)) ∙ l .inv .3 in λ i. record { stores = e i; count = l .inv .1 i }
 
 pub moved-write-spec : {M : Type 1} → statement M
 moved-write-spec =

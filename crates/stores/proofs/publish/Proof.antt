@@ -34,9 +34,12 @@ same-length c = search needs
 
 returns : tie.Need-returns
 unfolding stepFinds
-returns c = let a = c .before .before .before .before .before .args in
+returns c =
+    let c5 = c .before .before .before .before .before in
+    let a = c5 .args in
     publishes-missed (a .reading) (a .l) (a .c) (a .pool .now) (a .h) (c .missed .result)
-    (λ q. no-node (linkNode (at (a .pool .now) (a .h) q) (a .l)) (not (queueEmpty (at (a .pool .now) (a .h) q))) (sym (c .before .before .node-at .ensures) ∙ c .before .if1 .taken)) (c .missed .ensures)
+    (λ q. no-node (linkNode (at (a .pool .now) (a .h) q) (a .l)) (not (queueEmpty (at (a .pool .now) (a .h) q))) (sym (c .before .before .node-at .ensures) ∙ c .before .if1 .taken))
+        (c .missed .ensures)
 
 missed-requires-2 : tie.Need-missed-requires-2
 missed-requires-2 c κs = search needs
@@ -69,19 +72,39 @@ await-readers-requires : tie.Need-await-readers-requires
 await-readers-requires c κs = search needs
 
 retire-requires : tie.Need-retire-requires
-retire-requires c κs = omega (arith, c .before .before .before .before .before .before .before .before .before .before .before .before .before .before .before .before .before .before .before .before .before .pre, c .before .before .before .before .before .before .before .before .take-copy .kept, c .before .before .before .before .set-link .kept)
+retire-requires c κs =
+    let c4 = c .before .before .before .before in
+    let c8 = c4 .before .before .before .before in
+    let c21 = c8 .before .before .before .before .before .before .before .before .before .before .before .before .before in
+    omega (arith, c21 .pre, c8 .take-copy .kept, c4 .set-link .kept)
 
 same-length-3 : tie.Need-same-length-3
 same-length-3 c = search needs
 
 returns-3 : tie.Need-returns-3
 unfolding stepFinds stepMade
-returns-3 c = let a = c .before .before .before .before .before .before .before .before .before .before .before .before .before .before .before .before .before .before .before .before .before .before .before .before .args in let n = c .before .before .before .before .before .before .before .before .before .before .before .before .before .before .before .before .before .before .before .before .before .node-at in let k = c .before .before .before .before .before .before .before .before .before .before .before .take-copy in let j = c .before .before .before .before .before .before .before .set-link in let t = c .before .before .retire in
-    let z : FollowsReading (a .reading) (λ st. retire st (n .result)) (j .last .0) (awaiting (j .result) (a .reading)) (t .last .0) (t .result) = rw (c .before .before .before .before .await-readers .ensures) at (t .ensures) in
-    λ q e. let f : stepFinds (at (a .pool .now) (a .h) q) (a .l) (Publish (a .c)) ≡ true = takes-node (at (a .pool .now) (a .h) q) (linkNode (at (a .pool .now) (a .h) q) (a .l)) (rw (← (n .ensures)) (c .before .before .before .before .before .before .before .before .before .before .before .before .before .before .before .before .before .before .before .before .if1 .left)) (c .before .before .before .before .before .before .before .before .before .before .before .before .before .before .before .before .before .before .before .if2 .left) in (
+returns-3 c =
+    let c4 = c .before .before .before .before in
+    let c7 = c4 .before .before .before in
+    let c11 = c7 .before .before .before .before in
+    let c13 = c11 .before .before in
+    let c15 = c13 .before .before in
+    let c17 = c15 .before .before in
+    let c19 = c17 .before .before in
+    let c20 = c19 .before in
+    let c21 = c20 .before in
+    let c24 = c21 .before .before .before in
+    let a = c24 .args in
+    let n = c21 .node-at in
+    let k = c11 .take-copy in
+    let j = c7 .set-link in
+    let t = c .before .before .retire in
+    let z : FollowsReading (a .reading) (λ st. retire st (n .result)) (j .last .0) (awaiting (j .result) (a .reading)) (t .last .0) (t .result) = rw (c4 .await-readers .ensures) at (t .ensures) in
+    λ q e. let f : stepFinds (at (a .pool .now) (a .h) q) (a .l) (Publish (a .c)) ≡ true = takes-node (at (a .pool .now) (a .h) q) (linkNode (at (a .pool .now) (a .h) q) (a .l))
+        (rw (← (n .ensures)) (c20 .if1 .left)) (c19 .if2 .left) in (
       sym f,
-      λ g. published (a .pool .now) (j .last .0) (t .last .0) (a .h) (j .result) (t .result) (a .l) (a .reading) (a .c) (n .result) (c .before .before .before .before .before .before .before .before .before .before .before .before .before .before .before .before .before .child .result) (c .before .before .before .before .before .before .before .before .before .before .before .before .before .before .before .child2 .result) (c .before .before .before .before .before .before .before .before .before .before .before .before .before .word .result)
-          (n .ensures) (c .before .before .before .before .before .before .before .before .before .before .before .before .before .before .before .before .before .child .ensures) (c .before .before .before .before .before .before .before .before .before .before .before .before .before .before .before .child2 .ensures) (λ q. c .before .before .before .before .before .before .before .before .before .before .before .before .before .word .ensures) (λ q. j .ensures q ∙ rw (k .ensures q)) z q e,
+      λ g. published (a .pool .now) (j .last .0) (t .last .0) (a .h) (j .result) (t .result) (a .l) (a .reading) (a .c) (n .result) (c17 .child .result) (c15 .child2 .result) (c13 .word .result)
+          (n .ensures) (c17 .child .ensures) (c15 .child2 .ensures) (λ q. c13 .word .ensures) (λ q. j .ensures q ∙ rw (k .ensures q)) z q e,
       λ g. absurd (false≢true (sym g)),
     )
 

@@ -12,7 +12,8 @@ use Rattle.session.proofs.left.Reads as left-reads
 use Rattle.trace.proofs.write_out.Reads as write-out-reads
 
 abbrev Inv-loop : tie.InvT-loop
-Inv-loop words₀ out₀ input run₀ words out run = Sound (run .session) × (run .from ≤ length input) × (room ≤ length out) × (length words ≡ 8192) × (length words ≡ length words₀) × (length out ≡ length out₀)
+Inv-loop words₀ out₀ input run₀ words out run = Sound
+    (run .session) × (run .from ≤ length input) × (room ≤ length out) × (length words ≡ 8192) × (length words ≡ length words₀) × (length out ≡ length out₀)
 
 abbrev μ-loop : tie.MeasureT-loop
 μ-loop words₀ out₀ input run₀ words out run = workLeft (run .session .pending) (length input) (run .from)
@@ -30,11 +31,22 @@ write-out-requires : tie.Need-write-out-requires Inv-loop μ-loop
 write-out-requires c κs = c .before .before .before .before .before .advance .ensures .0 .1
 
 loop-less : tie.Need-loop-less Inv-loop μ-loop
-loop-less c = let a = c .before .before .before .before .before .before .advance in falls (a .ensures .1 (c .before .before .before .before .before .before .before .before .before .before .before .loop .inv .2)) (c .before .before .before .before .before .before .before .before .before .before .left .ensures .0) (c .before .before .before .before .before .before .before .before .before .if1 .taken)
+loop-less c =
+    let c6 = c .before .before .before .before .before .before in
+    let c9 = c6 .before .before .before in
+    let c10 = c9 .before in
+    let c11 = c10 .before in
+    let a = c6 .advance in falls (a .ensures .1 (c11 .loop .inv .2)) (c10 .left .ensures .0) (c9 .if1 .taken)
 
 loop-again : tie.Need-loop-again Inv-loop μ-loop
-loop-again c = let a = c .before .before .before .before .before .before .advance .ensures .0 in let i = c .before .before .before .before .before .before .before .before .before .before .before .loop .inv in
-    (a .0, a .2, at-most (c .before .before .before .out .given) (i .2), c .before .before .before .before .before .words .given ∙ i .3, c .before .before .before .before .before .words .given ∙ i .4, c .before .before .before .out .given ∙ i .5)
+loop-again c =
+    let c3 = c .before .before .before in
+    let c5 = c3 .before .before in
+    let c6 = c5 .before in
+    let c11 = c6 .before .before .before .before .before in
+    let a = c6 .advance .ensures .0 in
+    let i = c11 .loop .inv in
+    (a .0, a .2, at-most (c3 .out .given) (i .2), c5 .words .given ∙ i .3, c5 .words .given ∙ i .4, c3 .out .given ∙ i .5)
 
 same-length : tie.Need-same-length Inv-loop μ-loop
 same-length c = c .before .before .loop .inv .4

@@ -16,7 +16,8 @@ use Rattle.trace.proofs.run.Reads as run-reads
 use Rattle.trace.proofs.turns_left.Reads as turns-left-reads
 
 abbrev Inv-loop : tie.InvT-loop
-Inv-loop words₀ input₀ out₀ r₀ turns₀ t9 words input out r turns = Sound (r .session) × (room ≤ length out) × (length words ≡ 8192) × (length words ≡ length words₀) × (length input ≡ length input₀) × (length out ≡ length out₀)
+Inv-loop words₀ input₀ out₀ r₀ turns₀ t9 words input out r turns = Sound
+    (r .session) × (room ≤ length out) × (length words ≡ 8192) × (length words ≡ length words₀) × (length input ≡ length input₀) × (length out ≡ length out₀)
 
 abbrev μ-loop : tie.MeasureT-loop
 μ-loop words₀ input₀ out₀ r₀ turns₀ t9 words input out r turns = turns
@@ -49,8 +50,13 @@ loop-less : tie.Need-loop-less Inv-loop μ-loop
 loop-less c = c .turns-left .ensures
 
 loop-again : tie.Need-loop-again Inv-loop μ-loop
-loop-again c = let i = c .before .before .before .before .before .before .before .before .before .before .before .before .before .before .before .before .loop .inv in
-    (c .before .before .before .before .before .run .ensures, at-most (c .before .before .out .given) (i .1), c .before .before .before .before .words .given ∙ i .2, c .before .before .before .before .words .given ∙ i .3, c .before .before .before .before .before .before .before .before .before .before .before .before .input .given ∙ i .4, c .before .before .out .given ∙ i .5)
+loop-again c =
+    let c4 = c .before .before .before .before in
+    let c5 = c4 .before in
+    let c12 = c5 .before .before .before .before .before .before .before in
+    let c16 = c12 .before .before .before .before in
+    let i = c16 .loop .inv in
+    (c5 .run .ensures, at-most (c .before .before .out .given) (i .1), c4 .words .given ∙ i .2, c4 .words .given ∙ i .3, c12 .input .given ∙ i .4, c .before .before .out .given ∙ i .5)
 
 unfinished-requires : tie.Need-unfinished-requires Inv-loop μ-loop
 unfinished-requires c κs = search needs

@@ -27,9 +27,15 @@ same-length : tie.Need-same-length
 same-length c = search needs
 
 returns : tie.Need-returns
-returns c = let a = c .before .before .before .before .before .before .before .before .before .args in let x = storeOf (a .reg) 0 in let t = c .before .before .try-step in
-    let tries : TriesAny (c .before .before .before .reading-slots .result) (x .link) (x .step) (a .pool .now) (headOf (a .reg)) (t .last .0) (t .result) = rw (c .before .before .before .before .head-of .ensures) at (t .ensures) in
-    tries (a .reg) (sym (c .before .before .before .reading-slots .ensures))
+returns c =
+    let c3 = c .before .before .before in
+    let c4 = c3 .before in
+    let c9 = c4 .before .before .before .before .before in
+    let a = c9 .args in
+    let x = storeOf (a .reg) 0 in
+    let t = c .before .before .try-step in
+    let tries : TriesAny (c3 .reading-slots .result) (x .link) (x .step) (a .pool .now) (headOf (a .reg)) (t .last .0) (t .result) = rw (c4 .head-of .ensures) at (t .ensures) in
+    tries (a .reg) (sym (c3 .reading-slots .ensures))
 
 pub first-step-spec : {M : Type 1} → statement M
 first-step-spec =

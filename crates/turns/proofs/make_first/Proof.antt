@@ -31,7 +31,9 @@ node-at-requires : tie.Need-node-at-requires
 node-at-requires c κs = search needs
 
 first-step-requires : tie.Need-first-step-requires
-first-step-requires c κs = let a = c .before .before .before .before .before .before .before .before .args in lent (state (a .pool .now) (a .reg)) (c .before .before .before .before .before .before .before .before .pre .0) .size
+first-step-requires c κs =
+    let c8 = c .before .before .before .before .before .before .before .before in
+    let a = c8 .args in lent (state (a .pool .now) (a .reg)) (c8 .pre .0) .size
 
 refuses-writer-requires : tie.Need-refuses-writer-requires
 refuses-writer-requires c κs = search needs
@@ -40,10 +42,18 @@ same-length : tie.Need-same-length
 same-length c = search needs
 
 returns : tie.Need-returns
-returns c = let a = c .before .before .before .before .before .before .before .before .before .before .before .before .before .before .args in let st = state (a .pool .now) (a .reg) in let x = storeOf (a .reg) 0 in let t = c .before .before .before .before .before .first-step in let z = t .ensures in
+returns c =
+    let c5 = c .before .before .before .before .before in
+    let c14 = c5 .before .before .before .before .before .before .before .before .before in
+    let a = c14 .args in
+    let st = state (a .pool .now) (a .reg) in
+    let x = storeOf (a .reg) 0 in
+    let t = c5 .first-step in
+    let z = t .ensures in
     let f : stepFinds st (x .link) (x .step) ≡ false = sym (z .0) ∙ not-true _ (c .before .if2 .taken) in
-    let e = writer-missed st (c .before .before .before .before .before .before .before .before .before .before .before .before .before .before .pre .0) (c .before .before .before .before .before .before .before .before .before .before .before .before .before .before .pre .1) (c .before .before .before .before .before .before .before .before .before .before .before .before .before .before .pre .2) f in
-    (c .refuses-writer .ensures .0 ∙ sym (ap (λ (o : Outcome). o .answer) e), rw (c .refuses-writer .ensures .1) (ap (λ (p : List ℕ). state p (a .reg)) (z .2 (not-true _ (c .before .if2 .taken))) ∙ sym (ap (λ (o : Outcome). o .after) e)))
+    let e = writer-missed st (c14 .pre .0) (c14 .pre .1) (c14 .pre .2) f in
+    (c .refuses-writer .ensures .0 ∙ sym (ap (λ (o : Outcome). o .answer) e),
+        rw (c .refuses-writer .ensures .1) (ap (λ (p : List ℕ). state p (a .reg)) (z .2 (not-true _ (c .before .if2 .taken))) ∙ sym (ap (λ (o : Outcome). o .after) e)))
 
 moved-write-requires : tie.Need-moved-write-requires
 moved-write-requires c κs = search needs
@@ -55,11 +65,22 @@ same-length-2 : tie.Need-same-length-2
 same-length-2 c = search needs
 
 returns-2 : tie.Need-returns-2
-returns-2 c = let a = c .before .before .before .before .before .before .before .before .before .before .before .before .before .before .before .args in let st = state (a .pool .now) (a .reg) in let x = storeOf (a .reg) 0 in let t = c .before .before .before .before .before .before .first-step in let z = t .ensures in
+returns-2 c =
+    let c6 = c .before .before .before .before .before .before in
+    let c8 = c6 .before .before in
+    let c10 = c8 .before .before in
+    let c11 = c10 .before in
+    let c15 = c11 .before .before .before .before in
+    let a = c15 .args in
+    let st = state (a .pool .now) (a .reg) in
+    let x = storeOf (a .reg) 0 in
+    let t = c6 .first-step in
+    let z = t .ensures in
     let f : stepFinds st (x .link) (x .step) ≡ true = sym (z .0) ∙ not-false _ (c .before .before .if2 .left) in
-    let e = ap stored (z .1 (not-false _ (c .before .before .if2 .left))) ∙ sym (writer-stores st (c .before .before .before .before .before .before .before .before .before .before .before .before .before .before .before .pre .0) (c .before .before .before .before .before .before .before .before .before .before .before .before .before .before .before .pre .1) (c .before .before .before .before .before .before .before .before .before .before .before .before .before .before .before .pre .2) f) in
-    turn-made (t .last .0) (t .result) (a .reg) (x .step) (nodeAt (a .pool .now) (a .reg .root) (x .link)) (a .reg .first) (c .before .moved-write .result) (writerSays (c .stored .result .answer)) (state (t .last .0) (c .stored .result .register)) (writerTurn st) e
-    (rw (← (c .before .before .before .before .before .before .before .before .before .before .before .publishes .ensures), c .before .before .before .before .before .before .before .before .before .before .if1 .taken) (c .before .moved-write .ensures ∙ rw (c .before .before .before .before .before .before .before .before .node-at .ensures))) (c .stored .ensures (t .last .0))
+    let e = ap stored (z .1 (not-false _ (c .before .before .if2 .left))) ∙ sym (writer-stores st (c15 .pre .0) (c15 .pre .1) (c15 .pre .2) f) in
+    turn-made (t .last .0) (t .result) (a .reg) (x .step) (nodeAt (a .pool .now) (a .reg .root) (x .link)) (a .reg .first) (c .before .moved-write .result) (writerSays (c .stored .result .answer))
+        (state (t .last .0) (c .stored .result .register)) (writerTurn st) e
+    (rw (← (c11 .publishes .ensures), c10 .if1 .taken) (c .before .moved-write .ensures ∙ rw (c8 .node-at .ensures))) (c .stored .ensures (t .last .0))
 
 first-step-requires-2 : tie.Need-first-step-requires-2
 first-step-requires-2 c κs = let a = c .before .before .before .before .before .before .args in lent (state (a .pool .now) (a .reg)) (c .before .before .before .before .before .before .pre .0) .size
@@ -71,10 +92,18 @@ same-length-3 : tie.Need-same-length-3
 same-length-3 c = search needs
 
 returns-3 : tie.Need-returns-3
-returns-3 c = let a = c .before .before .before .before .before .before .before .before .before .before .before .before .args in let st = state (a .pool .now) (a .reg) in let x = storeOf (a .reg) 0 in let t = c .before .before .before .before .before .first-step2 in let z = t .ensures in
+returns-3 c =
+    let c5 = c .before .before .before .before .before in
+    let c12 = c5 .before .before .before .before .before .before .before in
+    let a = c12 .args in
+    let st = state (a .pool .now) (a .reg) in
+    let x = storeOf (a .reg) 0 in
+    let t = c5 .first-step2 in
+    let z = t .ensures in
     let f : stepFinds st (x .link) (x .step) ≡ false = sym (z .0) ∙ not-true _ (c .before .if3 .taken) in
-    let e = writer-missed st (c .before .before .before .before .before .before .before .before .before .before .before .before .pre .0) (c .before .before .before .before .before .before .before .before .before .before .before .before .pre .1) (c .before .before .before .before .before .before .before .before .before .before .before .before .pre .2) f in
-    (c .refuses-writer2 .ensures .0 ∙ sym (ap (λ (o : Outcome). o .answer) e), rw (c .refuses-writer2 .ensures .1) (ap (λ (p : List ℕ). state p (a .reg)) (z .2 (not-true _ (c .before .if3 .taken))) ∙ sym (ap (λ (o : Outcome). o .after) e)))
+    let e = writer-missed st (c12 .pre .0) (c12 .pre .1) (c12 .pre .2) f in
+    (c .refuses-writer2 .ensures .0 ∙ sym (ap (λ (o : Outcome). o .answer) e),
+        rw (c .refuses-writer2 .ensures .1) (ap (λ (p : List ℕ). state p (a .reg)) (z .2 (not-true _ (c .before .if3 .taken))) ∙ sym (ap (λ (o : Outcome). o .after) e)))
 
 stored-requires-2 : tie.Need-stored-requires-2
 stored-requires-2 c κs = search needs
@@ -83,11 +112,21 @@ same-length-4 : tie.Need-same-length-4
 same-length-4 c = search needs
 
 returns-4 : tie.Need-returns-4
-returns-4 c = let a = c .before .before .before .before .before .before .before .before .before .before .before .before .args in let st = state (a .pool .now) (a .reg) in let x = storeOf (a .reg) 0 in let t = c .before .before .before .before .before .first-step2 in let z = t .ensures in
+returns-4 c =
+    let c5 = c .before .before .before .before .before in
+    let c7 = c5 .before .before in
+    let c8 = c7 .before in
+    let c12 = c8 .before .before .before .before in
+    let a = c12 .args in
+    let st = state (a .pool .now) (a .reg) in
+    let x = storeOf (a .reg) 0 in
+    let t = c5 .first-step2 in
+    let z = t .ensures in
     let f : stepFinds st (x .link) (x .step) ≡ true = sym (z .0) ∙ not-false _ (c .before .if3 .left) in
-    let e = ap stored (z .1 (not-false _ (c .before .if3 .left))) ∙ sym (writer-stores st (c .before .before .before .before .before .before .before .before .before .before .before .before .pre .0) (c .before .before .before .before .before .before .before .before .before .before .before .before .pre .1) (c .before .before .before .before .before .before .before .before .before .before .before .before .pre .2) f) in
-    turn-made (t .last .0) (t .result) (a .reg) (x .step) (nodeAt (a .pool .now) (a .reg .root) (x .link)) (a .reg .first) (a .reg .write) (writerSays (c .stored2 .result .answer)) (state (t .last .0) (c .stored2 .result .register)) (writerTurn st) e
-    (rw (← (c .before .before .before .before .before .before .before .before .publishes .ensures), c .before .before .before .before .before .before .before .if1 .left)) (c .stored2 .ensures (t .last .0))
+    let e = ap stored (z .1 (not-false _ (c .before .if3 .left))) ∙ sym (writer-stores st (c12 .pre .0) (c12 .pre .1) (c12 .pre .2) f) in
+    turn-made (t .last .0) (t .result) (a .reg) (x .step) (nodeAt (a .pool .now) (a .reg .root) (x .link)) (a .reg .first) (a .reg .write) (writerSays (c .stored2 .result .answer))
+        (state (t .last .0) (c .stored2 .result .register)) (writerTurn st) e
+    (rw (← (c8 .publishes .ensures), c7 .if1 .left)) (c .stored2 .ensures (t .last .0))
 
 pub make-first-spec : {M : Type 1} → statement M
 make-first-spec =

@@ -95,7 +95,9 @@ detach-requires c κs = search needs
 
 returns : tie.Need-returns
 unfolding stepFinds withWrite
-returns c = let a = c .before .before .before .before .args in rw (c .before .enum-told .given .1) (λ q r. tells-missed (a .pool .now) (a .h) (a .l) Vacant q (c .missed .result) refl (c .missed .ensures))
+returns c =
+    let c4 = c .before .before .before .before in
+    let a = c4 .args in rw (c .before .enum-told .given .1) (λ q r. tells-missed (a .pool .now) (a .h) (a .l) Vacant q (c .missed .result) refl (c .missed .ensures))
 
 same-length : tie.Need-same-length
 same-length c = search needs
