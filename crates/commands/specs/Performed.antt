@@ -3,11 +3,12 @@ use Prim.Native.Nat.{ℕ, _*_, _≤_}
 use mathlib.Core.Path.{_≡_, refl, sym, ap}
 use mathlib.Core.Bool.{Bool, true, false, cond}
 use native.Mathlib.Omega.{arith}
-use borrow.Author.Tests.{ltb-true}
+use borrow.Author.Tests.{leb-true}
 use mathlib.Core.List.{List, [], _∷_}
-use lib.Dec.{ltb}
+use lib.Dec.{leb}
 use lib.ListN.{take}
 use Rattle.datatypes.specs.declared.Register.{Register}
+use Rattle.spec.specs.Numbers.{nodeWords, mostNodes, poolLimit}
 use Rattle.spec.specs.Register.{State, state}
 use Rattle.spec.specs.Calls.{
   Answer,
@@ -52,10 +53,10 @@ called st (command.GiveUp s) = giveUp st s
 called st command.Show = shown st
 called st command.Ill = shown st
 
--- P is lent eight words a node, but never more than 8 × 1,024, with which it is refused as with any more; the other commands work on the
+-- P is lent the words of its nodes, but never more than a program's array has, with which it is refused as with any more; the other commands work on the
 -- words lent before.
 abbrev pub triedWords : ℕ → Command → ℕ
-triedWords lent (command.SetUp n) = cond (ltb n 1024) (n * 8) 8192
+triedWords lent (command.SetUp n) = cond (leb n mostNodes) (n * nodeWords) poolLimit
 triedWords lent (command.Insert k v) = lent
 triedWords lent (command.Delete k) = lent
 triedWords lent command.Write = lent
@@ -80,13 +81,13 @@ keptWords lent tried (refused n) = lent
 unfoldable pub performed : List ℕ → ℕ → Register → Command → Outcome
 performed words lent r c = called (state (take (triedWords lent c) words) r) c
 
--- Both numbers stay within the 8,192 words.
-asked-fits : (n : ℕ) (b : Bool) → ltb n 1024 ≡ b → cond b (n * 8) 8192 ≤ 8192
-asked-fits n true e = omega (arith, ltb-true n 1024 e)
+-- Both numbers stay within the array's words.
+asked-fits : (n : ℕ) (b : Bool) → leb n mostNodes ≡ b → cond b (n * nodeWords) poolLimit ≤ poolLimit
+asked-fits n true e = omega (arith, leb-true n mostNodes e)
 asked-fits n false e = omega arith
 
-pub tried-fits : (lent : ℕ) (c : Command) → lent ≤ 8192 → triedWords lent c ≤ 8192
-tried-fits lent (command.SetUp n) h = asked-fits n (ltb n 1024) refl
+pub tried-fits : (lent : ℕ) (c : Command) → lent ≤ poolLimit → triedWords lent c ≤ poolLimit
+tried-fits lent (command.SetUp n) h = asked-fits n (leb n mostNodes) refl
 tried-fits lent (command.Insert k v) h = h
 tried-fits lent (command.Delete k) h = h
 tried-fits lent command.Write h = h
@@ -96,7 +97,7 @@ tried-fits lent (command.GiveUp s) h = h
 tried-fits lent command.Show h = h
 tried-fits lent command.Ill h = h
 
-pub kept-fits : (lent tried : ℕ) (a : Answer) → lent ≤ 8192 → tried ≤ 8192 → keptWords lent tried a ≤ 8192
+pub kept-fits : (lent tried : ℕ) (a : Answer) → lent ≤ poolLimit → tried ≤ poolLimit → keptWords lent tried a ≤ poolLimit
 kept-fits lent tried ok h g = g
 kept-fits lent tried go h g = g
 kept-fits lent tried absent h g = g

@@ -15,9 +15,6 @@ ghost use Rattle.spec.specs.Calls.{accepts, writerSays, readerSays};
 ghost use Rattle.lines.specs.Text.{says};
 ghost use Rattle.commands.specs.Performed.{called, shown, triedWords, keptWords, performed};
 
-// The words of a program's array. P is lent its first 8 × nodes words; for 1,024 nodes or more all of them, which set up refuses.
-pub const WORDS: usize = 8192;
-
 // What a command's call answers, and the register that it leaves.
 pub struct Called {
     pub said: Said,
@@ -100,10 +97,11 @@ fn tried_words(lent: usize, c: Command) -> usize
     ensures { λ r. ⌜ r ≡ triedWords lent c ⌝ }
 {
     if let Command::SetUp(n) = c {
-        if n < 1024 {
-            return n as usize * 8;
+        let nodes = n as usize;
+        if nodes <= numbers::MOST_NODES {
+            return nodes * numbers::NODE_WORDS;
         }
-        return WORDS;
+        return numbers::POOL_WORDS;
     }
     lent
 }

@@ -7,6 +7,7 @@ use lib.ListN.{length}
 use borrow.Author.Tests.{leb-true, leb-false, eqb-true, eq-eqb, ne-eqb}
 use native.Mathlib.Omega.{arith}
 use Prim.Native.Nat.{ℕ, _<_, _*_, _%_}
+use Rattle.spec.specs.Numbers.{nodeWords, leastNodes, mostNodes, poolLimit, slots}
 use Rattle.spec.specs.Pool.{nodes, lengthRight, poolInRange}
 use Rattle.spec.specs.Register.{State, registerInRange}
 use Rattle.spec.specs.Calls.{Test, _gives_, firstOf, Outcome, outcome, unless, refused, wrongLength, outOfRange, slotTooHigh}
@@ -20,12 +21,12 @@ and-right true b h = h
 and-right false b h = absurd (false≢true h)
 
 -- a pool of the right length has at most 1,023 nodes
-pub right-length : (p : List ℕ) → lengthRight p ≡ true → length p < 8192
+pub right-length : (p : List ℕ) → lengthRight p ≡ true → length p < poolLimit
 unfolding lengthRight
 right-length p h =
-    let a = eqb (length p % 8) 0 && leb 8 (nodes p) in
-    let capacity = leb-true (nodes p) 1023 (and-right a (leb (nodes p) 1023) h) in
-    let whole = eqb-true (length p % 8) 0 (and-left (eqb (length p % 8) 0) (leb 8 (nodes p)) (and-left a (leb (nodes p) 1023) h)) in
+    let a = eqb (length p % nodeWords) 0 && leb leastNodes (nodes p) in
+    let capacity = leb-true (nodes p) mostNodes (and-right a (leb (nodes p) mostNodes) h) in
+    let whole = eqb-true (length p % nodeWords) 0 (and-left (eqb (length p % nodeWords) 0) (leb leastNodes (nodes p)) (and-left a (leb (nodes p) mostNodes) h)) in
     omega arith
 
 -- Tests 1 and 2, which begin every call but set up.
@@ -46,7 +47,7 @@ lent-passed false b h = absurd (let z : ⊥ = omega arith in z)
 
 -- what holds of a pool and register that passed
 pub record Lent (st : State) : Type 0 where
-  pub size : length (st .pool) < 8192
+  pub size : length (st .pool) < poolLimit
   pub right : lengthRight (st .pool) ≡ true
   pub ranges : (poolInRange (st .pool) && registerInRange (nodes (st .pool)) (st .register)) ≡ true
 
@@ -78,8 +79,8 @@ slot-passed false false true d k n h = absurd (let z : ⊥ = omega arith in z)
 slot-passed false false false d k n h = refl
 
 pub slot-of : (st : State) (s : ℕ) (d : Bool) (k : ℕ) → (k ≡ 0 → ⊥)
-    → firstOf (wrongLength st gives 1 ∷ outOfRange st gives 2 ∷ slotTooHigh s gives 3 ∷ d gives k ∷ []) ≡ 0 → s < 8
-slot-of st s d k n h = leb-false 8 s (slot-passed (wrongLength st) (outOfRange st) (slotTooHigh s) d k n h)
+    → firstOf (wrongLength st gives 1 ∷ outOfRange st gives 2 ∷ slotTooHigh s gives 3 ∷ d gives k ∷ []) ≡ 0 → s < slots
+slot-of st s d k n h = leb-false slots s (slot-passed (wrongLength st) (outOfRange st) (slotTooHigh s) d k n h)
 
 -- a call's tests as one number
 pub unless-refused : (tests : List Test) (st : State) (o : Outcome) (k : ℕ) → firstOf tests ≡ k → (k ≡ 0 → ⊥) → unless tests st o ≡ outcome (refused k) st
@@ -89,9 +90,9 @@ pub unless-done : (tests : List Test) (st : State) (o : Outcome) → firstOf tes
 unless-done tests st o e = rw e
 
 -- and its length is 8 × N
-pub whole-length : (p : List ℕ) → lengthRight p ≡ true → length p ≡ nodes p * 8
+pub whole-length : (p : List ℕ) → lengthRight p ≡ true → length p ≡ nodes p * nodeWords
 unfolding lengthRight
 whole-length p h =
-    let a = eqb (length p % 8) 0 && leb 8 (nodes p) in
-    let whole = eqb-true (length p % 8) 0 (and-left (eqb (length p % 8) 0) (leb 8 (nodes p)) (and-left a (leb (nodes p) 1023) h)) in
+    let a = eqb (length p % nodeWords) 0 && leb leastNodes (nodes p) in
+    let whole = eqb-true (length p % nodeWords) 0 (and-left (eqb (length p % nodeWords) 0) (leb leastNodes (nodes p)) (and-left a (leb (nodes p) mostNodes) h)) in
     omega arith

@@ -47,11 +47,11 @@ six = replicate 6 vacant
 push-one : (a : List Store) (x : Store) → length a < mostStores → pushed (writeOf a) x ≡ writeOf (a ++ x ∷ [])
 unfolding writeOf six
 push-one a x h =
-    let e : set (take 7 (a ++ vacant ∷ six)) (length a) x ≡ take 7 ((a ++ x ∷ []) ++ replicate 7 vacant) =
-    sym (take-set-lt 7 (a ++ vacant ∷ six) (length a) x h)
-    ∙ (ap (take 7) (set-append-seam a vacant six x)
-    ∙ (sym (take-append-le 7 (a ++ x ∷ six) (vacant ∷ []) (rw length-append (omega arith)))
-    ∙ ap (take 7) (append-assoc a (x ∷ six) (vacant ∷ []) ∙ sym (append-assoc a (x ∷ []) (replicate 7 vacant))))) in
+    let e : set (take mostStores (a ++ vacant ∷ six)) (length a) x ≡ take mostStores ((a ++ x ∷ []) ++ replicate mostStores vacant) =
+    sym (take-set-lt mostStores (a ++ vacant ∷ six) (length a) x h)
+    ∙ (ap (take mostStores) (set-append-seam a vacant six x)
+    ∙ (sym (take-append-le mostStores (a ++ x ∷ six) (vacant ∷ []) (rw length-append (omega arith)))
+    ∙ ap (take mostStores) (append-assoc a (x ∷ six) (vacant ∷ []) ∙ sym (append-assoc a (x ∷ []) (replicate mostStores vacant))))) in
     let n : length a + 1 ≡ length (a ++ x ∷ []) = sym (length-append a (x ∷ [])) in
     λ i. record { stores = e i; count = n i }
 

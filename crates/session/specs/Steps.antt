@@ -6,11 +6,12 @@ use native.Mathlib.Omega.{arith}
 use Rattle.session.specs.declared.Session.{Session}
 use Rattle.session.specs.declared.Run.{Run}
 use Rattle.lines.specs.Text.{room}
+use Rattle.spec.specs.Numbers.{nodeWords, poolLimit}
 
 -- the words lent are among the 8,192, and the nodes still to be shown among the pool's
 pub record Sound (s : Session) : Type 0 where
-  pub lent : s .lent ≤ 8192
-  pub pending : s .pending * 8 ≤ s .lent
+  pub lent : s .lent ≤ poolLimit
+  pub pending : s .pending * nodeWords ≤ s .lent
 
 -- the work left on an input from a position on; it falls with each step
 abbrev pub workLeft : (pending len from : ℕ) → ℕ
@@ -47,7 +48,7 @@ fits a b = omega (arith, a, b)
 pub shown-less : (p len from : ℕ) → 0 < p → workLeft (p - 1) len from < workLeft p len from
 shown-less p len from h = omega (arith, h)
 
-pub shown-sound : (p lent : ℕ) → p * 8 ≤ lent → (p - 1) * 8 ≤ lent
+pub shown-sound : (p lent : ℕ) → p * nodeWords ≤ lent → (p - 1) * nodeWords ≤ lent
 shown-sound p lent h = omega (arith, h)
 
 pub bytes-left : {p len from l : ℕ} → p ≤ 0 → l ≤ workLeft p len from → 0 < l → from < len

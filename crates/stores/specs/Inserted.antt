@@ -65,7 +65,7 @@ module _ (st : State) (l : Link) (k v : ℕ) where
     unfolding stepMade insertStore
     fixup-made p q s r e f g =
         let pools : state s r ≡ endInsert (c .ending) (state q r) =
-            ap (λ (x : List ℕ). state x r) g ∙ ap (state (endInsert (c .ending) (state q r) .pool)) (sym (end-insert-register (c .ending) (state q r))) in
+        ap (λ (x : List ℕ). state x r) g ∙ ap (state (endInsert (c .ending) (state q r) .pool)) (sym (end-insert-register (c .ending) (state q r))) in
         ap (λ (x : State). made x l (st .register .first))
         (pools ∙ (ap (λ (x : List ℕ). endInsert (c .ending) (state x r)) f ∙ ap (λ (x : State). endInsert (c .ending) (state (paintInsertFixup (c .levels) path (x .pool)) (x .register))) e))
         ∙ rw fixupResult

@@ -49,8 +49,8 @@ published p p₁ p₂ h h₁ h₂ l m c b x y colour eb ex ey ec hung retired q 
     let rest : readingSlots (movedRest b n q) ≡ m = rest-reading b n q ∙ e in
     let slots : readingSlots (withHeld (withHead q h₁) (countDown (h₁ .held))) ≡ m = same-reading q (awaiting h₁ m) ∙ e in
     let f : State → State =
-        λ st. retire (state (st .pool)
-            (withWrite (withAwaited (withHeld (st .register) (countDown (st .register .held))) (readingSlots (withHeld (st .register) (countDown (st .register .held)))))
-                (movedWrite b n (st .register .write)))) b in
+    λ st. retire (state (st .pool)
+    (withWrite (withAwaited (withHeld (st .register) (countDown (st .register .held))) (readingSlots (withHeld (st .register) (countDown (st .register .held)))))
+    (movedWrite b n (st .register .write)))) b in
     let step : retire (at p₁ (awaiting h₁ m) (movedRest b n q)) b ≡ f (at p₁ h₁ q) = sym (rw slots) in
     rw (sym eb) (ap (λ (z : State). made z l n) (retired (movedRest b n q) rest ∙ (step ∙ ap f (hung q))) ∙ rw (ec q, ey, ex))

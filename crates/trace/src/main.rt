@@ -61,7 +61,7 @@ fn run_all(words: &mut [u32], input: &mut [u8], out: &mut [u8])
 }
 
 fn main() {
-    let mut words = [0u32; 8192];
+    let mut words = [0u32; numbers::POOL_WORDS];
     let mut input = io::large_buffer();
     let mut out = io::large_buffer();
     run_all(&mut words, &mut input, &mut out);

@@ -127,7 +127,7 @@ fn compare_all(words: &mut [u32], input: &mut [u8], want: &mut [u8], out: &mut [
 }
 
 fn main() {
-    let mut words = [0u32; 8192];
+    let mut words = [0u32; numbers::POOL_WORDS];
     let mut input = io::large_buffer();
     let mut want = io::large_buffer();
     let mut out = io::large_buffer();

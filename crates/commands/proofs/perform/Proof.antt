@@ -28,7 +28,7 @@ slice-aggregate-call : tie.Need-slice-aggregate-call
 slice-aggregate-call c =
     let c3 = c .before .before .before in
     let e : c .before .tried-words .result ≤ length (c3 .args .words .now) =
-        rw (c .before .tried-words .ensures, c3 .pre .1) (tried-fits (c3 .args .lent) (c3 .args .c) (c3 .pre .0)) in sym (length-take-le (c .before .tried-words .result) (c3 .args .words .now) e)
+    rw (c .before .tried-words .ensures, c3 .pre .1) (tried-fits (c3 .args .lent) (c3 .args .c) (c3 .pre .0)) in sym (length-take-le (c .before .tried-words .result) (c3 .args .words .now) e)
 
 call-requires : tie.Need-call-requires
 call-requires c κs = search needs

@@ -105,8 +105,17 @@ same-length c =
     let c23 = c19 .before .before .before .before in
     let c27 = c23 .before .before .before .before in
     let c30 = c27 .before .before .before in
-    omega (arith, c30 .loop .inv, c27 .set-word7 .kept .0, c23 .set-word8 .kept .0, c19 .set-word9 .kept .0, c15 .set-word10 .kept .0, c11 .set-word11 .kept .0, c7 .set-word12 .kept .0,
-        c3 .set-word13 .kept .0)
+    omega (
+      arith,
+      c30 .loop .inv,
+      c27 .set-word7 .kept .0,
+      c23 .set-word8 .kept .0,
+      c19 .set-word9 .kept .0,
+      c15 .set-word10 .kept .0,
+      c11 .set-word11 .kept .0,
+      c7 .set-word12 .kept .0,
+      c3 .set-word13 .kept .0,
+    )
 
 returns-2 : tie.Need-returns-2 Inv-loop μ-loop
 returns-2 c = search needs

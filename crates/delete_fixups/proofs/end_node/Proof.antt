@@ -36,8 +36,12 @@ returns-3 : tie.Need-returns-3
 returns-3 c =
     let c3 = c .before .before .before in
     let c6 = c3 .before .before .before in
-    rw (ne-eqb (c6 .args .levels) 0 (c3 .if1 .left), link-at-level (c6 .args .path .now) (c6 .args .depth) (c6 .args .levels) (c .before .before .if2 .left), c .node-at .ensures,
-        c .before .link-in .ensures)
+    rw (
+      ne-eqb (c6 .args .levels) 0 (c3 .if1 .left),
+      link-at-level (c6 .args .path .now) (c6 .args .depth) (c6 .args .levels) (c .before .before .if2 .left),
+      c .node-at .ensures,
+      c .before .link-in .ensures,
+    )
 
 pub end-node-spec : {M : Type 1} → statement M
 end-node-spec =

@@ -1,7 +1,7 @@
 use Prim.Native.Nat.{_≤_, _-_, _+_}
 use lib.ListN.{length}
 use mathlib.Core.Bool.{true, false}
-use Rattle.paths.specs.Upward.{linkIn, upward}
+use Rattle.paths.specs.Upward.{mostLinks, linkIn, upward}
 use Rattle.spec.specs.Plan.{deleteFixup, redChild}
 use Rattle.spec.specs.Pool.{isRed, child}
 use Rattle.datatypes.specs.Side.{other, owner, sideOf}
@@ -25,7 +25,7 @@ use Rattle.links.proofs.owner.Reads as owner-reads
 use Rattle.links.proofs.side_of.Reads as side-of-reads
 
 abbrev Inv-loop : tie.InvT-loop
-Inv-loop pool path c m x d₀ e₀ node₀ d e node = (d ≤ length path) × (e + d ≤ 66) × (deleteFixup pool e node (upward path d) ≡ deleteFixup pool e₀ node₀ (upward path d₀))
+Inv-loop pool path c m x d₀ e₀ node₀ d e node = (d ≤ length path) × (e + d ≤ mostLinks) × (deleteFixup pool e node (upward path d) ≡ deleteFixup pool e₀ node₀ (upward path d₀))
 
 abbrev μ-loop : tie.MeasureT-loop
 μ-loop pool path c m x d₀ e₀ node₀ d e node = d
@@ -62,7 +62,7 @@ returns-2 c =
     let p = a .pool .now in
     let q = a .path .now in
     let e : isRed p (l .node) ≡ false =
-        sym (c3 .is-red .ensures) ∙ c .before .before .if1 .left in c .fixup-result2 .ensures ∙ (sym (deleteFixup-none p (l .e) (l .node) q (l .d) e (c .before .if2 .taken)) ∙ l .inv .2)
+    sym (c3 .is-red .ensures) ∙ c .before .before .if1 .left in c .fixup-result2 .ensures ∙ (sym (deleteFixup-none p (l .e) (l .node) q (l .d) e (c .before .if2 .taken)) ∙ l .inv .2)
 
 fixup-result-requires-3 : tie.Need-fixup-result-requires-3 Inv-loop μ-loop
 fixup-result-requires-3 c κs = search needs
@@ -78,7 +78,7 @@ returns-3 c =
     let p = a .pool .now in
     let q = a .path .now in
     let e : isRed p (l .node) ≡ false =
-        sym (c4 .is-red .ensures) ∙ c3 .if1 .left in c .fixup-result3 .ensures ∙ (sym (deleteFixup-root p (l .e) (l .node) q (l .d) e (c .before .if3 .taken)) ∙ l .inv .2)
+    sym (c4 .is-red .ensures) ∙ c3 .if1 .left in c .fixup-result3 .ensures ∙ (sym (deleteFixup-root p (l .e) (l .node) q (l .d) e (c .before .if3 .taken)) ∙ l .inv .2)
 
 sub-link-in : tie.Need-sub-link-in Inv-loop μ-loop
 sub-link-in c = search needs
@@ -121,8 +121,8 @@ returns-4 c =
     let g = c8 .if2 .left in
     let h = c7 .if3 .left in
     let z : child p (other (sideOf (linkIn q (l .d - 1)))) (owner (linkIn q (l .d - 1))) ≡ 0 =
-        rw (← (c6 .link-in .ensures), ← (c5 .side-of .ensures), ← (c4 .other .ensures), ← (c3 .owner .ensures), ← (c .before .before .child .ensures)) (c .before .if4 .taken) in
-        c .fixup-result4 .ensures ∙ (sym (deleteFixup-missing p (l .e) (l .node) q (l .d) e (omega arith) z) ∙ l .inv .2)
+    rw (← (c6 .link-in .ensures), ← (c5 .side-of .ensures), ← (c4 .other .ensures), ← (c3 .owner .ensures), ← (c .before .before .child .ensures)) (c .before .if4 .taken) in
+    c .fixup-result4 .ensures ∙ (sym (deleteFixup-missing p (l .e) (l .node) q (l .d) e (omega arith) z) ∙ l .inv .2)
 
 sub-link-in-2 : tie.Need-sub-link-in-2 Inv-loop μ-loop
 sub-link-in-2 c = search needs
@@ -163,11 +163,19 @@ returns-5 c =
     let g = c12 .if2 .left in
     let h = c11 .if3 .left in
     let d : (child p (other (sideOf (linkIn q (l .d - 1)))) (owner (linkIn q (l .d - 1))) ≡ 0) → ⊥ =
-        rw (← (c10 .link-in .ensures), ← (c9 .side-of .ensures), ← (c8 .other .ensures), ← (c7 .owner .ensures), ← (c6 .child .ensures)) (c5 .if4 .left) in
+    rw (← (c10 .link-in .ensures), ← (c9 .side-of .ensures), ← (c8 .other .ensures), ← (c7 .owner .ensures), ← (c6 .child .ensures)) (c5 .if4 .left) in
     let r : isRed p (child p (other (sideOf (linkIn q (l .d - 1)))) (owner (linkIn q (l .d - 1)))) ≡ true =
-        rw (← (c10 .link-in .ensures), ← (c9 .side-of .ensures), ← (c8 .other .ensures), ← (c7 .owner .ensures), ← (c6 .child .ensures), ← (c3 .is-red2 .ensures)) (c .before .before .if5 .taken) in
-        rw (c .fixup-result5 .ensures, c .before .red-sibling .ensures, c6 .child .ensures, c8 .other .ensures, c9 .side-of .ensures, c7 .owner .ensures, c4 .link-in2 .ensures,
-            c10 .link-in .ensures) (sym (deleteFixup-sibling p (l .e) (l .node) q (l .d) e (omega arith) d r) ∙ l .inv .2)
+    rw (← (c10 .link-in .ensures), ← (c9 .side-of .ensures), ← (c8 .other .ensures), ← (c7 .owner .ensures), ← (c6 .child .ensures), ← (c3 .is-red2 .ensures)) (c .before .before .if5 .taken) in
+    rw (
+      c .fixup-result5 .ensures,
+      c .before .red-sibling .ensures,
+      c6 .child .ensures,
+      c8 .other .ensures,
+      c9 .side-of .ensures,
+      c7 .owner .ensures,
+      c4 .link-in2 .ensures,
+      c10 .link-in .ensures,
+    ) (sym (deleteFixup-sibling p (l .e) (l .node) q (l .d) e (omega arith) d r) ∙ l .inv .2)
 
 red-child-requires : tie.Need-red-child-requires Inv-loop μ-loop
 red-child-requires c κs = search needs
@@ -204,14 +212,22 @@ returns-6 c =
     let g = c14 .if2 .left in
     let h = c13 .if3 .left in
     let d : (child p (other (sideOf (linkIn q (l .d - 1)))) (owner (linkIn q (l .d - 1))) ≡ 0) → ⊥ =
-        rw (← (c12 .link-in .ensures), ← (c11 .side-of .ensures), ← (c10 .other .ensures), ← (c9 .owner .ensures), ← (c8 .child .ensures)) (c7 .if4 .left) in
+    rw (← (c12 .link-in .ensures), ← (c11 .side-of .ensures), ← (c10 .other .ensures), ← (c9 .owner .ensures), ← (c8 .child .ensures)) (c7 .if4 .left) in
     let r : isRed p (child p (other (sideOf (linkIn q (l .d - 1)))) (owner (linkIn q (l .d - 1)))) ≡ false =
-        rw (← (c12 .link-in .ensures), ← (c11 .side-of .ensures), ← (c10 .other .ensures), ← (c9 .owner .ensures), ← (c8 .child .ensures), ← (c5 .is-red2 .ensures)) (c4 .if5 .left) in
+    rw (← (c12 .link-in .ensures), ← (c11 .side-of .ensures), ← (c10 .other .ensures), ← (c9 .owner .ensures), ← (c8 .child .ensures), ← (c5 .is-red2 .ensures)) (c4 .if5 .left) in
     let t : redChild p (child p (other (sideOf (linkIn q (l .d - 1)))) (owner (linkIn q (l .d - 1)))) ≡ true =
-        rw (← (c12 .link-in .ensures), ← (c11 .side-of .ensures), ← (c10 .other .ensures), ← (c9 .owner .ensures), ← (c8 .child .ensures), ← (c3 .red-child .ensures))
-            (c .before .before .if6 .taken) in
-            rw (c .fixup-result6 .ensures, c .before .black-sibling .ensures, c8 .child .ensures, c10 .other .ensures, c11 .side-of .ensures, c9 .owner .ensures, c6 .link-in2 .ensures,
-                c12 .link-in .ensures) (sym (deleteFixup-blackSibling p (l .e) (l .node) q (l .d) e (omega arith) d r t) ∙ l .inv .2)
+    rw (← (c12 .link-in .ensures), ← (c11 .side-of .ensures), ← (c10 .other .ensures), ← (c9 .owner .ensures), ← (c8 .child .ensures), ← (c3 .red-child .ensures))
+    (c .before .before .if6 .taken) in
+    rw (
+      c .fixup-result6 .ensures,
+      c .before .black-sibling .ensures,
+      c8 .child .ensures,
+      c10 .other .ensures,
+      c11 .side-of .ensures,
+      c9 .owner .ensures,
+      c6 .link-in2 .ensures,
+      c12 .link-in .ensures,
+    ) (sym (deleteFixup-blackSibling p (l .e) (l .node) q (l .d) e (omega arith) d r t) ∙ l .inv .2)
 
 sub-d : tie.Need-sub-d Inv-loop μ-loop
 sub-d c = search needs
@@ -224,6 +240,12 @@ loop-less c = search needs
 
 loop-again : tie.Need-loop-again Inv-loop μ-loop
 loop-again c =
+    let l = c .before .before .before .before .before .before .before .before .before .before .before .before .before .before .before .loop in
+    let q = c .before .before .before .before .before .before .before .before .before .before .before .before .before .before .before .before .before .before .args .path .now in
+    let g = c .before .before .before .before .before .before .before .before .before .before .before .before .if2 .left in
+    let h = c .before .before .before .before .before .before .before .before .before .before .before .if3 .left in
+    let u : l .d - 1 ≤ length q = omega arith in
+    let v : l .e + 1 + (l .d - 1) ≤ mostLinks = omega arith in
     let c3 = c .before .before .before in
     let c5 = c3 .before .before in
     let c6 = c5 .before in
@@ -237,20 +259,16 @@ loop-again c =
     let c14 = c13 .before in
     let c15 = c14 .before in
     let c18 = c15 .before .before .before in
-    let l = c15 .loop in
     let a = c18 .args in
     let p = a .pool .now in
-    let q = a .path .now in
     let e : isRed p (l .node) ≡ false = sym (c14 .is-red .ensures) ∙ c13 .if1 .left in
-    let g = c12 .if2 .left in
-    let h = c11 .if3 .left in
     let d : (child p (other (sideOf (linkIn q (l .d - 1)))) (owner (linkIn q (l .d - 1))) ≡ 0) → ⊥ =
-        rw (← (c10 .link-in .ensures), ← (c9 .side-of .ensures), ← (c8 .other .ensures), ← (c7 .owner .ensures), ← (c6 .child .ensures)) (c5 .if4 .left) in
+    rw (← (c10 .link-in .ensures), ← (c9 .side-of .ensures), ← (c8 .other .ensures), ← (c7 .owner .ensures), ← (c6 .child .ensures)) (c5 .if4 .left) in
     let r : isRed p (child p (other (sideOf (linkIn q (l .d - 1)))) (owner (linkIn q (l .d - 1)))) ≡ false =
-        rw (← (c10 .link-in .ensures), ← (c9 .side-of .ensures), ← (c8 .other .ensures), ← (c7 .owner .ensures), ← (c6 .child .ensures), ← (c3 .is-red2 .ensures)) (c .before .before .if5 .left) in
+    rw (← (c10 .link-in .ensures), ← (c9 .side-of .ensures), ← (c8 .other .ensures), ← (c7 .owner .ensures), ← (c6 .child .ensures), ← (c3 .is-red2 .ensures)) (c .before .before .if5 .left) in
     let t : redChild p (child p (other (sideOf (linkIn q (l .d - 1)))) (owner (linkIn q (l .d - 1)))) ≡ false =
-        rw (← (c10 .link-in .ensures), ← (c9 .side-of .ensures), ← (c8 .other .ensures), ← (c7 .owner .ensures), ← (c6 .child .ensures), ← (c .before .red-child .ensures)) (c .if6 .left) in
-        (omega arith, omega arith, rw (c7 .owner .ensures, c10 .link-in .ensures) (sym (deleteFixup-on p (l .e) (l .node) q (l .d) e (omega arith) d r t) ∙ l .inv .2))
+    rw (← (c10 .link-in .ensures), ← (c9 .side-of .ensures), ← (c8 .other .ensures), ← (c7 .owner .ensures), ← (c6 .child .ensures), ← (c .before .red-child .ensures)) (c .if6 .left) in
+    (u, v, rw (c7 .owner .ensures, c10 .link-in .ensures) (sym (deleteFixup-on p (l .e) (l .node) q (l .d) e (omega arith) d r t) ∙ l .inv .2))
 
 pub delete-fixup-spec : {M : Type 1} → statement M
 delete-fixup-spec =

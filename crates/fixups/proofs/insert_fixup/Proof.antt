@@ -1,7 +1,7 @@
 use Prim.Native.Nat.{_≤_, _+_, _-_}
 use lib.ListN.{length}
 use mathlib.Core.Bool.{true, false}
-use Rattle.paths.specs.Upward.{linkIn, upward}
+use Rattle.paths.specs.Upward.{mostLinks, linkIn, upward}
 use Rattle.spec.specs.Plan.{insertFixup}
 use Rattle.spec.specs.Pool.{isRed, child}
 use Rattle.datatypes.specs.Side.{other, owner, sideOf}
@@ -24,7 +24,7 @@ use Rattle.links.proofs.owner.Reads as owner-reads
 use Rattle.links.proofs.side_of.Reads as side-of-reads
 
 abbrev Inv-loop : tie.InvT-loop
-Inv-loop pool path c m d₀ e₀ d e = (d ≤ length path) × (e + d ≤ 66) × (insertFixup pool e (upward path d) ≡ insertFixup pool e₀ (upward path d₀))
+Inv-loop pool path c m d₀ e₀ d e = (d ≤ length path) × (e + d ≤ mostLinks) × (insertFixup pool e (upward path d) ≡ insertFixup pool e₀ (upward path d₀))
 
 abbrev μ-loop : tie.MeasureT-loop
 μ-loop pool path c m d₀ e₀ d e = d
@@ -56,7 +56,7 @@ returns c =
     let l = c6 .loop in
     let a = c9 .args in
     let g : isRed (a .pool .now) (owner (linkIn (a .path .now) (l .d - 1))) ≡ false =
-        rw (← (c4 .link-in .ensures), ← (c3 .owner .ensures), ← (c .before .before .is-red .ensures)) (not-true _ (c .before .if1 .taken)) in
+    rw (← (c4 .link-in .ensures), ← (c3 .owner .ensures), ← (c .before .before .is-red .ensures)) (not-true _ (c .before .if1 .taken)) in
     c .fixup-result .ensures ∙ (sym (insertFixup-balanced (a .pool .now) (l .e) (a .path .now) (l .d) (omega arith) g) ∙ l .inv .2)
 
 fixup-result-requires-2 : tie.Need-fixup-result-requires-2 Inv-loop μ-loop
@@ -72,7 +72,7 @@ returns-2 c =
     let l = c7 .loop in
     let a = c10 .args in
     let g : isRed (a .pool .now) (owner (linkIn (a .path .now) (l .d - 1))) ≡ true =
-        rw (← (c5 .link-in .ensures), ← (c4 .owner .ensures), ← (c3 .is-red .ensures)) (not-false _ (c .before .before .if1 .left)) in
+    rw (← (c5 .link-in .ensures), ← (c4 .owner .ensures), ← (c3 .is-red .ensures)) (not-false _ (c .before .before .if1 .left)) in
     c .fixup-result2 .ensures ∙ (sym (insertFixup-top (a .pool .now) (l .e) (a .path .now) (l .d) (c .before .if2 .taken) g) ∙ l .inv .2)
 
 sub-link-in-2 : tie.Need-sub-link-in-2 Inv-loop μ-loop
@@ -133,7 +133,7 @@ returns-3 c =
     let h = c11 .if2 .left in
     let g : isRed (a .pool .now) (owner (linkIn (a .path .now) (l .d - 1))) ≡ true = rw (← (c15 .link-in .ensures), ← (c14 .owner .ensures), ← (c13 .is-red .ensures)) (not-false _ (c12 .if1 .left)) in
     let i : isRed (a .pool .now) (child (a .pool .now) (other (sideOf (linkIn (a .path .now) (l .d - 2)))) (owner (linkIn (a .path .now) (l .d - 2)))) ≡ false =
-        rw (← (c10 .link-in2 .ensures), ← (c9 .side-of .ensures), ← (c8 .other .ensures), ← (c7 .owner2 .ensures), ← (c6 .child .ensures), ← (c5 .is-red2 .ensures)) (not-true _ (c4 .if3 .taken)) in
+    rw (← (c10 .link-in2 .ensures), ← (c9 .side-of .ensures), ← (c8 .other .ensures), ← (c7 .owner2 .ensures), ← (c6 .child .ensures), ← (c5 .is-red2 .ensures)) (not-true _ (c4 .if3 .taken)) in
     rw (c .fixup-result3 .ensures, c .before .form-of .ensures, c .before .before .side-of2 .ensures, c9 .side-of .ensures, c3 .link-in3 .ensures, c10 .link-in2 .ensures, c15 .link-in .ensures)
     (sym (insertFixup-turn (a .pool .now) (l .e) (a .path .now) (l .d) (omega arith) g i) ∙ l .inv .2)
 
@@ -164,8 +164,8 @@ loop-again c =
     let h = c7 .if2 .left in
     let g : isRed (a .pool .now) (owner (linkIn (a .path .now) (l .d - 1))) ≡ true = rw (← (c11 .link-in .ensures), ← (c10 .owner .ensures), ← (c9 .is-red .ensures)) (not-false _ (c8 .if1 .left)) in
     let i : isRed (a .pool .now) (child (a .pool .now) (other (sideOf (linkIn (a .path .now) (l .d - 2)))) (owner (linkIn (a .path .now) (l .d - 2)))) ≡ true =
-        rw (← (c6 .link-in2 .ensures), ← (c5 .side-of .ensures), ← (c4 .other .ensures), ← (c3 .owner2 .ensures), ← (c .before .before .child .ensures), ← (c .before .is-red2 .ensures))
-            (not-false _ (c .if3 .left)) in
+    rw (← (c6 .link-in2 .ensures), ← (c5 .side-of .ensures), ← (c4 .other .ensures), ← (c3 .owner2 .ensures), ← (c .before .before .child .ensures), ← (c .before .is-red2 .ensures))
+    (not-false _ (c .if3 .left)) in
     (omega arith, omega arith, sym (insertFixup-on (a .pool .now) (l .e) (a .path .now) (l .d) (omega arith) g i) ∙ l .inv .2)
 
 fixup-result-requires-4 : tie.Need-fixup-result-requires-4 Inv-loop μ-loop

@@ -77,11 +77,11 @@ loop-again c =
     let a = c15 .args in
     let g = c11 .loop-test .taken in
     let h = c10 .if1 .left in (
-  omega arith,
-  search needs,
-  rw (c .before .before .set-word .ensures, c4 .child .ensures, c6 .other .ensures, c7 .side-of .ensures, c5 .owner .ensures, c9 .link-in .ensures)
-      (sym (paint-deleteFixup-level (l .e) (l .e - 1) (l .pool) (a .path .now) (l .d) (omega arith) (omega arith)) ∙ l .inv .2),
-)
+      omega arith,
+      search needs,
+      rw (c .before .before .set-word .ensures, c4 .child .ensures, c6 .other .ensures, c7 .side-of .ensures, c5 .owner .ensures, c9 .link-in .ensures)
+          (sym (paint-deleteFixup-level (l .e) (l .e - 1) (l .pool) (a .path .now) (l .d) (omega arith) (omega arith)) ∙ l .inv .2),
+    )
 
 same-length-2 : tie.Need-same-length-2 Inv-loop μ-loop
 same-length-2 c = search needs

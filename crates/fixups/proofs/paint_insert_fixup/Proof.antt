@@ -86,11 +86,20 @@ loop-again c =
     let a = c18 .args in
     let g = c14 .loop-test .taken in
     let h = c13 .if1 .left in (
-  omega arith,
-  search needs,
-  rw (c .before .before .paint-level .ensures, c6 .child .ensures, c8 .other .ensures, c9 .side-of .ensures, c3 .owner3 .ensures, c4 .owner2 .ensures, c7 .owner .ensures, c11 .link-in2 .ensures,
-      c12 .link-in .ensures) (sym (paint-insertFixup-level (l .e) (l .e - 1) (l .pool) (a .path .now) (l .d) (omega arith) h) ∙ l .inv .2),
-)
+      omega arith,
+      search needs,
+      rw (
+        c .before .before .paint-level .ensures,
+        c6 .child .ensures,
+        c8 .other .ensures,
+        c9 .side-of .ensures,
+        c3 .owner3 .ensures,
+        c4 .owner2 .ensures,
+        c7 .owner .ensures,
+        c11 .link-in2 .ensures,
+        c12 .link-in .ensures,
+      ) (sym (paint-insertFixup-level (l .e) (l .e - 1) (l .pool) (a .path .now) (l .d) (omega arith) h) ∙ l .inv .2),
+    )
 
 same-length-2 : tie.Need-same-length-2 Inv-loop μ-loop
 same-length-2 c = search needs

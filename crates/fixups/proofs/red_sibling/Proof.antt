@@ -50,7 +50,7 @@ returns-2 c =
     let a = c8 .args in
     let e : (child (a .pool .now) (other (a .z)) (a .w) ≡ 0) → ⊥ = rw (← (c6 .other .ensures), ← (c5 .child .ensures)) (c4 .if1 .left) in
     let f : redChild (a .pool .now) (child (a .pool .now) (other (a .z)) (a .w)) ≡ true =
-        rw (← (c6 .other .ensures), ← (c5 .child .ensures), ← (c3 .red-child .ensures)) (c .before .before .if2 .taken) in
+    rw (← (c6 .other .ensures), ← (c5 .child .ensures), ← (c3 .red-child .ensures)) (c .before .before .if2 .taken) in
     rw (ne-eqb _ _ e, f, c .black-sibling .ensures, c .before .link-at .ensures, c5 .child .ensures, c6 .other .ensures)
 
 returns-3 : tie.Need-returns-3

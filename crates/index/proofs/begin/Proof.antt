@@ -46,9 +46,9 @@ returns c =
     let st = state (a .pool .now) (a .t2) in
     let i = c3 .slot-index in
     let w : c .before .before .slot-refusal .result ≡ firstOf (beginTests st (a .s)) =
-        c .before .before .slot-refusal .ensures ∙ rw (c4 .lent-refusal .ensures) (slot-tests st (a .s) (i .result) (λ (b : Bool). b) 4 (i .ensures .0)) in
+    c .before .before .slot-refusal .ensures ∙ rw (c4 .lent-refusal .ensures) (slot-tests st (a .s) (i .result) (λ (b : Bool). b) 4 (i .ensures .0)) in
     let e = unless-refused (beginTests st (a .s)) st (outcome ok (state (st .pool) (withReader (st .register) (a .s) (begunReader (a .k))))) (c .before .before .slot-refusal .result) (sym w)
-        (c .before .if1 .taken) in
+    (c .before .if1 .taken) in
     (c .refused .ensures .0 ∙ sym (ap (λ (o : Outcome). o .answer) e), rw (c .refused .ensures .1) (sym (ap (λ (o : Outcome). o .after) e)))
 
 begun-reader-requires : tie.Need-begun-reader-requires
@@ -74,7 +74,7 @@ returns-2 c =
     let st = state (a .pool .now) (a .t2) in
     let i = c4 .slot-index in
     let w : c3 .slot-refusal .result ≡ firstOf (beginTests st (a .s)) =
-        c3 .slot-refusal .ensures ∙ rw (c5 .lent-refusal .ensures) (slot-tests st (a .s) (i .result) (λ (b : Bool). b) 4 (i .ensures .0)) in
+    c3 .slot-refusal .ensures ∙ rw (c5 .lent-refusal .ensures) (slot-tests st (a .s) (i .result) (λ (b : Bool). b) 4 (i .ensures .0)) in
     let z = sym w ∙ c .before .before .if1 .left in
     let e = unless-done (beginTests st (a .s)) st (outcome ok (state (st .pool) (withReader (st .register) (a .s) (begunReader (a .k))))) z in (
       c .accepted .ensures .0 ∙ sym (ap (λ (o : Outcome). o .answer) e),

@@ -52,7 +52,7 @@ returns c =
     let st = state (a .pool .now) (a .t2) in
     let i = c3 .slot-index in
     let w : c .before .before .slot-refusal .result ≡ firstOf (readerTests st (a .s)) =
-        c .before .before .slot-refusal .ensures ∙ rw (c4 .lent-refusal .ensures) (slot-tests st (a .s) (i .result) (not) 5 (i .ensures .0)) in
+    c .before .before .slot-refusal .ensures ∙ rw (c4 .lent-refusal .ensures) (slot-tests st (a .s) (i .result) (not) 5 (i .ensures .0)) in
     let e = unless-refused (readerTests st (a .s)) st (outcome ok (endReading st (a .s))) (c .before .before .slot-refusal .result) (sym w) (c .before .if1 .taken) in
     (c .refused .ensures .0 ∙ sym (ap (λ (o : Outcome). o .answer) e), rw (c .refused .ensures .1) (sym (ap (λ (o : Outcome). o .after) e)))
 
@@ -65,7 +65,7 @@ end-reading-requires c κs =
     let st = state (a .pool .now) (a .t2) in
     let i = c3 .slot-index in
     let w : c .before .before .slot-refusal .result ≡ firstOf (readerTests st (a .s)) =
-        c .before .before .slot-refusal .ensures ∙ rw (c4 .lent-refusal .ensures) (slot-tests st (a .s) (i .result) (not) 5 (i .ensures .0)) in
+    c .before .before .slot-refusal .ensures ∙ rw (c4 .lent-refusal .ensures) (slot-tests st (a .s) (i .result) (not) 5 (i .ensures .0)) in
     let z = sym w ∙ c .before .if1 .left in
     (lent-of st (slotTooHigh (a .s) gives 3 ∷ not (reading st (a .s)) gives 5 ∷ []) z .size, slot-of st (a .s) (not (reading st (a .s))) 5 (omega arith) z)
 

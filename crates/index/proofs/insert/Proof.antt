@@ -83,7 +83,7 @@ returns-3 c =
     let st = state (a .pool .now) (a .reg) in
     let w : writeInHand st ≡ false = rw (eq-eqb _ _ (c4 .if2 .left)) in
     let e = insert-held st (a .k) (a .v) (sym (c8 .lent-refusal .ensures) ∙ c7 .if1 .left) w (c .before .enum-told .given .0 .0) (c .before .enum-told .given .0 .1 .0)
-        (sym (c3 .seek .ensures) ∙ c .before .enum-told .given .1) in
+    (sym (c3 .seek .ensures) ∙ c .before .enum-told .given .1) in
     (c .refused3 .ensures .0 ∙ sym (ap (λ (o : Outcome). o .answer) e), rw (c .refused3 .ensures .1) (sym (ap (λ (o : Outcome). o .after) e)))
 
 returns-4 : tie.Need-returns-4

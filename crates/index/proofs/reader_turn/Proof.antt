@@ -53,7 +53,7 @@ returns c =
     let st = state (a .pool .now) (a .t2) in
     let i = c5 .slot-index in
     let w : c .before .before .slot-refusal .result ≡ firstOf (readerTests st (a .s)) =
-        c .before .before .slot-refusal .ensures ∙ rw (c6 .lent-refusal .ensures) (slot-tests st (a .s) (i .result) (not) 5 (i .ensures .0)) in
+    c .before .before .slot-refusal .ensures ∙ rw (c6 .lent-refusal .ensures) (slot-tests st (a .s) (i .result) (not) 5 (i .ensures .0)) in
     let e = unless-refused (readerTests st (a .s)) st (readerStep st (a .s)) (c .before .before .slot-refusal .result) (sym w) (c .before .if1 .taken) in
     (c .refuses-reader .ensures .0 ∙ sym (ap (λ (o : Outcome). o .answer) e), rw (c .refuses-reader .ensures .1) (sym (ap (λ (o : Outcome). o .after) e)))
 
@@ -110,7 +110,7 @@ returns-2 c =
     let l = c4 .leave in
     let k = c6 .look in
     let f = turn-looked (a .pool .now) (l .last .0) (a .t2) (l .result) s (i .result) (k .result .node) (c .before .reader-at .result) (readerSays (k .result .answer)) j
-        (k .ensures .0, k .ensures .1, c .before .reader-at .ensures) (l .ensures) in
+    (k .ensures .0, k .ensures .1, c .before .reader-at .ensures) (l .ensures) in
     (c .answers-reader .ensures .0 ∙ f .0 ∙ sym (ap (λ (o : Outcome). o .answer) e), rw (c .answers-reader .ensures .1) (f .1 ∙ sym (ap (λ (o : Outcome). o .after) e)))
 
 pub reader-turn-spec : {M : Type 1} → statement M

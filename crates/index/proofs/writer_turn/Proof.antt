@@ -29,9 +29,10 @@ returns c =
     let c5 = c .before .before .before .before .before in
     let a = c5 .args in
     let st = state (a .pool .now) (a .reg) in
-    let e = writer-lent st (λ z. c .before .if1 .taken (c .before .before .lent-refusal .ensures ∙ z)) in
-    (c .refuses-writer .ensures .0 ∙ rw (c .before .before .lent-refusal .ensures) (sym (ap (λ (o : Outcome). o .answer) e)),
-        rw (c .refuses-writer .ensures .1) (sym (ap (λ (o : Outcome). o .after) e)))
+    let e = writer-lent st (λ z. c .before .if1 .taken (c .before .before .lent-refusal .ensures ∙ z)) in (
+      c .refuses-writer .ensures .0 ∙ rw (c .before .before .lent-refusal .ensures) (sym (ap (λ (o : Outcome). o .answer) e)),
+      rw (c .refuses-writer .ensures .1) (sym (ap (λ (o : Outcome). o .after) e)),
+    )
 
 refuses-writer-requires-2 : tie.Need-refuses-writer-requires-2
 refuses-writer-requires-2 c κs = search needs

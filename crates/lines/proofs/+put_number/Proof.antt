@@ -73,9 +73,14 @@ put-number-put-two-requires : (t : ℕ) → put-number-lts.Need-put-two-requires
   put-two-reads.Asked,
   put-two-reads.Learnt,
 ) (put-number-at t) put-number.Post
-put-number-put-two-requires t c κs = (search needs,
-    omega (arith, c .before .before .before .put-number .ensures .ends,
-        length-four (c .before .before .before .before .before .before .before .args .n) (c .before .before .before .before .before .if1 .left)))
+put-number-put-two-requires t c κs = (
+  search needs,
+  omega (
+    arith,
+    c .before .before .before .put-number .ensures .ends,
+    length-four (c .before .before .before .before .before .before .before .args .n) (c .before .before .before .before .before .if1 .left),
+  ),
+)
 
 put-number-put-two-requires-2 : (t : ℕ) → put-number-lts.Need-put-two-requires-2 (
   put-small-reads.Asked,
@@ -85,10 +90,16 @@ put-number-put-two-requires-2 : (t : ℕ) → put-number-lts.Need-put-two-requir
   put-two-reads.Asked,
   put-two-reads.Learnt,
 ) (put-number-at t) put-number.Post
-put-number-put-two-requires-2 t c κs = (search needs,
-    omega (arith, c .before .before .before .before .before .before .before .put-number .ensures .ends, c .before .before .before .put-two .ensures .ends,
-        length-four (c .before .before .before .before .before .before .before .before .before .before .before .args .n)
-            (c .before .before .before .before .before .before .before .before .before .if1 .left)))
+put-number-put-two-requires-2 t c κs = (
+  search needs,
+  omega (
+    arith,
+    c .before .before .before .before .before .before .before .put-number .ensures .ends,
+    c .before .before .before .put-two .ensures .ends,
+    length-four (c .before .before .before .before .before .before .before .before .before .before .before .args .n)
+        (c .before .before .before .before .before .before .before .before .before .if1 .left),
+  ),
+)
 
 put-number-same-length-2 : (t : ℕ) → put-number-lts.Need-same-length-2 (
   put-small-reads.Asked,
@@ -110,9 +121,9 @@ put-number-returns-2 : (t : ℕ) → put-number-lts.Need-returns-2 (
 ) (put-number-at t) put-number.Post
 put-number-returns-2 t c = put-as
     (sym (decimal-four (c .before .before .before .before .before .before .before .before .before .before .before .before .before .before .args .n)
-        (c .before .before .before .before .before .before .before .before .before .before .before .before .if1 .left)))
-            (put-both (put-both (c .before .before .before .before .before .before .before .before .before .before .put-number .ensures)
-                (c .before .before .before .before .before .before .put-two .ensures)) (c .before .before .put-two2 .ensures))
+    (c .before .before .before .before .before .before .before .before .before .before .before .before .if1 .left)))
+    (put-both (put-both (c .before .before .before .before .before .before .before .before .before .before .put-number .ensures)
+    (c .before .before .before .before .before .before .put-two .ensures)) (c .before .before .put-two2 .ensures))
 
 pub +put-number-spec : {M : Type 1} → statement M
 +put-number-spec = close μ-put-number λ t. put-number-lts.spec (

@@ -40,10 +40,12 @@ loop-again : tie.Need-loop-again Inv-loop μ-loop
 loop-again c =
     let c4 = c .before .before .before .before in
     let c5 = c4 .before in
-    let c7 = c5 .before .before in
-    (search needs, rw (c .field-taken .ensures)
-        (onward-byte (c7 .args .input .now) (c7 .args .f) (c7 .args .from) (c5 .loop .field) (c5 .loop .i) (c4 .loop-test .taken) (c .before .if2 .left) (c .before .before .if1 .left)
-            (c5 .loop .inv .1)))
+    let c7 = c5 .before .before in (
+      search needs,
+      rw (c .field-taken .ensures)
+          (onward-byte (c7 .args .input .now) (c7 .args .f) (c7 .args .from) (c5 .loop .field) (c5 .loop .i) (c4 .loop-test .taken) (c .before .if2 .left) (c .before .before .if1 .left)
+          (c5 .loop .inv .1)),
+    )
 
 returns-3 : tie.Need-returns-3 Inv-loop μ-loop
 returns-3 c = (c .before .loop .inv .1, record { within = c .before .loop .inv .0; tabbed = λ a b. absurd (let z : ⊥ = omega (arith, a, c .loop-test .left) in z) })

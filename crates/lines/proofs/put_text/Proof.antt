@@ -49,7 +49,7 @@ same-length c = search needs
 returns : tie.Need-returns Inv-loop μ-loop
 returns c =
     put-all (c .before .before .args .out .now) (c .before .before .args .at) (c .before .before .args .s .now) (c .before .loop .out) (c .before .loop .i) (c .loop-test .left)
-        (c .before .loop .inv .2)
+    (c .before .loop .inv .2)
 
 pub put-text-spec : {M : Type 1} → statement M
 put-text-spec =

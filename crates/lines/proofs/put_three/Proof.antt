@@ -35,19 +35,18 @@ returns : tie.Need-returns
 returns c =
     let c6 = c .before .before .before .before .before .before in
     let c10 = c6 .before .before .before .before in
-    let c13 = c10 .before .before .before in
-    (
-  put-field (decimal (c13 .args .a)) (c10 .number-field .ensures) (put-field (decimal (c13 .args .b)) (c6 .number-field2 .ensures) (c .before .before .number-field3 .ensures)),
-  omega (
-    arith,
-    short-length (c13 .args .a) (search needs),
-    simp length-append at (c10 .number-field .ensures .ends),
-    short-length (c13 .args .b) (search needs),
-    simp length-append at (c6 .number-field2 .ensures .ends),
-    short-length (c13 .args .c) (search needs),
-    simp length-append at (c .before .before .number-field3 .ensures .ends),
-  ),
-)
+    let c13 = c10 .before .before .before in (
+      put-field (decimal (c13 .args .a)) (c10 .number-field .ensures) (put-field (decimal (c13 .args .b)) (c6 .number-field2 .ensures) (c .before .before .number-field3 .ensures)),
+      omega (
+        arith,
+        short-length (c13 .args .a) (search needs),
+        simp length-append at (c10 .number-field .ensures .ends),
+        short-length (c13 .args .b) (search needs),
+        simp length-append at (c6 .number-field2 .ensures .ends),
+        short-length (c13 .args .c) (search needs),
+        simp length-append at (c .before .before .number-field3 .ensures .ends),
+      ),
+    )
 
 pub put-three-spec : {M : Type 1} → statement M
 put-three-spec =

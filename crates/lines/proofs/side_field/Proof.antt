@@ -24,11 +24,10 @@ same-length c = search needs
 returns : tie.Need-returns
 returns c =
     let c6 = c .before .before .before .before .before .before in
-    let c10 = c6 .before .before .before .before in
-    (
-  put-as (sym (append-assoc (decimal (c10 .args .n)) (c10 .args .side .now) _)) (put-both (c6 .put-number .ensures) (c .before .before .text-field .ensures)),
-  omega (arith, c6 .put-number .ensures .ends, simp length-append at (c .before .before .text-field .ensures .ends), short-length (c10 .args .n) (search needs)),
-)
+    let c10 = c6 .before .before .before .before in (
+      put-as (sym (append-assoc (decimal (c10 .args .n)) (c10 .args .side .now) _)) (put-both (c6 .put-number .ensures) (c .before .before .text-field .ensures)),
+      omega (arith, c6 .put-number .ensures .ends, simp length-append at (c .before .before .text-field .ensures .ends), short-length (c10 .args .n) (search needs)),
+    )
 
 pub side-field-spec : {M : Type 1} → statement M
 side-field-spec = tie.close (tie.spec put-number-requires text-field-requires same-length returns)

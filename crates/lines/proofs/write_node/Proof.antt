@@ -55,7 +55,7 @@ returns-2 c =
     let c14 = c13 .before in
     let c17 = c14 .before .before .before in
     rw (← (c14 .word .ensures), eq-eqb _ _ (c13 .if1 .left), ← (c12 .word2 .ensures), ← (c11 .word3 .ensures), ← (c10 .word4 .ensures), ← (c9 .word5 .ensures), ← (c8 .word6 .ensures))
-        (put-six (decimal (c17 .args .n)) (decimal (c12 .word2 .result)) (decimal (c11 .word3 .result)) (c6 .put-three .ensures .0) (c .before .before .put-three2 .ensures .0))
+    (put-six (decimal (c17 .args .n)) (decimal (c12 .word2 .result)) (decimal (c11 .word3 .result)) (c6 .put-three .ensures .0) (c .before .before .put-three2 .ensures .0))
 
 pub write-node-spec : {M : Type 1} → statement M
 write-node-spec =

@@ -1,6 +1,7 @@
 use Prim.Native.Nat.{_≤_, _<_, _-_, _+_}
 use lib.ListN.{length, length-set}
-use Rattle.paths.specs.Upward.{upward, upward-push, upward-none, leftmost-deep, leftmost-here, leftmost-step}
+use Rattle.paths.specs.Upward.{mostLinks, upward, upward-push, upward-none, leftmost-deep, leftmost-here, leftmost-step}
+use Rattle.spec.specs.Numbers.{pathBound}
 use Rattle.spec.specs.Search.{leftmost}
 use Rattle.datatypes.specs.declared.Link.the-variants.{Left}
 use borrow.Author.Needs.{needs}
@@ -14,10 +15,10 @@ use Rattle.paths.proofs.code_of.Reads as code-of-reads
 use Rattle.pool.proofs.child.Reads as child-reads
 
 abbrev Inv-loop : tie.InvT-loop
-Inv-loop pool n path₀ c node₀ d₀ path node d = (d ≤ 66) × (node < 4294967296) × (length path ≡ 66) × (leftmost pool (65 - d) node (upward path d) ≡ leftmost pool (65 - d₀) node₀ (upward path₀ d₀))
+Inv-loop pool n path₀ c node₀ d₀ path node d = (d ≤ mostLinks) × (node < 4294967296) × (length path ≡ mostLinks) × (leftmost pool (pathBound + 1 - d) node (upward path d) ≡ leftmost pool (pathBound + 1 - d₀) node₀ (upward path₀ d₀))
 
 abbrev μ-loop : tie.MeasureT-loop
-μ-loop pool n path₀ c node₀ d₀ path node d = 66 - d
+μ-loop pool n path₀ c node₀ d₀ path node d = mostLinks - d
 
 loop-holds : tie.Need-loop-holds Inv-loop μ-loop
 loop-holds c = (search needs, search needs, c .before .before .pre .1, refl)
@@ -34,7 +35,7 @@ returns c =
     let c6 = c3 .before .before .before in
     let l = c3 .loop in
     let h = c .before .before .loop-test .taken in
-    (sym (leftmost-here (c6 .args .pool .now) (l .node) (upward (l .path) (l .d)) (65 - l .d) (omega arith) (sym (c .before .child .ensures) ∙ c .if1 .taken)) ∙ l .inv .3, omega arith)
+    (sym (leftmost-here (c6 .args .pool .now) (l .node) (upward (l .path) (l .d)) (pathBound + 1 - l .d) (omega arith) (sym (c .before .child .ensures) ∙ c .if1 .taken)) ∙ l .inv .3, omega arith)
 
 cast-i : tie.Need-cast-i Inv-loop μ-loop
 cast-i c = search needs
@@ -62,13 +63,13 @@ loop-again c =
     let l = c4 .loop in
     let a = c7 .args in
     let h = c3 .loop-test .taken in (
-  omega arith,
-  search needs,
-  length-set (l .path) (l .d) (c .code-of .result) ∙ l .inv .2,
-  rw (c .code-of .ensures, upward-push (l .path) (l .d) (Left (l .node)) (omega arith) (l .inv .1), c .before .before .child .ensures)
-      (sym (leftmost-step (a .pool .now) (l .node) (upward (l .path) (l .d)) (65 - l .d) (65 - (l .d + 1)) (omega arith) (λ z. c .before .if1 .left (c .before .before .child .ensures ∙ z)))
+      omega arith,
+      search needs,
+      length-set (l .path) (l .d) (c .code-of .result) ∙ l .inv .2,
+      rw (c .code-of .ensures, upward-push (l .path) (l .d) (Left (l .node)) (omega arith) (l .inv .1), c .before .before .child .ensures)
+          (sym (leftmost-step (a .pool .now) (l .node) (upward (l .path) (l .d)) (pathBound + 1 - l .d) (pathBound + 1 - (l .d + 1)) (omega arith) (λ z. c .before .if1 .left (c .before .before .child .ensures ∙ z)))
           ∙ l .inv .3),
-)
+    )
 
 same-length-2 : tie.Need-same-length-2 Inv-loop μ-loop
 same-length-2 c = search needs
@@ -77,7 +78,7 @@ returns-2 : tie.Need-returns-2 Inv-loop μ-loop
 returns-2 c =
     let c4 = c .before .before .before .before in
     let l = c .before .loop in
-    let h = c .loop-test .left in (upward-none _ ∙ (sym (leftmost-deep (c4 .args .pool .now) (l .node) (upward (l .path) (l .d)) (65 - l .d) (omega arith)) ∙ l .inv .3), omega arith)
+    let h = c .loop-test .left in (upward-none _ ∙ (sym (leftmost-deep (c4 .args .pool .now) (l .node) (upward (l .path) (l .d)) (pathBound + 1 - l .d) (omega arith)) ∙ l .inv .3), omega arith)
 
 pub leftmost-spec : {M : Type 1} → statement M
 leftmost-spec =

@@ -29,7 +29,7 @@ returns c =
     let c3 = c .before .before .before in
     let c5 = c3 .before .before in
     let e : isRed (c5 .args .pool .now) (owner (c5 .args .l)) ≡ false =
-        rw (← (c3 .owner .ensures), ← (c .before .before .is-red .ensures)) (not-true _ (c .before .if1 .taken)) in rw (e, c .fixup-result .ensures)
+    rw (← (c3 .owner .ensures), ← (c .before .before .is-red .ensures)) (not-true _ (c .before .if1 .taken)) in rw (e, c .fixup-result .ensures)
 
 slice-aggregate-path-to : tie.Need-slice-aggregate-path-to
 slice-aggregate-path-to c = search needs
@@ -51,7 +51,7 @@ returns-2 c =
     let c7 = c6 .before in
     let c9 = c7 .before .before in
     let e : isRed (c9 .args .pool .now) (owner (c9 .args .l)) ≡ true =
-        rw (← (c7 .owner .ensures), ← (c6 .is-red .ensures)) (not-false _ (c5 .if1 .left)) in rw (e, c .insert-fixup .ensures, c3 .path-to .ensures .0)
+    rw (← (c7 .owner .ensures), ← (c6 .is-red .ensures)) (not-false _ (c5 .if1 .left)) in rw (e, c .insert-fixup .ensures, c3 .path-to .ensures .0)
 
 pub fixup-after-insert-spec : {M : Type 1} → statement M
 fixup-after-insert-spec =

@@ -34,10 +34,11 @@ returns c =
     let c4 = c .before .before .before .before in
     let a = c4 .args in
     let st = state (a .pool .now) (a .reg) in
-    let h = insert-short st (a .k) (a .l) in
-    (rw (c .plan .ensures .0, c .before .before .fixup-after-insert .ensures),
-        rw (c .plan .ensures .1, c .before .one-store .ensures, c .before .before .fixup-after-insert .ensures)
-            (push-write (store (a .l) (Insert (a .k) (a .v)) ∷ []) (endingStores (fixupAfterInsert st (a .k) (a .l) .ending)) (omega arith)))
+    let h = insert-short st (a .k) (a .l) in (
+      rw (c .plan .ensures .0, c .before .before .fixup-after-insert .ensures),
+      rw (c .plan .ensures .1, c .before .one-store .ensures, c .before .before .fixup-after-insert .ensures)
+          (push-write (store (a .l) (Insert (a .k) (a .v)) ∷ []) (endingStores (fixupAfterInsert st (a .k) (a .l) .ending)) (omega arith)),
+    )
 
 pub insert-plan-spec : {M : Type 1} → statement M
 insert-plan-spec =

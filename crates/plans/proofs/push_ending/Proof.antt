@@ -55,7 +55,7 @@ returns-4 c =
     let c3 = c .before .before .before in
     let c5 = c3 .before .before in
     rw (c3 .e2 .given .1)
-        (rw (c .push-rotation3 .ensures, c .before .push-rotation2 .ensures) (sym (push-append (c5 .args .w) (rotationStores (c3 .e2 .given .0 .0)) (rotationStores (c3 .e2 .given .0 .1 .0)))))
+    (rw (c .push-rotation3 .ensures, c .before .push-rotation2 .ensures) (sym (push-append (c5 .args .w) (rotationStores (c3 .e2 .given .0 .0)) (rotationStores (c3 .e2 .given .0 .1 .0)))))
 
 returns-5 : tie.Need-returns-5
 returns-5 c = search needs

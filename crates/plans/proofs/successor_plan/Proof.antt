@@ -59,7 +59,7 @@ plan-requires c κs =
     let c6 = c5 .before in
     let c11 = c6 .before .before .before .before .before in
     let a = c11 .args in rw (c .two-stores .ensures, c4 .fixup-after-removal .ensures)
-        (omega (arith, removal-short (a .pool .now) (c6 .node-at .result) (c5 .child .result) (upward (a .path .now) (a .depth))))
+    (omega (arith, removal-short (a .pool .now) (c6 .node-at .result) (c5 .child .result) (upward (a .path .now) (a .depth))))
 
 returns-2 : tie.Need-returns-2
 returns-2 c =
@@ -79,9 +79,10 @@ returns-2 c =
     let i : c5 .fixup-after-removal .result .ending ≡ nextRemoval st path = rw (c5 .fixup-after-removal .ensures, c6 .child .ensures, n) in
     let z : child p L (child p R (a .b)) ≡ 0 = rw (← (c4 .child2 .ensures), ← (c3 .child3 .ensures)) (c .before .before .if2 .taken) in
     let h = removal-short p (nextNode st path) (child p R (nextNode st path)) path in
-    rw (successor-near st (a .l) (a .b) path (upward-some (a .path .now) (a .depth) (c9 .if1 .left)) z)
-    (rw (c .plan .ensures .0, i),
-        rw (c .plan .ensures .1, c .before .two-stores .ensures, i) (push-write (store (a .l) Adopt ∷ store (a .l) Replace ∷ []) (endingStores (nextRemoval st path)) (omega arith)))
+    rw (successor-near st (a .l) (a .b) path (upward-some (a .path .now) (a .depth) (c9 .if1 .left)) z) (
+      rw (c .plan .ensures .0, i),
+      rw (c .plan .ensures .1, c .before .two-stores .ensures, i) (push-write (store (a .l) Adopt ∷ store (a .l) Replace ∷ []) (endingStores (nextRemoval st path)) (omega arith)),
+    )
 
 word-requires : tie.Need-word-requires
 word-requires c κs = search needs
@@ -97,7 +98,7 @@ plan-requires-2 c κs =
     let c7 = c6 .before in
     let c12 = c7 .before .before .before .before .before in
     let a = c12 .args in rw (c .two-stores2 .ensures, c5 .fixup-after-removal .ensures)
-        (omega (arith, removal-short (a .pool .now) (c7 .node-at .result) (c6 .child .result) (upward (a .path .now) (a .depth))))
+    (omega (arith, removal-short (a .pool .now) (c7 .node-at .result) (c6 .child .result) (upward (a .path .now) (a .depth))))
 
 returns-3 : tie.Need-returns-3
 returns-3 c =
@@ -118,10 +119,11 @@ returns-3 c =
     let i : c6 .fixup-after-removal .result .ending ≡ nextRemoval st path = rw (c6 .fixup-after-removal .ensures, c7 .child .ensures, n) in
     let z : child p L (child p R (a .b)) ≡ 0 → ⊥ = rw (← (c5 .child2 .ensures), ← (c4 .child3 .ensures)) (c3 .if2 .left) in
     let h = removal-short p (nextNode st path) (child p R (nextNode st path)) path in
-    rw (successor-far st (a .l) (a .b) path (upward-some (a .path .now) (a .depth) (c10 .if1 .left)) z)
-    (rw (c .plan2 .ensures .0, i),
-        rw (c .plan2 .ensures .1, c .before .two-stores2 .ensures, c .before .before .word .ensures, n, i)
-            (push-write (store (a .l) (Publish (nextNode st path)) ∷ store (a .l) (Detach (word p (a .b) keyWord)) ∷ []) (endingStores (nextRemoval st path)) (omega arith)))
+    rw (successor-far st (a .l) (a .b) path (upward-some (a .path .now) (a .depth) (c10 .if1 .left)) z) (
+      rw (c .plan2 .ensures .0, i),
+      rw (c .plan2 .ensures .1, c .before .two-stores2 .ensures, c .before .before .word .ensures, n, i)
+          (push-write (store (a .l) (Publish (nextNode st path)) ∷ store (a .l) (Detach (word p (a .b) keyWord)) ∷ []) (endingStores (nextRemoval st path)) (omega arith)),
+    )
 
 pub successor-plan-spec : {M : Type 1} → statement M
 successor-plan-spec =

@@ -23,7 +23,7 @@ push-requires c κs = rw (c .one-store .ensures) (omega arith)
 returns : tie.Need-returns
 returns c =
     rw (c .push .ensures, c .before .one-store .ensures)
-        (push-write (store (c .before .before .args .l) (c .before .before .args .s) ∷ []) (store (c .before .before .args .l) (c .before .before .args .t) ∷ []) (omega arith))
+    (push-write (store (c .before .before .args .l) (c .before .before .args .s) ∷ []) (store (c .before .before .args .l) (c .before .before .args .t) ∷ []) (omega arith))
 
 pub two-stores-spec : {M : Type 1} → statement M
 two-stores-spec = tie.close (tie.spec one-store-requires push-requires returns)

@@ -41,10 +41,11 @@ returns c =
     let c6 = c3 .before .before .before in
     let a = c6 .args in
     let p = a .pool .now in
-    let h = removal-short p (a .b) (onlyChild p (a .b)) (upward (a .path .now) (a .depth)) in
-    (rw (c .plan .ensures .0, c .before .before .fixup-after-removal .ensures, c3 .only-child .ensures),
-        rw (c .plan .ensures .1, c .before .one-store .ensures, c .before .before .fixup-after-removal .ensures, c3 .only-child .ensures)
-            (push-write (store (a .l) Unlink ∷ []) (endingStores (fixupAfterRemoval p (a .b) (onlyChild p (a .b)) (upward (a .path .now) (a .depth)) .ending)) (omega arith)))
+    let h = removal-short p (a .b) (onlyChild p (a .b)) (upward (a .path .now) (a .depth)) in (
+      rw (c .plan .ensures .0, c .before .before .fixup-after-removal .ensures, c3 .only-child .ensures),
+      rw (c .plan .ensures .1, c .before .one-store .ensures, c .before .before .fixup-after-removal .ensures, c3 .only-child .ensures)
+          (push-write (store (a .l) Unlink ∷ []) (endingStores (fixupAfterRemoval p (a .b) (onlyChild p (a .b)) (upward (a .path .now) (a .depth)) .ending)) (omega arith)),
+    )
 
 pub unlink-plan-spec : {M : Type 1} → statement M
 unlink-plan-spec =

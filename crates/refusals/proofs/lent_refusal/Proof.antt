@@ -43,7 +43,7 @@ returns-2 c =
     let long : lengthRight (a .pool .now) ≡ true = sym (c5 .length-right .ensures) ∙ not-false _ (c4 .if1 .left) in
     let ranges : (poolInRange (a .pool .now) && registerInRange (nodes (a .pool .now)) (a .reg)) ≡ false =
     and-swap (poolInRange (a .pool .now)) (registerInRange (nodes (a .pool .now)) (a .reg))
-        ∙ rw (← (c .before .pool-in-range .ensures), ← (c3 .nodes .ensures), ← (c .before .before .register-in-range .ensures)) (not-true _ (c .if2 .taken)) in
+    ∙ rw (← (c .before .pool-in-range .ensures), ← (c3 .nodes .ensures), ← (c .before .before .register-in-range .ensures)) (not-true _ (c .if2 .taken)) in
     rw (long, ranges)
 
 returns-3 : tie.Need-returns-3
@@ -56,7 +56,7 @@ returns-3 c =
     let long : lengthRight (a .pool .now) ≡ true = sym (c5 .length-right .ensures) ∙ not-false _ (c4 .if1 .left) in
     let ranges : (poolInRange (a .pool .now) && registerInRange (nodes (a .pool .now)) (a .reg)) ≡ true =
     and-swap (poolInRange (a .pool .now)) (registerInRange (nodes (a .pool .now)) (a .reg))
-        ∙ rw (← (c .before .pool-in-range .ensures), ← (c3 .nodes .ensures), ← (c .before .before .register-in-range .ensures)) (not-false _ (c .if2 .left)) in
+    ∙ rw (← (c .before .pool-in-range .ensures), ← (c3 .nodes .ensures), ← (c .before .before .register-in-range .ensures)) (not-false _ (c .if2 .left)) in
     rw (long, ranges)
 
 pub lent-refusal-spec : {M : Type 1} → statement M

@@ -20,7 +20,7 @@ sub-result : tie.Need-sub-result
 unfolding dropSlot
 sub-result c =
     rw (shifted (c .before .before .args .s) (c .before .before .pre))
-        (bit-le (c .before .before .args .s) (c .before .before .args .m) (bit-in (c .before .before .args .m) (c .before .before .args .s) (sym (c .before .has-slot .ensures) ∙ c .if1 .taken)))
+    (bit-le (c .before .before .args .s) (c .before .before .args .m) (bit-in (c .before .before .args .m) (c .before .before .args .s) (sym (c .before .has-slot .ensures) ∙ c .if1 .taken)))
 
 returns : tie.Need-returns
 unfolding dropSlot

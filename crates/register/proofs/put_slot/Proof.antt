@@ -22,8 +22,8 @@ unfolding putSlot
 add-result c =
     let a : c .before .before .args .m < 2 ^ 32 = omega (arith, c .before .before .fits .m) in
     let b = add-below 32 (c .before .before .args .s) (c .before .before .args .m) a (c .before .before .pre)
-        (bit-out (c .before .before .args .m) (c .before .before .args .s) (sym (c .before .has-slot .ensures) ∙ c .if1 .left)) in
-        rw (shifted (c .before .before .args .s) (c .before .before .pre)) (omega arith)
+    (bit-out (c .before .before .args .m) (c .before .before .args .s) (sym (c .before .has-slot .ensures) ∙ c .if1 .left)) in
+    rw (shifted (c .before .before .args .s) (c .before .before .pre)) (omega arith)
 
 returns : tie.Need-returns
 unfolding putSlot

@@ -78,8 +78,17 @@ returns c =
     let c23 = c20 .before .before .before in
     let a = c23 .args in λ q r. let st : State = at (a .pool .now) (a .h) q in
     let f : stepFinds st (a .l) (Detach (a .key)) ≡ false =
-        rw (← (c20 .node-at .ensures), ← (c17 .path-to .ensures .0), ← (c13 .successor-path .ensures .0), reached-some, ← (c10 .nearest .ensures), ← (c8 .node-at2 .ensures), ← (c6 .child .ensures),
-            ← (c3 .fixup-after-removal .ensures), ← (c .before .before .nodes-found .ensures)) (not-true _ (c .before .if1 .taken)) in
+    rw (
+      ← (c20 .node-at .ensures),
+      ← (c17 .path-to .ensures .0),
+      ← (c13 .successor-path .ensures .0),
+      reached-some,
+      ← (c10 .nearest .ensures),
+      ← (c8 .node-at2 .ensures),
+      ← (c6 .child .ensures),
+      ← (c3 .fixup-after-removal .ensures),
+      ← (c .before .before .nodes-found .ensures),
+    ) (not-true _ (c .before .if1 .taken)) in
     tells-missed (a .pool .now) (a .h) (a .l) (Detach (a .key)) q (c .missed .result) f (c .missed .ensures)
 
 set-link-requires : tie.Need-set-link-requires
@@ -115,11 +124,29 @@ returns-2 c =
     let c31 = c28 .before .before .before in
     let a = c31 .args in λ q r. let st : State = at (a .pool .now) (a .h) q in
     let f : stepFinds st (a .l) (Detach (a .key)) ≡ true =
-        rw (← (c28 .node-at .ensures), ← (c25 .path-to .ensures .0), ← (c21 .successor-path .ensures .0), reached-some, ← (c18 .nearest .ensures), ← (c16 .node-at2 .ensures),
-            ← (c14 .child .ensures), ← (c11 .fixup-after-removal .ensures), ← (c10 .nodes-found .ensures)) (not-false _ (c9 .if1 .left)) in
+    rw (
+      ← (c28 .node-at .ensures),
+      ← (c25 .path-to .ensures .0),
+      ← (c21 .successor-path .ensures .0),
+      reached-some,
+      ← (c18 .nearest .ensures),
+      ← (c16 .node-at2 .ensures),
+      ← (c14 .child .ensures),
+      ← (c11 .fixup-after-removal .ensures),
+      ← (c10 .nodes-found .ensures),
+    ) (not-false _ (c9 .if1 .left)) in
     tells-made (a .pool .now) (a .h) (a .l) (Detach (a .key)) q _ _ f (not-false _ (c9 .if1 .left))
-        (rw (c .before .before .colour-and-retire .ensures q r, c7 .set-link .ensures q, c11 .fixup-after-removal .ensures, c14 .child .ensures, c16 .node-at2 .ensures, c18 .nearest .ensures,
-            c21 .successor-path .ensures .0, c25 .path-to .ensures .0, c28 .node-at .ensures))
+    (rw (
+      c .before .before .colour-and-retire .ensures q r,
+      c7 .set-link .ensures q,
+      c11 .fixup-after-removal .ensures,
+      c14 .child .ensures,
+      c16 .node-at2 .ensures,
+      c18 .nearest .ensures,
+      c21 .successor-path .ensures .0,
+      c25 .path-to .ensures .0,
+      c28 .node-at .ensures,
+    ))
 
 pub detach-spec : {M : Type 1} → statement M
 detach-spec =

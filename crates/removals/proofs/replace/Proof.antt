@@ -74,8 +74,16 @@ returns c =
     let c22 = c19 .before .before .before in
     let a = c22 .args in λ q r. let st : State = at (a .pool .now) (a .h) q in
     let f : stepFinds st (a .l) Replace ≡ false =
-        rw (← (c19 .node-at .ensures), ← (c17 .child .ensures), ← (c15 .child2 .ensures), ← (c13 .word .ensures), ← (c10 .path-to .ensures .0), ← (c7 .below-right .ensures .0),
-            ← (c3 .fixup-after-removal .ensures), ← (c .before .before .nodes-found .ensures)) (not-true _ (c .before .if1 .taken)) in
+    rw (
+      ← (c19 .node-at .ensures),
+      ← (c17 .child .ensures),
+      ← (c15 .child2 .ensures),
+      ← (c13 .word .ensures),
+      ← (c10 .path-to .ensures .0),
+      ← (c7 .below-right .ensures .0),
+      ← (c3 .fixup-after-removal .ensures),
+      ← (c .before .before .nodes-found .ensures),
+    ) (not-true _ (c .before .if1 .taken)) in
     tells-missed (a .pool .now) (a .h) (a .l) Replace q (c .missed .result) f (c .missed .ensures)
 
 word-requires-2 : tie.Need-word-requires-2
@@ -113,11 +121,29 @@ returns-2 c =
     let c32 = c29 .before .before .before in
     let a = c32 .args in λ q r. let st : State = at (a .pool .now) (a .h) q in
     let f : stepFinds st (a .l) Replace ≡ true =
-        rw (← (c29 .node-at .ensures), ← (c27 .child .ensures), ← (c25 .child2 .ensures), ← (c23 .word .ensures), ← (c20 .path-to .ensures .0), ← (c17 .below-right .ensures .0),
-            ← (c13 .fixup-after-removal .ensures), ← (c12 .nodes-found .ensures)) (not-false _ (c11 .if1 .left)) in
+    rw (
+      ← (c29 .node-at .ensures),
+      ← (c27 .child .ensures),
+      ← (c25 .child2 .ensures),
+      ← (c23 .word .ensures),
+      ← (c20 .path-to .ensures .0),
+      ← (c17 .below-right .ensures .0),
+      ← (c13 .fixup-after-removal .ensures),
+      ← (c12 .nodes-found .ensures),
+    ) (not-false _ (c11 .if1 .left)) in
     tells-made (a .pool .now) (a .h) (a .l) Replace q _ _ f (not-false _ (c11 .if1 .left))
-        (rw (c .before .before .colour-and-retire .ensures q r, c7 .store-successor .ensures q, c9 .word2 .ensures, c13 .fixup-after-removal .ensures, c17 .below-right .ensures .0,
-            c20 .path-to .ensures .0, c23 .word .ensures, c25 .child2 .ensures, c27 .child .ensures, c29 .node-at .ensures))
+    (rw (
+      c .before .before .colour-and-retire .ensures q r,
+      c7 .store-successor .ensures q,
+      c9 .word2 .ensures,
+      c13 .fixup-after-removal .ensures,
+      c17 .below-right .ensures .0,
+      c20 .path-to .ensures .0,
+      c23 .word .ensures,
+      c25 .child2 .ensures,
+      c27 .child .ensures,
+      c29 .node-at .ensures,
+    ))
 
 pub replace-spec : {M : Type 1} → statement M
 replace-spec =

@@ -62,8 +62,14 @@ returns c =
     let c17 = c14 .before .before .before in
     let a = c17 .args in λ q r. let st : State = at (a .pool .now) (a .h) q in
     let f : stepFinds st (a .l) Unlink ≡ false =
-        rw (← (c14 .node-at .ensures), ← (c12 .only-child .ensures), ← (c10 .word .ensures), ← (c7 .path-to .ensures .0), ← (c3 .fixup-after-removal .ensures),
-            ← (c .before .before .nodes-found .ensures)) (not-true _ (c .before .if1 .taken)) in
+    rw (
+      ← (c14 .node-at .ensures),
+      ← (c12 .only-child .ensures),
+      ← (c10 .word .ensures),
+      ← (c7 .path-to .ensures .0),
+      ← (c3 .fixup-after-removal .ensures),
+      ← (c .before .before .nodes-found .ensures),
+    ) (not-true _ (c .before .if1 .taken)) in
     tells-missed (a .pool .now) (a .h) (a .l) Unlink q (c .missed .result) f (c .missed .ensures)
 
 store-one-less-requires : tie.Need-store-one-less-requires
@@ -95,11 +101,18 @@ returns-2 c =
     let c25 = c22 .before .before .before in
     let a = c25 .args in λ q r. let st : State = at (a .pool .now) (a .h) q in
     let f : stepFinds st (a .l) Unlink ≡ true =
-        rw (← (c22 .node-at .ensures), ← (c20 .only-child .ensures), ← (c18 .word .ensures), ← (c15 .path-to .ensures .0), ← (c11 .fixup-after-removal .ensures), ← (c10 .nodes-found .ensures))
-            (not-false _ (c9 .if1 .left)) in
+    rw (← (c22 .node-at .ensures), ← (c20 .only-child .ensures), ← (c18 .word .ensures), ← (c15 .path-to .ensures .0), ← (c11 .fixup-after-removal .ensures), ← (c10 .nodes-found .ensures))
+    (not-false _ (c9 .if1 .left)) in
     tells-made (a .pool .now) (a .h) (a .l) Unlink q _ _ f (not-false _ (c9 .if1 .left))
-        (rw (c .before .before .colour-and-retire .ensures q r, c7 .store-one-less .ensures q, c11 .fixup-after-removal .ensures, c15 .path-to .ensures .0, c18 .word .ensures,
-            c20 .only-child .ensures, c22 .node-at .ensures))
+    (rw (
+      c .before .before .colour-and-retire .ensures q r,
+      c7 .store-one-less .ensures q,
+      c11 .fixup-after-removal .ensures,
+      c15 .path-to .ensures .0,
+      c18 .word .ensures,
+      c20 .only-child .ensures,
+      c22 .node-at .ensures,
+    ))
 
 pub unlink-spec : {M : Type 1} → statement M
 unlink-spec =

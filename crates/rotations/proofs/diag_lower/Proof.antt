@@ -37,8 +37,8 @@ returns c =
     let c7 = c4 .before .before .before in
     let a = c7 .args in λ q. let st : State = at (a .pool .now) (a .h) q in
     let e : diagChild st (a .l) (a .s) ≡ 0 =
-        rw (← (c4 .node-at .ensures), ← (c .before .before .child .ensures)) (c .before .if1 .taken) in
-        tells-missed (a .pool .now) (a .h) (a .l) (DiagLower (a .s) (a .purpose)) q (c .missed .result) (no-node (diagChild st (a .l) (a .s)) _ e) (c .missed .ensures)
+    rw (← (c4 .node-at .ensures), ← (c .before .before .child .ensures)) (c .before .if1 .taken) in
+    tells-missed (a .pool .now) (a .h) (a .l) (DiagLower (a .s) (a .purpose)) q (c .missed .result) (no-node (diagChild st (a .l) (a .s)) _ e) (c .missed .ensures)
 
 missed-requires-2 : tie.Need-missed-requires-2
 missed-requires-2 c κs = search needs
@@ -51,8 +51,8 @@ unfolding stepFinds
 returns-2 c =
     let c9 = c .before .before .before .before .before .before .before .before .before in
     let a = c9 .args in λ q. let st : State =
-        at (a .pool .now) (a .h) q in
-        tells-missed (a .pool .now) (a .h) (a .l) (DiagLower (a .s) (a .purpose)) q (c .missed2 .result) (no-free st (diagChild st (a .l) (a .s)) (c .before .if2 .taken)) (c .missed2 .ensures)
+    at (a .pool .now) (a .h) q in
+    tells-missed (a .pool .now) (a .h) (a .l) (DiagLower (a .s) (a .purpose)) q (c .missed2 .result) (no-free st (diagChild st (a .l) (a .s)) (c .before .if2 .taken)) (c .missed2 .ensures)
 
 other-requires : tie.Need-other-requires
 other-requires c κs = search needs
@@ -95,8 +95,17 @@ returns-3 c =
     let a = c23 .args in λ q. let st : State = at (a .pool .now) (a .h) q in
     let d : diagChild st (a .l) (a .s) ≡ 0 → ⊥ = rw (← (c20 .node-at .ensures), ← (c18 .child .ensures)) (c17 .if1 .left) in
     tells-made (a .pool .now) (a .h) (a .l) (DiagLower (a .s) (a .purpose)) q _ _ (takes-node st (diagChild st (a .l) (a .s)) d (c15 .if2 .left)) refl
-    (rw (c .before .before .set-link .ensures q, c6 .take-copy .ensures q, c7 .copy-colour .ensures, c9 .link-at .ensures, c10 .child3 .ensures, c12 .child2 .ensures, c14 .other .ensures,
-        c18 .child .ensures, c20 .node-at .ensures))
+    (rw (
+      c .before .before .set-link .ensures q,
+      c6 .take-copy .ensures q,
+      c7 .copy-colour .ensures,
+      c9 .link-at .ensures,
+      c10 .child3 .ensures,
+      c12 .child2 .ensures,
+      c14 .other .ensures,
+      c18 .child .ensures,
+      c20 .node-at .ensures,
+    ))
 
 pub diag-lower-spec : {M : Type 1} → statement M
 diag-lower-spec =

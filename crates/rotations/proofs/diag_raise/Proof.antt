@@ -42,8 +42,8 @@ returns c =
     let c7 = c4 .before .before .before in
     let a = c7 .args in λ q r. let st : State = at (a .pool .now) (a .h) q in
     let e : diagChild st (a .l) (a .s) ≡ 0 =
-        rw (← (c4 .node-at .ensures), ← (c .before .before .child .ensures)) (c .before .if1 .taken) in
-        tells-missed (a .pool .now) (a .h) (a .l) (DiagRaise (a .s) (a .purpose)) q (c .missed .result) (no-node (diagChild st (a .l) (a .s)) _ e) (c .missed .ensures)
+    rw (← (c4 .node-at .ensures), ← (c .before .before .child .ensures)) (c .before .if1 .taken) in
+    tells-missed (a .pool .now) (a .h) (a .l) (DiagRaise (a .s) (a .purpose)) q (c .missed .result) (no-node (diagChild st (a .l) (a .s)) _ e) (c .missed .ensures)
 
 end-diag-finds-requires : tie.Need-end-diag-finds-requires
 end-diag-finds-requires c κs = search needs
@@ -63,8 +63,8 @@ returns-2 c =
     let a = c10 .args in λ q r. let st : State = at (a .pool .now) (a .h) q in
     let b = diagChild st (a .l) (a .s) in
     let e : endDiagFinds (a .purpose) st (a .s) (diagChild st (a .l) (a .s)) ≡ false =
-        rw (← (c7 .node-at .ensures), ← (c5 .child .ensures)) (sym (c .before .before .end-diag-finds .ensures (withHead q (a .h))) ∙ not-true _ (c .before .if2 .taken)) in
-        tells-missed (a .pool .now) (a .h) (a .l) (DiagRaise (a .s) (a .purpose)) q (c .missed2 .result) (and-false (isNode b) (endDiagFinds (a .purpose) st (a .s) b) e) (c .missed2 .ensures)
+    rw (← (c7 .node-at .ensures), ← (c5 .child .ensures)) (sym (c .before .before .end-diag-finds .ensures (withHead q (a .h))) ∙ not-true _ (c .before .if2 .taken)) in
+    tells-missed (a .pool .now) (a .h) (a .l) (DiagRaise (a .s) (a .purpose)) q (c .missed2 .result) (and-false (isNode b) (endDiagFinds (a .purpose) st (a .s) b) e) (c .missed2 .ensures)
 
 risen-colour-requires : tie.Need-risen-colour-requires
 risen-colour-requires c κs = search needs
@@ -97,11 +97,11 @@ returns-3 c =
     let b = diagChild st (a .l) (a .s) in
     let d : diagChild st (a .l) (a .s) ≡ 0 → ⊥ = rw (← (c20 .node-at .ensures), ← (c18 .child .ensures)) (c17 .if1 .left) in
     let e : endDiagFinds (a .purpose) st (a .s) (diagChild st (a .l) (a .s)) ≡ true =
-        rw (← (c20 .node-at .ensures), ← (c18 .child .ensures)) (sym (c15 .end-diag-finds .ensures (withHead q (a .h))) ∙ not-false _ (c14 .if2 .left)) in
-        tells-made (a .pool .now) (a .h) (a .l) (DiagRaise (a .s) (a .purpose)) q _ _ (node-there b (endDiagFinds (a .purpose) st (a .s) b) d e) refl
+    rw (← (c20 .node-at .ensures), ← (c18 .child .ensures)) (sym (c15 .end-diag-finds .ensures (withHead q (a .h))) ∙ not-false _ (c14 .if2 .left)) in
+    tells-made (a .pool .now) (a .h) (a .l) (DiagRaise (a .s) (a .purpose)) q _ _ (node-there b (endDiagFinds (a .purpose) st (a .s) b) d e) refl
     (diag-raised st (a .l) (a .s) (a .purpose) (c20 .node-at .result) (c18 .child .result) (c12 .risen-colour .result) (c10 .raise .last .0) (c6 .end-diag .last .0)
-        (withHead q (c10 .raise .result)) (at (c .before .before .retire .last .0) (c .before .before .retire .result) q) (c20 .node-at .ensures) (c12 .risen-colour .ensures (withHead q (a .h)))
-            (c10 .raise .ensures q) (c18 .child .ensures ∙ rw (c20 .node-at .ensures)) (c6 .end-diag .ensures (withHead q (c10 .raise .result)) refl) (c .before .before .retire .ensures q r))
+    (withHead q (c10 .raise .result)) (at (c .before .before .retire .last .0) (c .before .before .retire .result) q) (c20 .node-at .ensures) (c12 .risen-colour .ensures (withHead q (a .h)))
+    (c10 .raise .ensures q) (c18 .child .ensures ∙ rw (c20 .node-at .ensures)) (c6 .end-diag .ensures (withHead q (c10 .raise .result)) refl) (c .before .before .retire .ensures q r))
 
 pub diag-raise-spec : {M : Type 1} → statement M
 diag-raise-spec =

@@ -48,7 +48,7 @@ returns-2 c =
     let c14 = c11 .before .before .before in
     λ q. let a = c14 .args in
     let e : redChild (a .pool .now) (child (a .pool .now) (a .s) (a .copy)) ≡ false =
-        rw (← (c11 .child .ensures), ← (c9 .red-child .ensures)) (c8 .if1 .left) in rw (e, c .before .before .set-word2 .ensures, c6 .set-word .ensures, c11 .child .ensures)
+    rw (← (c11 .child .ensures), ← (c9 .red-child .ensures)) (c8 .if1 .left) in rw (e, c .before .before .set-word2 .ensures, c6 .set-word .ensures, c11 .child .ensures)
 
 pub under-copy-spec : {M : Type 1} → statement M
 under-copy-spec =

@@ -45,8 +45,8 @@ returns c =
     let c9 = c6 .before .before .before in
     let a = c9 .args in λ q. let st : State = at (a .pool .now) (a .h) q in
     let e : zigChild st (a .l) (a .s) ≡ 0 =
-        rw (← (c6 .node-at .ensures), ← (c5 .child .ensures), ← (c3 .other .ensures), ← (c .before .before .child2 .ensures)) (c .before .if1 .taken) in
-        tells-missed (a .pool .now) (a .h) (a .l) (ZigLowerA (a .s) (a .purpose)) q (c .missed .result) (no-node (zigChild st (a .l) (a .s)) _ e) (c .missed .ensures)
+    rw (← (c6 .node-at .ensures), ← (c5 .child .ensures), ← (c3 .other .ensures), ← (c .before .before .child2 .ensures)) (c .before .if1 .taken) in
+    tells-missed (a .pool .now) (a .h) (a .l) (ZigLowerA (a .s) (a .purpose)) q (c .missed .result) (no-node (zigChild st (a .l) (a .s)) _ e) (c .missed .ensures)
 
 missed-requires-2 : tie.Need-missed-requires-2
 missed-requires-2 c κs = search needs
@@ -59,8 +59,8 @@ unfolding stepFinds
 returns-2 c =
     let c11 = c .before .before .before .before .before .before .before .before .before .before .before in
     let a = c11 .args in λ q. let st : State =
-        at (a .pool .now) (a .h) q in
-        tells-missed (a .pool .now) (a .h) (a .l) (ZigLowerA (a .s) (a .purpose)) q (c .missed2 .result) (no-free st (zigChild st (a .l) (a .s)) (c .before .if2 .taken)) (c .missed2 .ensures)
+    at (a .pool .now) (a .h) q in
+    tells-missed (a .pool .now) (a .h) (a .l) (ZigLowerA (a .s) (a .purpose)) q (c .missed2 .result) (no-free st (zigChild st (a .l) (a .s)) (c .before .if2 .taken)) (c .missed2 .ensures)
 
 child-requires-3 : tie.Need-child-requires-3
 child-requires-3 c κs = search needs
@@ -101,8 +101,18 @@ returns-3 c =
     let a = c24 .args in λ q. let st : State = at (a .pool .now) (a .h) q in
     let d : zigChild st (a .l) (a .s) ≡ 0 → ⊥ = rw (← (c21 .node-at .ensures), ← (c20 .child .ensures), ← (c18 .other .ensures), ← (c17 .child2 .ensures)) (c16 .if1 .left) in
     tells-made (a .pool .now) (a .h) (a .l) (ZigLowerA (a .s) (a .purpose)) q _ _ (takes-node st (zigChild st (a .l) (a .s)) d (c14 .if2 .left)) refl
-    (rw (c .before .before .set-link .ensures q, c6 .take-copy .ensures q, c7 .copy-colour .ensures, c9 .link-at .ensures, c10 .child4 .ensures, c12 .child3 .ensures, c17 .child2 .ensures,
-        c18 .other .ensures, c20 .child .ensures, c21 .node-at .ensures))
+    (rw (
+      c .before .before .set-link .ensures q,
+      c6 .take-copy .ensures q,
+      c7 .copy-colour .ensures,
+      c9 .link-at .ensures,
+      c10 .child4 .ensures,
+      c12 .child3 .ensures,
+      c17 .child2 .ensures,
+      c18 .other .ensures,
+      c20 .child .ensures,
+      c21 .node-at .ensures,
+    ))
 
 pub zig-lower-a-spec : {M : Type 1} → statement M
 zig-lower-a-spec =

@@ -47,8 +47,8 @@ returns c =
     let c10 = c7 .before .before .before in
     let a = c10 .args in λ q r. let st : State = at (a .pool .now) (a .h) q in
     let e : zigChild st (a .l) (a .s) ≡ 0 =
-        rw (← (c7 .node-at .ensures), ← (c5 .child .ensures), ← (c3 .other .ensures), ← (c .before .before .child2 .ensures)) (c .before .if1 .taken) in
-        tells-missed (a .pool .now) (a .h) (a .l) (ZigRaise (a .s) (a .purpose)) q (c .missed .result) (rw (eq-eqb (zigChild st (a .l) (a .s)) 0 e)) (c .missed .ensures)
+    rw (← (c7 .node-at .ensures), ← (c5 .child .ensures), ← (c3 .other .ensures), ← (c .before .before .child2 .ensures)) (c .before .if1 .taken) in
+    tells-missed (a .pool .now) (a .h) (a .l) (ZigRaise (a .s) (a .purpose)) q (c .missed .result) (rw (eq-eqb (zigChild st (a .l) (a .s)) 0 e)) (c .missed .ensures)
 
 risen-colour-requires : tie.Need-risen-colour-requires
 risen-colour-requires c κs = search needs
@@ -79,12 +79,12 @@ returns-2 c =
     let c23 = c20 .before .before .before in
     let a = c23 .args in λ q r. let st : State = at (a .pool .now) (a .h) q in
     let d : zigChild st (a .l) (a .s) ≡ 0 → ⊥ =
-        rw (← (c20 .node-at .ensures), ← (c18 .child .ensures), ← (c16 .other .ensures), ← (c15 .child2 .ensures)) (c14 .if1 .left) in
-        tells-made (a .pool .now) (a .h) (a .l) (ZigRaise (a .s) (a .purpose)) q _ _ (rw (ne-eqb (zigChild st (a .l) (a .s)) 0 d)) refl
+    rw (← (c20 .node-at .ensures), ← (c18 .child .ensures), ← (c16 .other .ensures), ← (c15 .child2 .ensures)) (c14 .if1 .left) in
+    tells-made (a .pool .now) (a .h) (a .l) (ZigRaise (a .s) (a .purpose)) q _ _ (rw (ne-eqb (zigChild st (a .l) (a .s)) 0 d)) refl
     (zig-raised st (a .l) (a .s) (a .purpose) (c20 .node-at .result) (c15 .child2 .result) (c12 .risen-colour .result) (c10 .raise .last .0) (c6 .end-zig .last .0) (withHead q (c10 .raise .result))
-        (at (c .before .before .retire-two .last .0) (c .before .before .retire-two .result) q) (c20 .node-at .ensures) (c12 .risen-colour .ensures (withHead q (a .h))) (c10 .raise .ensures q)
-            (c18 .child .result) (c18 .child .ensures ∙ rw (c20 .node-at .ensures)) (c15 .child2 .ensures ∙ rw (c16 .other .ensures, c18 .child .ensures, c20 .node-at .ensures))
-                (c6 .end-zig .ensures (withHead q (c10 .raise .result)) refl) (c .before .before .retire-two .ensures q r))
+    (at (c .before .before .retire-two .last .0) (c .before .before .retire-two .result) q) (c20 .node-at .ensures) (c12 .risen-colour .ensures (withHead q (a .h))) (c10 .raise .ensures q)
+    (c18 .child .result) (c18 .child .ensures ∙ rw (c20 .node-at .ensures)) (c15 .child2 .ensures ∙ rw (c16 .other .ensures, c18 .child .ensures, c20 .node-at .ensures))
+    (c6 .end-zig .ensures (withHead q (c10 .raise .result)) refl) (c .before .before .retire-two .ensures q r))
 
 pub zig-raise-spec : {M : Type 1} → statement M
 zig-raise-spec =

@@ -57,7 +57,7 @@ seek-returns-2 : (t : ℕ) → seek-lts.Need-returns-2 (
 ) (seek-at t) seek.Post
 seek-returns-2 t c = sym
     (seek-deep (c .before .before .before .args .pool .now) (c .before .before .before .args .k) (c .before .before .before .args .allowed) (c .before .before .before .args .l)
-        (c .before .before .before .args .n) (c .before .if1 .left) (c .if2 .taken))
+    (c .before .before .before .args .n) (c .before .if1 .left) (c .if2 .taken))
 
 seek-word-requires : (t : ℕ) → seek-lts.Need-word-requires (
   word-reads.Asked,
@@ -87,8 +87,8 @@ seek-returns-3 : (t : ℕ) → seek-lts.Need-returns-3 (
 ) (seek-at t) seek.Post
 seek-returns-3 t c = sym
     (seek-step (c .before .before .before .before .before .args .pool .now) (c .before .before .before .before .before .args .k) (c .before .before .before .before .before .args .allowed)
-        (c .before .before .before .before .before .args .l) (c .before .before .before .before .before .args .n) (c .before .before .before .if1 .left) (c .before .before .if2 .left)
-            ∙ rw (← (c .before .word .ensures), eq-eqb _ _ (c .if3 .taken)))
+    (c .before .before .before .before .before .args .l) (c .before .before .before .before .before .args .n) (c .before .before .before .if1 .left) (c .before .before .if2 .left)
+    ∙ rw (← (c .before .word .ensures), eq-eqb _ _ (c .if3 .taken)))
 
 seek-towards-requires : (t : ℕ) → seek-lts.Need-towards-requires (
   word-reads.Asked,
@@ -174,13 +174,13 @@ seek-returns-4 : (t : ℕ) → seek-lts.Need-returns-4 (
 ) (seek-at t) seek.Post
 seek-returns-4 t c = let e : eqb (c .before .before .before .before .before .before .before .before .before .args .k)
     (word (c .before .before .before .before .before .before .before .before .before .args .pool .now)
-        (c .before .before .before .before .before .before .before .before .before .args .n) keyWord) ≡ false = rw (← (c .before .before .before .before .before .word .ensures))
-            (ne-eqb _ _ (c .before .before .before .before .if3 .left)) in
+    (c .before .before .before .before .before .before .before .before .before .args .n) keyWord) ≡ false = rw (← (c .before .before .before .before .before .word .ensures))
+    (ne-eqb _ _ (c .before .before .before .before .if3 .left)) in
     rw (c .seek .ensures, c .before .link-at .ensures, c .before .before .child .ensures, c .before .before .before .towards .ensures)
-        (sym (seek-step (c .before .before .before .before .before .before .before .before .before .args .pool .now)
-            (c .before .before .before .before .before .before .before .before .before .args .k) (c .before .before .before .before .before .before .before .before .before .args .allowed)
-                (c .before .before .before .before .before .before .before .before .before .args .l) (c .before .before .before .before .before .before .before .before .before .args .n)
-                    (c .before .before .before .before .before .before .before .if1 .left) (c .before .before .before .before .before .before .if2 .left) ∙ rw e))
+    (sym (seek-step (c .before .before .before .before .before .before .before .before .before .args .pool .now)
+    (c .before .before .before .before .before .before .before .before .before .args .k) (c .before .before .before .before .before .before .before .before .before .args .allowed)
+    (c .before .before .before .before .before .before .before .before .before .args .l) (c .before .before .before .before .before .before .before .before .before .args .n)
+    (c .before .before .before .before .before .before .before .if1 .left) (c .before .before .before .before .before .before .if2 .left) ∙ rw e))
 
 pub +seek-spec : {M : Type 1} → statement M
 +seek-spec = close μ-seek λ t. seek-lts.spec (

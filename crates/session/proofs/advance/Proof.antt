@@ -13,9 +13,10 @@ use Rattle.session.proofs.answer.Reads as answer-reads
 use Rattle.session.proofs.left.Reads as left-reads
 use Rattle.session.proofs.read_line.Reads as read-line-reads
 use Rattle.session.proofs.show_node.Reads as show-node-reads
+use Rattle.spec.specs.Numbers.{poolLimit}
 
 abbrev Inv-loop : tie.InvT-loop
-Inv-loop words₀ out₀ input register₀ session₀ from₀ at₀ words out register session from at = Sound session × (at ≤ length out) × (from ≤ length input) × (length words ≡ 8192) × (length words ≡ length words₀) × (length out ≡ length out₀) × Done (workLeft (session₀ .pending) (length input) from₀) at₀ (workLeft (session .pending) (length input) from) at
+Inv-loop words₀ out₀ input register₀ session₀ from₀ at₀ words out register session from at = Sound session × (at ≤ length out) × (from ≤ length input) × (length words ≡ poolLimit) × (length words ≡ length words₀) × (length out ≡ length out₀) × Done (workLeft (session₀ .pending) (length input) from₀) at₀ (workLeft (session .pending) (length input) from) at
 
 abbrev μ-loop : tie.MeasureT-loop
 μ-loop words₀ out₀ input register₀ session₀ from₀ at₀ words out register session from at = workLeft (session .pending) (length input) from
@@ -99,14 +100,14 @@ loop-again-2 c =
     let i = c20 .loop .inv in
     let e = c13 .read-line .ensures .0 in
     let a = c6 .answer .ensures in (
-  a .0,
-  a .1,
-  e .3,
-  c5 .words .given ∙ i .3,
-  c5 .words .given ∙ i .4,
-  c3 .out3 .given ∙ (c12 .out2 .given ∙ i .5),
-  done-more _ _ (line-less (c20 .loop .session .pending) (a .0) (e .2) (e .3)) (i .6),
-)
+      a .0,
+      a .1,
+      e .3,
+      c5 .words .given ∙ i .3,
+      c5 .words .given ∙ i .4,
+      c3 .out3 .given ∙ (c12 .out2 .given ∙ i .5),
+      done-more _ _ (line-less (c20 .loop .session .pending) (a .0) (e .2) (e .3)) (i .6),
+    )
 
 loop-less-3 : tie.Need-loop-less-3 Inv-loop μ-loop
 loop-less-3 c =

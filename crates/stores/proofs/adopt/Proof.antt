@@ -35,8 +35,8 @@ returns c =
     let c7 = c4 .before .before .before in
     let a = c7 .args in λ q. let st : State = at (a .pool .now) (a .h) q in
     let e : child (a .pool .now) R (linkNode st (a .l)) ≡ 0 =
-        rw (← (c4 .node-at .ensures), ← (c .before .before .child .ensures)) (c .before .if1 .taken) in
-        tells-missed (a .pool .now) (a .h) (a .l) Adopt q (c .missed .result) (rw (eq-eqb _ 0 e)) (c .missed .ensures)
+    rw (← (c4 .node-at .ensures), ← (c .before .before .child .ensures)) (c .before .if1 .taken) in
+    tells-missed (a .pool .now) (a .h) (a .l) Adopt q (c .missed .result) (rw (eq-eqb _ 0 e)) (c .missed .ensures)
 
 child-requires-2 : tie.Need-child-requires-2
 child-requires-2 c κs = search needs
@@ -57,8 +57,8 @@ returns-2 c =
     let c12 = c9 .before .before .before in
     let a = c12 .args in λ q. let st : State = at (a .pool .now) (a .h) q in
     let e : child (a .pool .now) R (linkNode st (a .l)) ≡ 0 → ⊥ =
-        rw (← (c9 .node-at .ensures), ← (c7 .child .ensures)) (c6 .if1 .left) in
-        tells-made (a .pool .now) (a .h) (a .l) Adopt q _ _ (rw (ne-eqb _ 0 e)) refl (rw (c .before .before .set-link .ensures q, c4 .child2 .ensures, c7 .child .ensures, c9 .node-at .ensures))
+    rw (← (c9 .node-at .ensures), ← (c7 .child .ensures)) (c6 .if1 .left) in
+    tells-made (a .pool .now) (a .h) (a .l) Adopt q _ _ (rw (ne-eqb _ 0 e)) refl (rw (c .before .before .set-link .ensures q, c4 .child2 .ensures, c7 .child .ensures, c9 .node-at .ensures))
 
 pub adopt-spec : {M : Type 1} → statement M
 adopt-spec =

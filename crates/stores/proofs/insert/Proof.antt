@@ -24,8 +24,8 @@ returns : tie.Need-returns
 returns c =
     let c4 = c .before .before .before .before in
     let a = c4 .args in λ q. let st : State =
-        at (a .pool .now) (a .h) q in
-        tells-missed (a .pool .now) (a .h) (a .l) (Insert (a .k) (a .v)) q (c .missed .result) (insert-empty st (a .l) (a .k) (a .v) (c .before .if1 .taken)) (c .missed .ensures)
+    at (a .pool .now) (a .h) q in
+    tells-missed (a .pool .now) (a .h) (a .l) (Insert (a .k) (a .v)) q (c .missed .result) (insert-empty st (a .l) (a .k) (a .v) (c .before .if1 .taken)) (c .missed .ensures)
 
 owner-requires : tie.Need-owner-requires
 owner-requires c κs = search needs

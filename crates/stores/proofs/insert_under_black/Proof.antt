@@ -25,9 +25,9 @@ returns c =
     let c6 = c .before .before .before .before .before .before in
     let c9 = c6 .before .before .before in
     let a = c9 .args in λ q. let st : State =
-        at (a .pool .now) (a .h) q in
-        tells-made (a .pool .now) (a .h) (a .l) (Insert (a .k) (a .v)) q _ _ (balanced-found st (a .l) (a .k) (a .v) (c9 .pre .1) (c9 .pre .2)) refl
-            (rw (c .before .before .set-word .ensures) (balanced-made st (a .l) (a .k) (a .v) (c9 .pre .1) (c6 .link-new .last .0) (withHead q (c6 .link-new .result)) (c6 .link-new .ensures q)))
+    at (a .pool .now) (a .h) q in
+    tells-made (a .pool .now) (a .h) (a .l) (Insert (a .k) (a .v)) q _ _ (balanced-found st (a .l) (a .k) (a .v) (c9 .pre .1) (c9 .pre .2)) refl
+    (rw (c .before .before .set-word .ensures) (balanced-made st (a .l) (a .k) (a .v) (c9 .pre .1) (c6 .link-new .last .0) (withHead q (c6 .link-new .result)) (c6 .link-new .ensures q)))
 
 pub insert-under-black-spec : {M : Type 1} → statement M
 insert-under-black-spec = tie.close (tie.spec link-new-requires set-word-requires same-length returns)

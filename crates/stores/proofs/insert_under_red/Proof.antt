@@ -49,8 +49,8 @@ returns c =
     let k = c3 .insert-fixup .result in
     let e : k ≡ insertFixup (a .pool .now) 0 (pathTo (a .pool .now) (a .h .root) (a .k) (a .l)) = rw (c3 .insert-fixup .ensures, c7 .path-to .ensures .0) in
     let m : missing (k .ending) ≡ true =
-        sym (c .before .before .missing .ensures) ∙ c .before .if1 .taken in
-        tells-missed (a .pool .now) (a .h) (a .l) (Insert (a .k) (a .v)) q (c .missed .result) (fixup-missing st (a .l) (a .k) (a .v) (c11 .pre .1) k e m) (c .missed .ensures)
+    sym (c .before .before .missing .ensures) ∙ c .before .if1 .taken in
+    tells-missed (a .pool .now) (a .h) (a .l) (Insert (a .k) (a .v)) q (c .missed .result) (fixup-missing st (a .l) (a .k) (a .v) (c11 .pre .1) k e m) (c .missed .ensures)
 
 link-new-requires : tie.Need-link-new-requires
 link-new-requires c κs = search needs
@@ -83,8 +83,8 @@ returns-2 c =
     let m : missing (k .ending) ≡ false = sym (c14 .missing .ensures) ∙ c13 .if1 .left in
     let f : c6 .paint-insert-fixup .last .0 ≡ paintInsertFixup (k .levels) path (c11 .link-new .last .0) = rw (c6 .paint-insert-fixup .ensures, c19 .path-to .ensures .0) in
     tells-made (a .pool .now) (a .h) (a .l) (Insert (a .k) (a .v)) q _ _ (fixup-found st (a .l) (a .k) (a .v) (c23 .pre .1) k e m (c23 .pre .2)) refl
-        (fixup-made st (a .l) (a .k) (a .v) (c23 .pre .1) k e (c11 .link-new .last .0) (c6 .paint-insert-fixup .last .0) (c .before .before .end-insert .last .0)
-            (withHead q (c11 .link-new .result)) (c11 .link-new .ensures q) f (c .before .before .end-insert .ensures (withHead q (c11 .link-new .result)) refl))
+    (fixup-made st (a .l) (a .k) (a .v) (c23 .pre .1) k e (c11 .link-new .last .0) (c6 .paint-insert-fixup .last .0) (c .before .before .end-insert .last .0)
+    (withHead q (c11 .link-new .result)) (c11 .link-new .ensures q) f (c .before .before .end-insert .ensures (withHead q (c11 .link-new .result)) refl))
 
 pub insert-under-red-spec : {M : Type 1} → statement M
 insert-under-red-spec =

@@ -39,7 +39,7 @@ returns c =
     let a = c5 .args in
     publishes-missed (a .reading) (a .l) (a .c) (a .pool .now) (a .h) (c .missed .result)
     (λ q. no-node (linkNode (at (a .pool .now) (a .h) q) (a .l)) (not (queueEmpty (at (a .pool .now) (a .h) q))) (sym (c .before .before .node-at .ensures) ∙ c .before .if1 .taken))
-        (c .missed .ensures)
+    (c .missed .ensures)
 
 missed-requires-2 : tie.Need-missed-requires-2
 missed-requires-2 c κs = search needs
@@ -101,7 +101,7 @@ returns-3 c =
     let t = c .before .before .retire in
     let z : FollowsReading (a .reading) (λ st. retire st (n .result)) (j .last .0) (awaiting (j .result) (a .reading)) (t .last .0) (t .result) = rw (c4 .await-readers .ensures) at (t .ensures) in
     λ q e. let f : stepFinds (at (a .pool .now) (a .h) q) (a .l) (Publish (a .c)) ≡ true = takes-node (at (a .pool .now) (a .h) q) (linkNode (at (a .pool .now) (a .h) q) (a .l))
-        (rw (← (n .ensures)) (c20 .if1 .left)) (c19 .if2 .left) in (
+    (rw (← (n .ensures)) (c20 .if1 .left)) (c19 .if2 .left) in (
       sym f,
       λ g. published (a .pool .now) (j .last .0) (t .last .0) (a .h) (j .result) (t .result) (a .l) (a .reading) (a .c) (n .result) (c17 .child .result) (c15 .child2 .result) (c13 .word .result)
           (n .ensures) (c17 .child .ensures) (c15 .child2 .ensures) (λ q. c13 .word .ensures) (λ q. j .ensures q ∙ rw (k .ensures q)) z q e,

@@ -10,10 +10,11 @@ use Rattle.trace.proofs.run.Lts as lts
 use Rattle.session.proofs.advance.Reads as advance-reads
 use Rattle.session.proofs.left.Reads as left-reads
 use Rattle.trace.proofs.write_out.Reads as write-out-reads
+use Rattle.spec.specs.Numbers.{poolLimit}
 
 abbrev Inv-loop : tie.InvT-loop
 Inv-loop words₀ out₀ input run₀ words out run = Sound
-    (run .session) × (run .from ≤ length input) × (room ≤ length out) × (length words ≡ 8192) × (length words ≡ length words₀) × (length out ≡ length out₀)
+    (run .session) × (run .from ≤ length input) × (room ≤ length out) × (length words ≡ poolLimit) × (length words ≡ length words₀) × (length out ≡ length out₀)
 
 abbrev μ-loop : tie.MeasureT-loop
 μ-loop words₀ out₀ input run₀ words out run = workLeft (run .session .pending) (length input) (run .from)

@@ -14,10 +14,11 @@ use Rattle.session.proofs.start.Reads as start-reads
 use Rattle.session.proofs.unfinished.Reads as unfinished-reads
 use Rattle.trace.proofs.run.Reads as run-reads
 use Rattle.trace.proofs.turns_left.Reads as turns-left-reads
+use Rattle.spec.specs.Numbers.{poolLimit}
 
 abbrev Inv-loop : tie.InvT-loop
 Inv-loop words₀ input₀ out₀ r₀ turns₀ t9 words input out r turns = Sound
-    (r .session) × (room ≤ length out) × (length words ≡ 8192) × (length words ≡ length words₀) × (length input ≡ length input₀) × (length out ≡ length out₀)
+    (r .session) × (room ≤ length out) × (length words ≡ poolLimit) × (length words ≡ length words₀) × (length input ≡ length input₀) × (length out ≡ length out₀)
 
 abbrev μ-loop : tie.MeasureT-loop
 μ-loop words₀ input₀ out₀ r₀ turns₀ t9 words input out r turns = turns

@@ -8,12 +8,13 @@ use Rattle.traces.proofs.compare_all.Reads as reads
 use Rattle.traces.proofs.compare_all.Lts as lts
 use Rattle.traces.proofs.compare.Reads as compare-reads
 use Rattle.traces.proofs.total.Reads as total-reads
+use Rattle.spec.specs.Numbers.{poolLimit}
 
 abbrev Inv-loop : tie.InvT-loop
 Inv-loop words₀ input₀ want₀ out₀ count left₀ runs₀ same₀ words input want out left runs same =
     (left + runs + runs ≡ count)
     × (same ≤ runs)
-    × (length words ≡ 8192)
+    × (length words ≡ poolLimit)
     × (length words ≡ length words₀)
     × (length input ≡ length input₀)
     × (length want ≡ length want₀)

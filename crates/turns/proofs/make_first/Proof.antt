@@ -51,9 +51,10 @@ returns c =
     let t = c5 .first-step in
     let z = t .ensures in
     let f : stepFinds st (x .link) (x .step) ≡ false = sym (z .0) ∙ not-true _ (c .before .if2 .taken) in
-    let e = writer-missed st (c14 .pre .0) (c14 .pre .1) (c14 .pre .2) f in
-    (c .refuses-writer .ensures .0 ∙ sym (ap (λ (o : Outcome). o .answer) e),
-        rw (c .refuses-writer .ensures .1) (ap (λ (p : List ℕ). state p (a .reg)) (z .2 (not-true _ (c .before .if2 .taken))) ∙ sym (ap (λ (o : Outcome). o .after) e)))
+    let e = writer-missed st (c14 .pre .0) (c14 .pre .1) (c14 .pre .2) f in (
+      c .refuses-writer .ensures .0 ∙ sym (ap (λ (o : Outcome). o .answer) e),
+      rw (c .refuses-writer .ensures .1) (ap (λ (p : List ℕ). state p (a .reg)) (z .2 (not-true _ (c .before .if2 .taken))) ∙ sym (ap (λ (o : Outcome). o .after) e)),
+    )
 
 moved-write-requires : tie.Need-moved-write-requires
 moved-write-requires c κs = search needs
@@ -79,7 +80,7 @@ returns-2 c =
     let f : stepFinds st (x .link) (x .step) ≡ true = sym (z .0) ∙ not-false _ (c .before .before .if2 .left) in
     let e = ap stored (z .1 (not-false _ (c .before .before .if2 .left))) ∙ sym (writer-stores st (c15 .pre .0) (c15 .pre .1) (c15 .pre .2) f) in
     turn-made (t .last .0) (t .result) (a .reg) (x .step) (nodeAt (a .pool .now) (a .reg .root) (x .link)) (a .reg .first) (c .before .moved-write .result) (writerSays (c .stored .result .answer))
-        (state (t .last .0) (c .stored .result .register)) (writerTurn st) e
+    (state (t .last .0) (c .stored .result .register)) (writerTurn st) e
     (rw (← (c11 .publishes .ensures), c10 .if1 .taken) (c .before .moved-write .ensures ∙ rw (c8 .node-at .ensures))) (c .stored .ensures (t .last .0))
 
 first-step-requires-2 : tie.Need-first-step-requires-2
@@ -101,9 +102,10 @@ returns-3 c =
     let t = c5 .first-step2 in
     let z = t .ensures in
     let f : stepFinds st (x .link) (x .step) ≡ false = sym (z .0) ∙ not-true _ (c .before .if3 .taken) in
-    let e = writer-missed st (c12 .pre .0) (c12 .pre .1) (c12 .pre .2) f in
-    (c .refuses-writer2 .ensures .0 ∙ sym (ap (λ (o : Outcome). o .answer) e),
-        rw (c .refuses-writer2 .ensures .1) (ap (λ (p : List ℕ). state p (a .reg)) (z .2 (not-true _ (c .before .if3 .taken))) ∙ sym (ap (λ (o : Outcome). o .after) e)))
+    let e = writer-missed st (c12 .pre .0) (c12 .pre .1) (c12 .pre .2) f in (
+      c .refuses-writer2 .ensures .0 ∙ sym (ap (λ (o : Outcome). o .answer) e),
+      rw (c .refuses-writer2 .ensures .1) (ap (λ (p : List ℕ). state p (a .reg)) (z .2 (not-true _ (c .before .if3 .taken))) ∙ sym (ap (λ (o : Outcome). o .after) e)),
+    )
 
 stored-requires-2 : tie.Need-stored-requires-2
 stored-requires-2 c κs = search needs
@@ -125,7 +127,7 @@ returns-4 c =
     let f : stepFinds st (x .link) (x .step) ≡ true = sym (z .0) ∙ not-false _ (c .before .if3 .left) in
     let e = ap stored (z .1 (not-false _ (c .before .if3 .left))) ∙ sym (writer-stores st (c12 .pre .0) (c12 .pre .1) (c12 .pre .2) f) in
     turn-made (t .last .0) (t .result) (a .reg) (x .step) (nodeAt (a .pool .now) (a .reg .root) (x .link)) (a .reg .first) (a .reg .write) (writerSays (c .stored2 .result .answer))
-        (state (t .last .0) (c .stored2 .result .register)) (writerTurn st) e
+    (state (t .last .0) (c .stored2 .result .register)) (writerTurn st) e
     (rw (← (c8 .publishes .ensures), c7 .if1 .left)) (c .stored2 .ensures (t .last .0))
 
 pub make-first-spec : {M : Type 1} → statement M
