@@ -73,6 +73,7 @@ BY_MODULE = {
     ("listed", "PlainList"): "updated",
     ("Stands", "Reach"): "HasStanding",
     ("Node", "Words"): "InPool",
+    ("Node", "FreeQueue"): "InPool",
 }
 
 # where such a name is defined
@@ -81,6 +82,7 @@ HOMES = {
     "crates/spec/specs/PlainList.antt": "PlainList",
     "crates/readers/specs/Reach.antt": "Reach",
     "crates/laws/specs/Words.antt": "Words",
+    "crates/spec/specs/FreeQueue.antt": "FreeQueue",
 }
 
 TOKEN = re.compile(r"[\w'][\w'\-]*")
