@@ -20,7 +20,6 @@ use Rattle.spec.specs.Register.{State, state}
 use Rattle.spec.specs.Plan.{paintInsertFixup, paintDeleteLevels, paintEnd, paintDeleteFixup, redChild}
 use Rattle.spec.specs.Turn.{endDiag, endZig, endInsert}
 use Rattle.laws.specs.Words.{length-setWord, word-other}
-use Rattle.heap.specs.Rep.{Alike}
 
 -- q has every word of p but the colours
 pub record ColoursOnly (p q : List ℕ) : Type 0 where
@@ -32,9 +31,6 @@ colours-refl p = record { size = refl; words = λ n f h d. refl }
 
 pub colours-trans : {p q r : List ℕ} → ColoursOnly p q → ColoursOnly q r → ColoursOnly p r
 colours-trans a b = record { size = b .size ∙ a .size; words = λ n f h d. b .words n f h d ∙ a .words n f h d }
-
-pub colours-alike : {p q : List ℕ} → ColoursOnly p q → Alike 4 p q
-colours-alike a = record { size = a .size; words = λ n f h. a .words n f (omega arith) (omega arith) }
 
 pub colours-paint : (p : List ℕ) (n c : ℕ) → ColoursOnly p (paint p n c)
 colours-paint p n c = record {
@@ -53,7 +49,7 @@ colours-insertFixup (suc m) (x ∷ y ∷ up) p =
     let b = paint a aunt blackColour in
     colours-trans (colours-paint p (owner x) blackColour) (colours-trans (colours-paint a aunt blackColour) (colours-trans (colours-paint b (owner y) redColour) (colours-insertFixup m up (paint b (owner y) redColour))))
 
-colours-deleteFixup : (m : ℕ) (path : List Link) (p : List ℕ) → ColoursOnly p (paintDeleteLevels m path p)
+pub colours-deleteFixup : (m : ℕ) (path : List Link) (p : List ℕ) → ColoursOnly p (paintDeleteLevels m path p)
 unfolding paintDeleteLevels
 colours-deleteFixup zero path p = colours-refl p
 colours-deleteFixup (suc m) [] p = colours-refl p

@@ -10,7 +10,8 @@ use Rattle.datatypes.specs.declared.Link.{Link}
 use Rattle.datatypes.specs.declared.Link.the-variants.{Root, Left, Right}
 use Rattle.spec.specs.Pool.{word, setWord, isRed, paint, colourWord, redColour, leftWord, rightWord}
 use Rattle.spec.specs.Register.{State, setLink}
-use Rattle.laws.specs.Words.{InPool, word-same, word-other, word-none, set-none}
+use Rattle.spec.specs.FreeQueue.{InPool}
+use Rattle.laws.specs.Words.{word-same, word-other, word-none, set-none}
 use Rattle.sequential.specs.Tree as Seq
 use Rattle.sequential.specs.Tree.{Colour, red, black, colourOf}
 use Rattle.tree.specs.Linked.{Linked, nil, cell, nodes}

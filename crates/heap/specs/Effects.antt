@@ -11,7 +11,7 @@ use Rattle.datatypes.specs.declared.Side.the-variants.{L}
 use Rattle.datatypes.specs.declared.Link.{Link}
 use Rattle.tree.specs.Order.{Ord}
 use Rattle.tree.specs.Sorted.{Ordered}
-use Rattle.tree.specs.Distinct.{_∈_}
+use Rattle.base.specs.Lists.{_∈_}
 use Rattle.tree.specs.Linked.{Node, Linked, nil, cell, at, path}
 use Rattle.tree.specs.LinkedOrder.{bare, ordered-within, into-top}
 use Rattle.tree.specs.Thin.{Thin}

@@ -18,7 +18,8 @@ use Rattle.spec.specs.Numbers.{nodeWords}
 use Rattle.spec.specs.Pool.{word, setWord, child, keyWord, recordWord, linkWord, colourWord, standingWord, holdersWord, nextWord, standingFree, standingRetired}
 use Rattle.spec.specs.Register.{State, withQueue, readingSlots}
 use Rattle.spec.specs.Free.{queueEmpty, takeFree, fillNode, takeNode, freeNode, retire, retireTwo}
-use Rattle.laws.specs.Words.{InPool, length-setWord, word-set}
+use Rattle.spec.specs.FreeQueue.{InPool}
+use Rattle.laws.specs.Words.{length-setWord, word-set}
 use Rattle.tree.specs.Linked.{Linked, at, nodes}
 use Rattle.tree.specs.Occurs.{occ}
 use Rattle.heap.specs.Rep.{Rep, rep-at, Agree, rep-agree, Alike, alike-trans, alike-set}

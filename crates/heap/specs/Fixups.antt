@@ -20,7 +20,8 @@ use Rattle.datatypes.specs.declared.Ending.the-variants.{Balanced, Blacken, Rot
 use Rattle.datatypes.specs.Side.{other, sameSide, linkAt, sideOf, owner-at}
 use Rattle.spec.specs.Pool.{child, isRed}
 use Rattle.spec.specs.Plan.{fixupResult, rotation, insertFixup, redChild, blackSibling}
-use Rattle.laws.specs.Words.{InPool, word-none}
+use Rattle.spec.specs.FreeQueue.{InPool}
+use Rattle.laws.specs.Words.{word-none}
 use Rattle.sequential.specs.Tree as Seq
 use Rattle.sequential.specs.Tree.{Colour, red, black, colourOf}
 use Rattle.tree.specs.Sorted.{NotLeaf, colour-case}

@@ -13,14 +13,14 @@ use Rattle.datatypes.specs.Side.{other, sameSide, owner-at}
 use Rattle.spec.specs.Numbers.{pathBound}
 use Rattle.spec.specs.Register.{State}
 use Rattle.spec.specs.Plan.{fixupResult, endingStores, missing, insertFixup, fixupAfterInsert}
-use Rattle.laws.specs.Words.{InPool}
+use Rattle.spec.specs.FreeQueue.{InPool}
 use Rattle.sequential.specs.Tree as Seq
 use Rattle.sequential.specs.Tree.{Colour, red, black, Tree, mk, colourOf}
 use Rattle.tree.specs.Sorted.{NotLeaf, colour-case, Seen, outer, inner, seen}
 use Rattle.tree.specs.Changes.{Proper}
 use Rattle.tree.specs.RedBlack.{RedBlack}
 use Rattle.tree.specs.Height.{height, height-1023}
-use Rattle.tree.specs.Distinct.{_∈_, in-append}
+use Rattle.base.specs.Lists.{_∈_, in-append}
 use Rattle.tree.specs.Linked.{Node, Linked, nil, cell, at, nodes, at-other}
 use Rattle.tree.specs.Zipper.{Frame, hole, plug, Into}
 use Rattle.tree.specs.Erase.{erase, eraseWay, erase-at}

@@ -34,7 +34,6 @@ pub mod Plans
 pub mod DeletePlans
 pub mod Writes
 pub mod Accept
-pub mod Graft
 pub mod Effects
 pub mod Nodes
 pub mod Settle

@@ -14,7 +14,8 @@ use Rattle.spec.specs.Pool.{paint, blackColour, leftWord, rightWord}
 use Rattle.spec.specs.Register.{State, setLink, withRoot, withHeld}
 use Rattle.spec.specs.Free.{takeNode}
 use Rattle.spec.specs.Turn.{painted, blackRoot}
-use Rattle.laws.specs.Words.{InPool, length-setWord}
+use Rattle.spec.specs.FreeQueue.{InPool}
+use Rattle.laws.specs.Words.{length-setWord}
 use Rattle.sequential.specs.Tree as Seq
 use Rattle.sequential.specs.Tree.{black}
 use Rattle.tree.specs.Linked.{Linked, at, nodes}

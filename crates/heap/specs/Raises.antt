@@ -14,7 +14,7 @@ use Rattle.spec.specs.Pool.{child, paint, blackColour, redColour}
 use Rattle.spec.specs.Register.{State, setLink}
 use Rattle.spec.specs.Free.{retire}
 use Rattle.spec.specs.Turn.{made, painted, blackRoot, risenColour, colourOf, endDiag, diagRaise, endDiagFinds, stepFinds}
-use Rattle.laws.specs.Words.{InPool}
+use Rattle.spec.specs.FreeQueue.{InPool}
 use Rattle.sequential.specs.Tree as Seq
 use Rattle.sequential.specs.Tree.{Colour, red, black, Tree, mk}
 use Rattle.sequential.specs.Delete.{blackOuter}

@@ -11,7 +11,8 @@ use Rattle.datatypes.specs.declared.Side.the-variants.{L, R}
 use Rattle.datatypes.specs.Side.{other}
 use Rattle.spec.specs.Numbers.{nodeWords}
 use Rattle.spec.specs.Pool.{word, setWord, child, keyWord, recordWord}
-use Rattle.laws.specs.Words.{InPool, length-setWord, word-other}
+use Rattle.spec.specs.FreeQueue.{InPool}
+use Rattle.laws.specs.Words.{length-setWord, word-other}
 use Rattle.tree.specs.Linked.{Node, Linked, nil, cell, at, nodes}
 use Rattle.tree.specs.Occurs.{one-same, one-other, occ, occ-append}
 

@@ -10,47 +10,24 @@ use Prim.Native.Nat.{ℕ, _<_}
 use Rattle.datatypes.specs.declared.Side.{Side}
 use Rattle.datatypes.specs.declared.Side.the-variants.{L, R}
 use Rattle.datatypes.specs.Side.{other}
+use Rattle.base.specs.Lists.{_∈_, Distinct}
 use Rattle.spec.specs.Numbers.{nodeWords}
 use Rattle.spec.specs.Pool.{word, setWord, keyWord, recordWord, linkWord, colourWord, standingWord, holdersWord, nextWord}
 use Rattle.spec.specs.Register.{State, withQueue}
 use Rattle.spec.specs.Free.{takeFree, fillNode, takeNode, freeNode}
-use Rattle.laws.specs.Words.{InPool, length-setWord, word-same, word-other}
-
--- n is not in a list; a list without repetition
-abbrev pub NotIn : ℕ → List ℕ → Type 0
-NotIn n [] = Unit {0}
-NotIn n (m ∷ l) = (n ≢ m) × NotIn n l
-
-abbrev pub Distinct : List ℕ → Type 0
-Distinct [] = Unit {0}
-Distinct (m ∷ l) = NotIn m l × Distinct l
-
--- from node n the next free words lead through the list and end with 0
-abbrev pub Chain : List ℕ → ℕ → List ℕ → Type 0
-Chain p n [] = n ≡ 0
-Chain p n (m ∷ l) = (n ≡ m) × InPool p m × Chain p (word p m nextWord) l
-
--- the last of a list, 0 if it is empty
-abbrev pub lastOf : List ℕ → ℕ
-lastOf [] = 0
-lastOf (m ∷ []) = m
-lastOf (m ∷ k ∷ l) = lastOf (k ∷ l)
-
--- the queue holds these nodes in this order
-pub record Queue (st : State) (l : List ℕ) : Type 0 where
-  pub chain : Chain (st .pool) (st .register .first) l
-  pub last : st .register .last ≡ lastOf l
+use Rattle.spec.specs.FreeQueue.{InPool, Chain, lastOf, Queue}
+use Rattle.laws.specs.Words.{length-setWord, word-same, word-other}
 
 node-kept : (p : List ℕ) (m n f v : ℕ) → InPool p m → InPool (setWord p n f v) m
 node-kept p m n f v h = record { low = h .low; high = rw length-setWord (h .high) }
 
 -- a word of a node that is not in the list
-pub chain-outside : (p : List ℕ) (d f v a : ℕ) (l : List ℕ) → f < nodeWords → NotIn d l → Chain p a l → Chain (setWord p d f v) a l
+pub chain-outside : (p : List ℕ) (d f v a : ℕ) (l : List ℕ) → f < nodeWords → ¬ (d ∈ l) → Chain p a l → Chain (setWord p d f v) a l
 chain-outside p d f v a [] hf out h = h
 chain-outside p d f v a (m ∷ l) hf out h = (
   h .0,
   node-kept p m d f v (h .1),
-  rw (word-other p d m f nextWord v hf (omega arith) (inl (out .0))) (chain-outside p d f v (word p m nextWord) l hf (out .1) (h .2)),
+  rw (word-other p d m f nextWord v hf (omega arith) (inl (λ e. out (inl e)))) (chain-outside p d f v (word p m nextWord) l hf (λ i. out (inr i)) (h .2)),
 )
 
 -- any word but next free
@@ -62,26 +39,27 @@ chain-word p d f v a (m ∷ l) hf h = (
   rw (word-other p d m f nextWord v (omega arith) (omega arith) (inr (omega arith))) (chain-word p d f v (word p m nextWord) l hf (h .2)),
 )
 
-link-low : (s : Side) → linkWord s < nextWord
+-- the links are among the first four words
+pub link-low : (s : Side) → linkWord s < colourWord
 link-low L = omega arith
 link-low R = omega arith
 
-fill-outside : (p : List ℕ) (n k v : ℕ) (s : Side) (x y c a : ℕ) (l : List ℕ) → NotIn n l → Chain p a l → Chain (fillNode p n k v s x y c) a l
+fill-outside : (p : List ℕ) (n k v : ℕ) (s : Side) (x y c a : ℕ) (l : List ℕ) → ¬ (n ∈ l) → Chain p a l → Chain (fillNode p n k v s x y c) a l
 unfolding fillNode
 fill-outside p n k v s x y c a l out h =
     chain-outside _ n nextWord 0 a l (omega arith) out
     (chain-word _ n holdersWord 0 a l (omega arith)
     (chain-word _ n standingWord _ a l (omega arith)
     (chain-word _ n colourWord c a l (omega arith)
-    (chain-word _ n (linkWord (other s)) y a l (link-low (other s))
-    (chain-word _ n (linkWord s) x a l (link-low s) (chain-word _ n recordWord v a l (omega arith) (chain-word p n keyWord k a l (omega arith) h)))))))
+    (chain-word _ n (linkWord (other s)) y a l (omega (arith, link-low (other s)))
+    (chain-word _ n (linkWord s) x a l (omega (arith, link-low s)) (chain-word _ n recordWord v a l (omega arith) (chain-word p n keyWord k a l (omega arith) h)))))))
 
 -- Take: the first node is taken and filled, the rest stays in order.
 last-after : (p : List ℕ) (n m z : ℕ) (l : List ℕ) → Chain p n l → z ≡ lastOf (m ∷ l) → cond (eqb n 0) 0 z ≡ lastOf l
 last-after p n m z [] h e = rw (eq-eqb n 0 h)
 last-after p n m z (k ∷ l) h e = rw (ne-eqb n 0 (let a = h .0 in let b = h .1 .low in omega arith)) e
 
-pub take-queue : (st : State) (n : ℕ) (l : List ℕ) (k v : ℕ) (s : Side) (x y c : ℕ) → Queue st (n ∷ l) → NotIn n l → Queue (takeNode st k v s x y c) l
+pub take-queue : (st : State) (n : ℕ) (l : List ℕ) (k v : ℕ) (s : Side) (x y c : ℕ) → Queue st (n ∷ l) → ¬ (n ∈ l) → Queue (takeNode st k v s x y c) l
 unfolding takeNode takeFree withQueue
 take-queue st n l k v s x y c q out =
     let first = q .chain .0 in
@@ -92,15 +70,15 @@ take-queue st n l k v s x y c q out =
     }
 
 -- Free: a node that is not in the queue goes to its end.
-not-last : (m k : ℕ) (l : List ℕ) → NotIn m (k ∷ l) → lastOf (k ∷ l) ≢ m
-not-last m k [] o = let d = o .0 in omega arith
-not-last m k (j ∷ l) o = not-last m j l (o .1)
+not-last : (m k : ℕ) (l : List ℕ) → ¬ (m ∈ (k ∷ l)) → lastOf (k ∷ l) ≢ m
+not-last m k [] o e = o (inl (sym e))
+not-last m k (j ∷ l) o e = not-last m j l (λ i. o (inr i)) e
 
-chain-end : (p : List ℕ) (a n m : ℕ) (l : List ℕ) → Distinct (m ∷ l) → NotIn n (m ∷ l) → InPool p n → Chain p a (m ∷ l)
+chain-end : (p : List ℕ) (a n m : ℕ) (l : List ℕ) → Distinct (m ∷ l) → ¬ (n ∈ (m ∷ l)) → InPool p n → Chain p a (m ∷ l)
     → Chain (setWord (setWord p (lastOf (m ∷ l)) nextWord n) n nextWord 0) a ((m ∷ l) ++ n ∷ [])
 chain-end p a n m [] d out hn h =
     let q = setWord p m nextWord n in
-    let o = out .0 in (
+    let o : n ≢ m = λ e. out (inl e) in (
       h .0,
       node-kept q m n nextWord 0 (node-kept p m m nextWord n (h .1)),
       (
@@ -114,8 +92,8 @@ chain-end p a n m (k ∷ l) d out hn h =
     let q = setWord p z nextWord n in (
       h .0,
       node-kept q m n nextWord 0 (node-kept p m z nextWord n (h .1)),
-      rw (word-other q n m nextWord nextWord 0 (omega arith) (omega arith) (inl (out .0)), word-other p z m nextWord nextWord n (omega arith) (omega arith) (inl (not-last m k l (d .0))))
-          (chain-end p (word p m nextWord) n k l (d .1) (out .1) hn (h .2)),
+      rw (word-other q n m nextWord nextWord 0 (omega arith) (omega arith) (inl (λ e. out (inl e))), word-other p z m nextWord nextWord n (omega arith) (omega arith) (inl (not-last m k l (d .0))))
+          (chain-end p (word p m nextWord) n k l (d .1) (λ i. out (inr i)) hn (h .2)),
     )
 
 last-append : (n : ℕ) (l : List ℕ) → n ≡ lastOf (l ++ n ∷ [])
@@ -123,7 +101,7 @@ last-append n [] = refl
 last-append n (m ∷ []) = refl
 last-append n (m ∷ k ∷ l) = last-append n (k ∷ l)
 
-pub free-queue : (st : State) (n : ℕ) (l : List ℕ) → Queue st l → Distinct l → NotIn n l → InPool (st .pool) n → Queue (freeNode st n) (l ++ n ∷ [])
+pub free-queue : (st : State) (n : ℕ) (l : List ℕ) → Queue st l → Distinct l → ¬ (n ∈ l) → InPool (st .pool) n → Queue (freeNode st n) (l ++ n ∷ [])
 unfolding freeNode withQueue
 free-queue st n [] q d out hn =
     let e = q .chain in

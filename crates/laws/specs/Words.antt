@@ -12,11 +12,7 @@ use native.Mathlib.Omega.{arith}
 use Prim.Native.Nat.{ℕ, _-_, _*_, _<_, _≤_}
 use Rattle.spec.specs.Numbers.{nodeWords}
 use Rattle.spec.specs.Pool.{place, word, setWord}
-
--- n is a node of the pool
-pub record InPool (p : List ℕ) (n : ℕ) : Type 0 where
-  pub low : 1 ≤ n
-  pub high : n * nodeWords ≤ length p
+use Rattle.spec.specs.FreeQueue.{InPool}
 
 pub length-setWord : (p : List ℕ) (n f v : ℕ) → length (setWord p n f v) ≡ length p
 unfolding setWord

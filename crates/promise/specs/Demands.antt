@@ -1,6 +1,6 @@
 -- Demands 2 and 3 as statements about whole lists of calls, in the words of 01. To check them no proof need be read: what they name is
--- defined in crate `spec` (the calls, the plain list), in crate `sequential` (the sequential tree), in Run, in laws (Queue, Distinct and
--- Chain in Queue; Node in Words) and in tree (`_∈_` in Distinct).
+-- defined in crate `spec` (the calls, the plain list, the free queue), in crate `sequential` (the sequential tree), in Run, and in crate
+-- `base` (Lists: `_∈_`, Distinct).
 use Prim.Native.Nat.{ℕ, _+_, _<_, _≤_}
 use mathlib.Core.Path.{_≡_}
 use mathlib.Core.Logic.{_≢_, _↔_}
@@ -16,26 +16,26 @@ use Rattle.datatypes.specs.declared.Step.{Step}
 use Rattle.datatypes.specs.declared.Step.the-variants.{Vacant, Insert, DiagLower, DiagRaise, ZigLowerA, ZigLowerC, ZigRaise, Unlink, Adopt, Replace, Publish, Detach}
 use Rattle.sequential.specs.Tree.{Colour, red, black, Tree, leaf, node}
 use Rattle.sequential.specs.Delete.{changedBy}
-use Rattle.tree.specs.Distinct.{_∈_}
+use Rattle.base.specs.Lists.{_∈_, Distinct}
 use Rattle.spec.specs.Numbers.{slots, mostStores}
 use Rattle.spec.specs.Pool.{word, child, nodes, keyWord, recordWord, colourWord, standingWord, standingFree, blackColour, redColour}
 use Rattle.spec.specs.Register.{State, state, withReader, readerOf, storeOf, hasSlot}
-use Rattle.spec.specs.Calls.{Answer, go, absent, found, more, done, wait, refused, Outcome, Call, writing, turning, call, reading, writeInHand, readerStep}
+use Rattle.spec.specs.Calls.{Answer, go, absent, found, more, done, wait, refused, Outcome, Call, writing, call, reading, writeInHand, readerStep}
 use Rattle.spec.specs.PlainList.{carriedOut, noticeOf, recordFor, acceptedWrites}
-use Rattle.laws.specs.Queue.{Queue, Distinct}
-use Rattle.promise.specs.Run.{callAt, indexAfter, plainAfter, ticketsAfter, Gives, Lookup}
+use Rattle.spec.specs.FreeQueue.{Queue}
+use Rattle.promise.specs.Run.{Start, justSetUp, Reads, callAt, indexAfter, plainAfter, ticketsAfter, Gives, Turns, Reading, Lookup}
 
 -- 'Lookup': found means that at one of the lookup's moments the plain list has the wanted key with just this record, absent that at one of
 -- them it doesn't have the key.
-abbrev pub AtOneMoment : ℕ → List Call → ℕ → ℕ → ℕ → Option ℕ → Type 0
-AtOneMoment N cs k i j o = (t : ℕ) × (i < t) × (t ≤ j + 1) × (recordFor k (ticketsAfter N cs t) ≡ o)
+abbrev pub AtOneMoment : Start → List Call → ℕ → ℕ → ℕ → Option ℕ → Type 0
+AtOneMoment S cs k i j o = (t : ℕ) × (i < t) × (t ≤ j + 1) × (recordFor k (ticketsAfter S cs t) ≡ o)
 
-pub record LookupsRight (N : ℕ) (cs : List Call) : Type 0 where
-  pub whenFound : (s k i j v : ℕ) → Lookup N cs s k i j → Gives N cs j (turning s) (found v) → AtOneMoment N cs k i j (some v)
-  pub whenAbsent : (s k i j : ℕ) → Lookup N cs s k i j → Gives N cs j (turning s) absent → AtOneMoment N cs k i j none
+pub record LookupsRight (S : Start) (cs : List Call) : Type 0 where
+  pub whenFound : (s k i j v : ℕ) → Lookup S cs s k i j → Turns S cs s j (found v) → AtOneMoment S cs k i j (some v)
+  pub whenAbsent : (s k i j : ℕ) → Lookup S cs s k i j → Turns S cs s j absent → AtOneMoment S cs k i j none
   -- in its lookup a slot reads, with the wanted key; and a reading slot is in a lookup
-  pub reads : (s k i j : ℕ) → Lookup N cs s k i j → (s < slots) × (reading (indexAfter N cs j) s ≡ true) × (readerOf (indexAfter N cs j .register) s .key ≡ k)
-  pub inLookup : (s j : ℕ) → s < slots → reading (indexAfter N cs j) s ≡ true → (k : ℕ) × (i : ℕ) × Lookup N cs s k i j
+  pub reads : (s k i j : ℕ) → Reading S cs s k i j → (s < slots) × Reads (indexAfter S cs j) s × (readerOf (indexAfter S cs j .register) s .key ≡ k)
+  pub inLookup : (s j : ℕ) → s < slots → Reads (indexAfter S cs j) s → (k : ℕ) × (i : ℕ) × Reading S cs s k i j
 
 -- 'Holds': going from the root as a reader's turns do, with no other call between. It is the reader's own step: what it answers with the
 -- key k at node n (0 before any), made of the same pool and root again and again. Which slot's record it goes by does not matter: slot 0.
@@ -52,9 +52,9 @@ abbrev pub answerOf : Option ℕ → Answer
 answerOf none = absent
 answerOf (some v) = found v
 
-pub record TreeHolds (N : ℕ) (cs : List Call) : Type 0 where
-  pub everyKey : (j k : ℕ) → Going (indexAfter N cs j) k 0 (answerOf (recordFor k (ticketsAfter N cs j)))
-  pub keysHeld : (j : ℕ) → indexAfter N cs j .register .held ≡ length (ticketsAfter N cs j)
+pub record TreeHolds (S : Start) (cs : List Call) : Type 0 where
+  pub everyKey : (j k : ℕ) → Going (indexAfter S cs j) k 0 (answerOf (recordFor k (ticketsAfter S cs j)))
+  pub keysHeld : (j : ℕ) → indexAfter S cs j .register .held ≡ length (ticketsAfter S cs j)
 
 -- 'Reach': left and right links, as they stand, lead from node n to node m
 pub data Leads (p : List ℕ) : ℕ → ℕ → Type 0 where
@@ -69,7 +69,7 @@ origin st s =
 
 pub record Reaches (st : State) (s m : ℕ) : Type 0 where
   pub slot : s < slots
-  pub reads : reading st s ≡ true
+  pub reads : Reads st s
   pub leads : Leads (st .pool) (origin st s) m
 
 -- A call takes a node if it is a writer's turn that makes a store whose step takes one ('The writer's stores': a new node, a copy):
@@ -96,17 +96,17 @@ pub record Takes (st : State) (c : Call) (m : ℕ) : Type 0 where
 
 -- A node that a reading slot reached at a moment of its lookup (after t calls) doesn't stand free and is not taken by any call, from that
 -- moment until the lookup ends.
-pub record NodesKept (N : ℕ) (cs : List Call) : Type 0 where
-  pub notFree : (s k i j t m u : ℕ) → Lookup N cs s k i j → i < t → Reaches (indexAfter N cs t) s m → t ≤ u → u ≤ j
-      → word (indexAfter N cs u .pool) m standingWord ≢ standingFree
-  pub notTaken : (s k i j t m u : ℕ) (c : Call) → Lookup N cs s k i j → i < t → Reaches (indexAfter N cs t) s m → t ≤ u → u < j → callAt cs u ≡ some c
-      → ¬ (Takes (indexAfter N cs u) c m)
+pub record NodesKept (S : Start) (cs : List Call) : Type 0 where
+  pub notFree : (s k i j t m u : ℕ) → Reading S cs s k i j → i < t → Reaches (indexAfter S cs t) s m → t ≤ u → u ≤ j
+      → word (indexAfter S cs u .pool) m standingWord ≢ standingFree
+  pub notTaken : (s k i j t m u : ℕ) (c : Call) → Reading S cs s k i j → i < t → Reaches (indexAfter S cs t) s m → t ≤ u → u < j → callAt cs u ≡ some c
+      → ¬ (Takes (indexAfter S cs u) c m)
 
 -- Demand 3 is a single claim about the whole list of calls.
-pub record Demand3 (N : ℕ) (cs : List Call) : Type 0 where
-  pub lookups : LookupsRight N cs
-  pub holds : TreeHolds N cs
-  pub kept : NodesKept N cs
+pub record Demand3 (S : Start) (cs : List Call) : Type 0 where
+  pub lookups : LookupsRight S cs
+  pub holds : TreeHolds S cs
+  pub kept : NodesKept S cs
 
 -- Demand 2. The link value a holds, in the pool, a tree of this shape with these keys, records and colours.
 abbrev pub colourNumber : Colour → ℕ
@@ -131,33 +131,39 @@ pub record FreeRight (st : State) : Type 0 where
   pub standing : (n : ℕ) → (n ∈ queue) ↔ ((1 ≤ n) × (n ≤ nodes (st .pool)) × (word (st .pool) n standingWord ≡ standingFree))
   pub counted : st .register .free ≡ length queue
 
--- whenever no write is in hand the tree is the sequential tree of the writes accepted, in order
-pub record Demand2 (N : ℕ) (cs : List Call) : Type 0 where
-  pub atRest : (j : ℕ) → writeInHand (indexAfter N cs j) ≡ false
-      → Stands (indexAfter N cs j .pool) (indexAfter N cs j .register .root) (changedBy leaf (acceptedWrites (plainAfter N cs j)))
-  pub free : (j : ℕ) → FreeRight (indexAfter N cs j)
+-- whenever no write is in hand the tree is the sequential tree of the writes accepted, in order, from the start's on
+pub record Demand2 (S : Start) (cs : List Call) : Type 0 where
+  pub atRest : (j : ℕ) → writeInHand (indexAfter S cs j) ≡ false
+      → Stands (indexAfter S cs j .pool) (indexAfter S cs j .register .root) (changedBy (S .tree) (acceptedWrites (plainAfter S cs j)))
+  pub free : (j : ℕ) → FreeRight (indexAfter S cs j)
   -- a write is done after at most seven stores
-  pub soon : (j : ℕ) (l : Link) (n : ℕ) → Gives N cs j writing (more l n) → plainAfter N cs (j + 1) .made < mostStores
+  pub soon : (j : ℕ) (l : Link) (n : ℕ) → Gives S cs j writing (more l n) → plainAfter S cs (j + 1) .made < mostStores
   -- a turn answers wait only while an awaited slot is reading
-  pub waits : (j : ℕ) → Gives N cs j writing wait
-      → (s : ℕ) × (s < slots) × (hasSlot (indexAfter N cs j .register .awaited) s ≡ true) × (reading (indexAfter N cs j) s ≡ true)
+  pub waits : (j : ℕ) → Gives S cs j writing wait
+      → (s : ℕ) × (s < slots) × (hasSlot (indexAfter S cs j .register .awaited) s ≡ true) × Reads (indexAfter S cs j) s
   -- with no awaited slot reading, a turn of a write in hand makes a store
-  pub goesOn : (j : ℕ) → writeInHand (indexAfter N cs j) ≡ true
-      → ((s : ℕ) → s < slots → hasSlot (indexAfter N cs j .register .awaited) s ≡ true → reading (indexAfter N cs j) s ≡ false)
-      → noticeOf (call (indexAfter N cs j) writing .answer) ≡ carriedOut
+  pub goesOn : (j : ℕ) → writeInHand (indexAfter S cs j) ≡ true
+      → ((s : ℕ) → s < slots → hasSlot (indexAfter S cs j .register .awaited) s ≡ true → reading (indexAfter S cs j) s ≡ false)
+      → noticeOf (call (indexAfter S cs j) writing .answer) ≡ carriedOut
   -- a write that answers done is no longer in hand
-  pub finished : (j : ℕ) (l : Link) (n : ℕ) → Gives N cs j writing (done l n) → writeInHand (indexAfter N cs (j + 1)) ≡ false
+  pub finished : (j : ℕ) (l : Link) (n : ℕ) → Gives S cs j writing (done l n) → writeInHand (indexAfter S cs (j + 1)) ≡ false
   -- the pool keeps its N nodes
-  pub size : (j : ℕ) → nodes (indexAfter N cs j .pool) ≡ N
+  pub size : (j : ℕ) → nodes (indexAfter S cs j .pool) ≡ S .size
 
--- 'When a call is turned down': no run from a fresh index meets 2 or 12; and the pool keeps its length, so none meets 1.
-pub record NeverMet (N : ℕ) (cs : List Call) : Type 0 where
-  pub range : (j : ℕ) (c : Call) → ¬ (Gives N cs j c (refused 2))
-  pub steps : (j : ℕ) (c : Call) → ¬ (Gives N cs j c (refused 12))
-  pub lent : (j : ℕ) (c : Call) → ¬ (Gives N cs j c (refused 1))
+-- 'When a call is turned down': no run from a fresh index meets 2 or 12; and the pool keeps its length, so none meets 1. From any other
+-- sound start likewise.
+pub record NeverMet (S : Start) (cs : List Call) : Type 0 where
+  pub range : (j : ℕ) (c : Call) → ¬ (Gives S cs j c (refused 2))
+  pub steps : (j : ℕ) (c : Call) → ¬ (Gives S cs j c (refused 12))
+  pub lent : (j : ℕ) (c : Call) → ¬ (Gives S cs j c (refused 1))
 
--- What theorem `promise` (crate joined) says of every N from 8 to 1,023 and every list of calls.
-pub record Promise (N : ℕ) (cs : List Call) : Type 0 where
-  pub demand2 : Demand2 N cs
-  pub demand3 : Demand3 N cs
-  pub never : NeverMet N cs
+-- What holds of every list of calls from a start; for which starts: theorem `promise-from` (crate joined).
+pub record PromiseFrom (S : Start) (cs : List Call) : Type 0 where
+  pub demand2 : Demand2 S cs
+  pub demand3 : Demand3 S cs
+  pub never : NeverMet S cs
+
+-- What theorem `promise` (crate joined) says of every N from 8 to 1,023 and every list of calls: they start on a pool of N nodes just set up,
+-- with no ticket and the tree `leaf`.
+abbrev pub Promise : ℕ → List Call → Type 0
+Promise N cs = PromiseFrom (justSetUp N) cs

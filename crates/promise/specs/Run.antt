@@ -1,13 +1,26 @@
--- 01, 'What demand 3 speaks of': the calls start on a pool of any N just set up, with any arguments. What stands after each of a list of
--- calls, what each call answered, and the plain list beside it.
+-- 01, 'What demand 3 speaks of': a list of calls, made one after the other from a start. What stands after each of them, what each call
+-- answered, and the plain list beside it; what a lookup is. 01's runs start on a pool of any N just set up, with any arguments.
 use Prim.Native.Nat.{ℕ, zero, suc, _<_}
 use mathlib.Core.Path.{_≡_}
 use mathlib.Core.Logic.{_⊎_}
+use mathlib.Core.Bool.{true}
 use mathlib.Core.List.{List, [], _∷_}
 use mathlib.Core.Option.{Option, none, some}
+use Rattle.sequential.specs.Tree.{Tree, leaf}
 use Rattle.spec.specs.Register.{State, fresh}
-use Rattle.spec.specs.Calls.{Answer, ok, absent, found, Call, beginning, turning, givingUp, call}
-use Rattle.spec.specs.PlainList.{Ticket, Plain, noTicket, noticeOf, feed}
+use Rattle.spec.specs.Calls.{Answer, ok, absent, found, Call, beginning, turning, givingUp, call, reading}
+use Rattle.spec.specs.PlainList.{Ticket, Plain, noneAccepted, noticeOf, feed}
+
+-- Where a run starts: N, pool and register, the sequential tree that stands there, and the plain list's tickets.
+pub record Start : Type 0 where
+  pub size : ℕ
+  pub index : State
+  pub tree : Tree
+  pub tickets : List Ticket
+
+-- a pool of N nodes just set up: no ticket, no tree
+abbrev pub justSetUp : ℕ → Start
+justSetUp N = record { size = N; index = fresh N; tree = leaf; tickets = [] }
 
 -- Pool and register as the calls leave them, and the plain list, which hears of each call only its arguments, whether it was refused,
 -- and of a writer's turn whether it answered wait.
@@ -15,8 +28,8 @@ pub record Moment : Type 0 where
   pub index : State
   pub plain : Plain
 
-abbrev pub outset : ℕ → Moment
-outset N = record { index = fresh N; plain = noTicket }
+abbrev pub outset : Start → Moment
+outset S = record { index = S .index; plain = noneAccepted (S .tree) (S .tickets) }
 
 abbrev pub thenCall : Moment → Call → Moment
 thenCall m c =
@@ -34,11 +47,15 @@ abbrev pub thenPerhaps : Moment → Option Call → Moment
 thenPerhaps m none = m
 thenPerhaps m (some c) = thenCall m c
 
--- The run of a list of calls on a pool of N nodes just set up.
-module _ (N : ℕ) (cs : List Call) where
+-- slot s is reading
+abbrev pub Reads : State → ℕ → Type 0
+Reads st s = reading st s ≡ true
+
+-- The run of a list of calls from a start.
+module _ (S : Start) (cs : List Call) where
   -- what stands after j calls
   unfoldable pub after : ℕ → Moment
-  after zero = outset N
+  after zero = outset S
   after (suc j) = thenPerhaps (after j) (callAt cs j)
 
   abbrev pub indexAfter : ℕ → State
@@ -54,14 +71,25 @@ module _ (N : ℕ) (cs : List Call) where
   abbrev pub Gives : ℕ → Call → Answer → Type 0
   Gives j c a = (callAt cs j ≡ some c) × (call (indexAfter j) c .answer ≡ a)
 
-  -- Lookup. It is a slot's, from an accepted begin to that slot's turn that answers found or absent, or to its accepted give up.
-  -- Call j ends the lookup of slot s:
-  abbrev pub Ends : ℕ → ℕ → Type 0
-  Ends s j = Gives j (turning s) absent ⊎ (((v : ℕ) × Gives j (turning s) (found v)) ⊎ Gives j (givingUp s) ok)
+  -- Call i is an accepted begin of slot s with the key k.
+  abbrev pub Begins : ℕ → ℕ → ℕ → Type 0
+  Begins s k i = Gives i (beginning s k) ok
 
-  -- Call i begins a lookup of the key k by slot s, which has not ended when call j comes. So its moments up to then are those after
+  -- Call j is a turn of slot s and answers a.
+  abbrev pub Turns : ℕ → ℕ → Answer → Type 0
+  Turns s j a = Gives j (turning s) a
+
+  -- Call j ends the reading of slot s: its turn that answers found or absent, or its accepted give up.
+  abbrev pub Ends : ℕ → ℕ → Type 0
+  Ends s j = Turns s j absent ⊎ (((v : ℕ) × Turns s j (found v)) ⊎ Gives j (givingUp s) ok)
+
+  -- Call i begins a reading of slot s with the key k, which has not ended when call j comes. So its moments up to then are those after
   -- i + 1, i + 2, .. j calls; and if call j ends it, that after j + 1 calls too.
-  pub record Lookup (s k i j : ℕ) : Type 0 where
-    pub begins : Gives i (beginning s k) ok
+  pub record Reading (s k i j : ℕ) : Type 0 where
+    pub begins : Begins s k i
     pub later : i < j
     pub lasts : (t : ℕ) → i < t → t < j → ¬ (Ends s t)
+
+  -- Lookup. It is a slot's, from an accepted begin to that slot's turn that answers found or absent, or to its accepted give up.
+  abbrev pub Lookup : ℕ → ℕ → ℕ → ℕ → Type 0
+  Lookup s k i j = Reading s k i j

@@ -18,7 +18,8 @@ use Rattle.datatypes.specs.declared.Write.{Write}
 use Rattle.datatypes.specs.declared.Reader.{Reader}
 use Rattle.spec.specs.Numbers.{slots, allSlots, pathBound, mostStores}
 use Rattle.spec.specs.Pool.{word, leftWord, rightWord, colourWord, standingWord, holdersWord, nextWord, nodeInRange, poolInRange}
-use Rattle.spec.specs.Register.{State, state, vacant, readerOf, storeOf, withReader, withWrite, linkInRange, nodeNumber, stepInRange, storeInRange, readerInRange, registerInRange, writeOf, lessFirst}
+use Rattle.spec.specs.Register.{State, state, vacant, readerOf, storeOf, withReader, withWrite, linkInRange, nodeNumber, stepInRange}
+use Rattle.spec.specs.Register.{storeInRange, readerInRange, registerInRange, writeOf, lessFirst}
 use Rattle.spec.specs.Free.{endReading}
 use Rattle.spec.specs.Search.{towards}
 use Rattle.spec.specs.Plan.{Plan}
@@ -137,7 +138,8 @@ ranged-end capacity st s h = record { within = within-end capacity st s (h .with
 
 load-fits : (capacity : ℕ) (st : State) (s n : ℕ) → Within capacity st → Loads st s n → n ≤ capacity
 load-fits capacity st s n h (atRoot a e) = rw e (h .root)
-load-fits capacity st s n h (atNode a b e) = rw e (child-fits capacity (st .pool) (towards (st .pool) (readerOf (st .register) s .key) (readerOf (st .register) s .node)) (readerOf (st .register) s .node) (h .fits))
+load-fits capacity st s n h (atNode a b e) = rw e (child-fits capacity (st .pool) (towards (st .pool) (readerOf (st .register) s .key) (readerOf (st .register) s .node))
+    (readerOf (st .register) s .node) (h .fits))
 
 pub ranged-next : (capacity : ℕ) (st : State) (c : Call) (o : Outcome) → CallCase st c o → Ranged capacity st → Ranged capacity (o .after)
 ranged-next capacity st c o (refuses d x) h = h

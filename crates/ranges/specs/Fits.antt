@@ -10,6 +10,7 @@ use lib.Dec.{eqb, ltb}
 use lib.ListN.{length, getD, set, length-set}
 use lib.Seq.{getD-set-same, getD-set-other}
 use borrow.Author.Tests.{lt-ltb, le-ltb}
+use Rattle.base.specs.Lists.{getD-past}
 use Rattle.base.specs.Walk.{cond-both, fold-keeps}
 use Rattle.datatypes.specs.declared.Side.{Side}
 use Rattle.datatypes.specs.declared.Side.the-variants.{L, R}
@@ -19,13 +20,15 @@ use Rattle.datatypes.specs.declared.Reader.{Reader}
 use Rattle.datatypes.specs.declared.Write.{Write}
 use Rattle.datatypes.specs.Side.{other}
 use Rattle.spec.specs.Numbers.{nodeWords, allSlots}
-use Rattle.spec.specs.Pool.{place, word, setWord, child, paint, nodes, keyWord, recordWord, leftWord, rightWord, linkWord, colourWord, standingWord, holdersWord, nextWord, standingFree, standingLinked, standingRetired}
-use Rattle.spec.specs.Register.{State, state, noReader, readerOf, withRoot, withQueue, withHeld, withReader, withAwaited, withWrite, countUp, countDown, nodeAt, linkNode, setLink, dropSlot, readingSlots}
+use Rattle.spec.specs.Pool.{place, word, setWord, child, paint, nodes, keyWord, recordWord, leftWord, rightWord, linkWord}
+use Rattle.spec.specs.Pool.{colourWord, standingWord, holdersWord, nextWord, standingFree, standingLinked, standingRetired}
+use Rattle.spec.specs.Register.{State, state, noReader, readerOf, withRoot, withQueue, withHeld, withReader, withAwaited, withWrite, countUp}
+use Rattle.spec.specs.Register.{countDown, nodeAt, linkNode, setLink, dropSlot, readingSlots}
 use Rattle.spec.specs.Free.{queueEmpty, takeFree, fillNode, takeNode, freeNode, retire, retireTwo, release, endReading}
 use Rattle.laws.specs.Words.{length-setWord, set-none, word-at, set-at, word-other}
+use Rattle.laws.specs.Queue.{link-low}
 use Rattle.laws.specs.Slots.{drop-le}
 use Rattle.readers.specs.Marks.{reading-below}
-use Rattle.readers.specs.Words.{past-end}
 
 -- word f may be v, with N = top
 pub record Fit (capacity f v : ℕ) : Type 0 where
@@ -40,10 +43,11 @@ abbrev pub Fits : ℕ → List ℕ → Type 0
 Fits capacity p = (n f : ℕ) → f < nodeWords → Fit capacity f (word p n f)
 
 pub fit-zero : (capacity f : ℕ) → Fit capacity f 0
-fit-zero capacity f = record { left = λ _. omega arith; right = λ _. omega arith; colour = λ _. omega arith; standing = λ _. omega arith; holders = λ _. omega arith; next = λ _. omega arith }
+fit-zero capacity f = omega arith
 
 -- a word after a set: the old one, the new one, or 0 past the end
-pub set-cases : (p : List ℕ) (d m f g v : ℕ) → f < nodeWords → g < nodeWords → (word (setWord p d f v) m g ≡ word p m g) ⊎ (((f ≡ g) × (word (setWord p d f v) m g ≡ v)) ⊎ (word (setWord p d f v) m g ≡ 0))
+pub set-cases : (p : List ℕ) (d m f g v : ℕ) → f < nodeWords → g < nodeWords
+    → (word (setWord p d f v) m g ≡ word p m g) ⊎ (((f ≡ g) × (word (setWord p d f v) m g ≡ v)) ⊎ (word (setWord p d f v) m g ≡ 0))
 set-cases p d m f g v hf hg = elim (ℕ-discrete d m) [
   | no e ↦ inl (word-other p d m f g v hf hg (inl e))
   | yes e ↦ elim (ℕ-discrete f g) [
@@ -52,7 +56,7 @@ set-cases p d m f g v hf hg = elim (ℕ-discrete d m) [
       | yes z ↦ inl (rw (z, set-none p f v))
       | no z ↦ rw (← e, ← i, word-at (setWord p d f v) d f (omega arith), set-at p d f v (omega arith)) (elim (decLt (place d f) (length p)) [
         | yes u ↦ inr (inl (refl, getD-set-same p (place d f) v 0 u))
-        | no u ↦ inr (inr (past-end (set p (place d f) v) (place d f) (rw (length-set p (place d f) v) (omega arith))))
+        | no u ↦ inr (inr (getD-past 0 (set p (place d f) v) (place d f) (rw (length-set p (place d f) v) (omega arith))))
       ])
     ]
   ]
@@ -68,26 +72,26 @@ fits-set capacity p d f v hf fit h m g hg = go (set-cases p d m f g v hf hg)
 
 -- values that fit
 fit-key : (capacity v : ℕ) → Fit capacity keyWord v
-fit-key capacity v = record { left = λ e. absurd (omega arith); right = λ e. absurd (omega arith); colour = λ e. absurd (omega arith); standing = λ e. absurd (omega arith); holders = λ e. absurd (omega arith); next = λ e. absurd (omega arith) }
+fit-key capacity v = omega arith
 
 fit-record : (capacity v : ℕ) → Fit capacity recordWord v
-fit-record capacity v = record { left = λ e. absurd (omega arith); right = λ e. absurd (omega arith); colour = λ e. absurd (omega arith); standing = λ e. absurd (omega arith); holders = λ e. absurd (omega arith); next = λ e. absurd (omega arith) }
+fit-record capacity v = omega arith
 
 fit-link : (capacity : ℕ) (s : Side) (v : ℕ) → v ≤ capacity → Fit capacity (linkWord s) v
-fit-link capacity L v h = record { left = λ e. h; right = λ e. h; colour = λ e. absurd (omega arith); standing = λ e. absurd (omega arith); holders = λ e. absurd (omega arith); next = λ e. absurd (omega arith) }
-fit-link capacity R v h = record { left = λ e. h; right = λ e. h; colour = λ e. absurd (omega arith); standing = λ e. absurd (omega arith); holders = λ e. absurd (omega arith); next = λ e. absurd (omega arith) }
+fit-link capacity L v h = omega arith
+fit-link capacity R v h = omega arith
 
 fit-colour : (capacity v : ℕ) → v ≤ 1 → Fit capacity colourWord v
-fit-colour capacity v h = record { left = λ e. absurd (omega arith); right = λ e. absurd (omega arith); colour = λ e. h; standing = λ e. absurd (omega arith); holders = λ e. absurd (omega arith); next = λ e. absurd (omega arith) }
+fit-colour capacity v h = omega arith
 
 fit-standing : (capacity v : ℕ) → v ≤ 2 → Fit capacity standingWord v
-fit-standing capacity v h = record { left = λ e. absurd (omega arith); right = λ e. absurd (omega arith); colour = λ e. absurd (omega arith); standing = λ e. h; holders = λ e. absurd (omega arith); next = λ e. absurd (omega arith) }
+fit-standing capacity v h = omega arith
 
 fit-holders : (capacity v : ℕ) → v ≤ allSlots → Fit capacity holdersWord v
-fit-holders capacity v h = record { left = λ e. absurd (omega arith); right = λ e. absurd (omega arith); colour = λ e. absurd (omega arith); standing = λ e. absurd (omega arith); holders = λ e. h; next = λ e. absurd (omega arith) }
+fit-holders capacity v h = omega arith
 
 pub fit-next : (capacity v : ℕ) → v ≤ capacity → Fit capacity nextWord v
-fit-next capacity v h = record { left = λ e. absurd (omega arith); right = λ e. absurd (omega arith); colour = λ e. absurd (omega arith); standing = λ e. absurd (omega arith); holders = λ e. absurd (omega arith); next = λ e. h }
+fit-next capacity v h = omega arith
 
 -- words read off the pool fit
 pub child-fits : (capacity : ℕ) (p : List ℕ) (s : Side) (n : ℕ) → Fits capacity p → child p s n ≤ capacity
@@ -114,11 +118,17 @@ pub record Within (capacity : ℕ) (st : State) : Type 0 where
 
 -- another pool of the same size
 pub within-pool : (capacity : ℕ) (st : State) (q : List ℕ) → length q ≡ length (st .pool) → Fits capacity q → Within capacity st → Within capacity (state q (st .register))
-within-pool capacity st q e f h = record { size = ap (λ n. n / nodeWords) e ∙ h .size; fits = f; root = h .root; first = h .first; last = h .last; free = h .free; held = h .held; awaited = h .awaited; readers = h .readers }
-
-link-low : (s : Side) → linkWord s < nodeWords
-link-low L = omega arith
-link-low R = omega arith
+within-pool capacity st q e f h = record {
+  size = ap (λ n. n / nodeWords) e ∙ h .size;
+  fits = f;
+  root = h .root;
+  first = h .first;
+  last = h .last;
+  free = h .free;
+  held = h .held;
+  awaited = h .awaited;
+  readers = h .readers;
+}
 
 cond-le : (b : Bool) (x y capacity : ℕ) → x ≤ capacity → y ≤ capacity → cond b x y ≤ capacity
 cond-le true x y capacity a b = a
@@ -140,8 +150,8 @@ within-take capacity st k v s x y c hx hy hc h =
           (fits-set capacity _ n holdersWord 0 (omega arith) (fit-zero capacity holdersWord)
           (fits-set capacity _ n standingWord standingLinked (omega arith) (fit-standing capacity standingLinked (omega arith))
           (fits-set capacity _ n colourWord c (omega arith) (fit-colour capacity c hc)
-          (fits-set capacity _ n (linkWord (other s)) y (link-low (other s)) (fit-link capacity (other s) y hy)
-          (fits-set capacity _ n (linkWord s) x (link-low s) (fit-link capacity s x hx)
+          (fits-set capacity _ n (linkWord (other s)) y (omega (arith, link-low (other s))) (fit-link capacity (other s) y hy)
+          (fits-set capacity _ n (linkWord s) x (omega (arith, link-low s)) (fit-link capacity s x hx)
           (fits-set capacity _ n recordWord v (omega arith) (fit-record capacity v) (fits-set capacity p n keyWord k (omega arith) (fit-key capacity k) (h .fits))))))));
       root = h .root;
       first = next-fits capacity p n (h .fits);
@@ -185,7 +195,8 @@ within-retire capacity st n hn h =
     let a = setWord p n standingWord standingRetired in
     cond-both (λ x. Within capacity x) (eqb m 0) (within-free capacity st n hn h)
     (within-pool capacity st (setWord a n holdersWord m) (length-setWord a n holdersWord m ∙ length-setWord p n standingWord standingRetired)
-    (fits-set capacity a n holdersWord m (omega arith) (fit-holders capacity m (let z = reading-below (st .register) in omega arith)) (fits-set capacity p n standingWord standingRetired (omega arith) (fit-standing capacity standingRetired (omega arith)) (h .fits))) h)
+    (fits-set capacity a n holdersWord m (omega arith) (fit-holders capacity m (let z = reading-below (st .register) in omega arith))
+    (fits-set capacity p n standingWord standingRetired (omega arith) (fit-standing capacity standingRetired (omega arith)) (h .fits))) h)
 
 pub within-retireTwo : (capacity : ℕ) (st : State) (a c : ℕ) → a ≤ capacity → c ≤ capacity → Within capacity st → Within capacity (retireTwo st a c)
 unfolding retireTwo
@@ -258,8 +269,10 @@ within-await capacity st h = within-awaited capacity st (readingSlots (st .regis
 pub within-link : (capacity : ℕ) (st : State) (l : Link) (v : ℕ) → v ≤ capacity → Within capacity st → Within capacity (setLink st l v)
 unfolding setLink withRoot
 within-link capacity st Root v hv h = record { size = h .size; fits = h .fits; root = hv; first = h .first; last = h .last; free = h .free; held = h .held; awaited = h .awaited; readers = h .readers }
-within-link capacity st (Left n) v hv h = within-pool capacity st (setWord (st .pool) n leftWord v) (length-setWord (st .pool) n leftWord v) (fits-set capacity (st .pool) n leftWord v (omega arith) (fit-link capacity L v hv) (h .fits)) h
-within-link capacity st (Right n) v hv h = within-pool capacity st (setWord (st .pool) n rightWord v) (length-setWord (st .pool) n rightWord v) (fits-set capacity (st .pool) n rightWord v (omega arith) (fit-link capacity R v hv) (h .fits)) h
+within-link capacity st (Left n) v hv h = within-pool capacity st (setWord (st .pool) n leftWord v) (length-setWord (st .pool) n leftWord v)
+    (fits-set capacity (st .pool) n leftWord v (omega arith) (fit-link capacity L v hv) (h .fits)) h
+within-link capacity st (Right n) v hv h = within-pool capacity st (setWord (st .pool) n rightWord v) (length-setWord (st .pool) n rightWord v)
+    (fits-set capacity (st .pool) n rightWord v (omega arith) (fit-link capacity R v hv) (h .fits)) h
 
 pub fits-paint : (capacity : ℕ) (p : List ℕ) (n c : ℕ) → c ≤ 1 → Fits capacity p → Fits capacity (paint p n c)
 fits-paint capacity p n c hc h = fits-set capacity p n colourWord c (omega arith) (fit-colour capacity c hc) h

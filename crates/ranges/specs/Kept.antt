@@ -1,7 +1,7 @@
 -- The write in hand through a store: only a publish touches it, before the first store still to come is dropped.
 use Prim.Native.Nat.{ℕ, _+_}
 use mathlib.Core.Path.{_≡_, refl, ap, _∙_}
-use mathlib.Core.Bool.{Bool, true, false, cond, not, _&&_, false≢true}
+use mathlib.Core.Bool.{Bool, true, false, cond, not, false≢true}
 use mathlib.Core.List.{List}
 use mathlib.Core.Logic.{_≢_}
 use native.Mathlib.Omega.{arith}
@@ -26,8 +26,11 @@ use Rattle.spec.specs.Register.{State, state, noReader, linkNode, setLink, with
 use Rattle.spec.specs.Free.{queueEmpty, takeFree, takeNode, freeNode, retire, release, endReading}
 use Rattle.spec.specs.Search.{pathTo}
 use Rattle.spec.specs.Plan.{fixupAfterInsert, paintInsertFixup, paintDeleteFixup, redChild, onlyChild}
-use Rattle.spec.specs.Turn.{painted, colourOf, oneMore, oneLess, endInsert, insertStore, copyNode, diagLower, endDiag, diagRaise, zigLowerA, zigLowerC, endZig, zigRaise, unlinkStore, adoptStore, replaceStore, movedWrite, publishStore, detachStore, isNode, stepFinds, stepMade, unlinkPath, unlinkFixup, replacePath, replaceFixup}
+use Rattle.spec.specs.Turn.{painted, colourOf, oneMore, oneLess, endInsert, insertStore, copyNode, diagLower, endDiag, diagRaise, zigLowerA}
+use Rattle.spec.specs.Turn.{zigLowerC, endZig, zigRaise, unlinkStore, adoptStore, replaceStore, movedWrite, publishStore, detachStore, isNode}
+use Rattle.spec.specs.Turn.{stepFinds, stepMade, unlinkPath, unlinkFixup, replacePath, replaceFixup}
 use Rattle.heap.specs.Fill.{retire-quiet, retireTwo-quiet}
+use Rattle.laws.specs.Tests.{and-right}
 use Rattle.ranges.specs.Fits.{Within}
 use Rattle.ranges.specs.Writes.{WriteOk, write-moved}
 
@@ -43,14 +46,6 @@ hand-link st (Right n) v = refl
 hand-take : (st : State) (k v : ℕ) (s : Side) (x y c : ℕ) → hand (takeNode st k v s x y c) ≡ hand st
 unfolding takeNode takeFree withQueue
 hand-take st k v s x y c = refl
-
-hand-more : (st : State) → hand (oneMore st) ≡ hand st
-unfolding withHeld
-hand-more st = refl
-
-hand-less : (st : State) → hand (oneLess st) ≡ hand st
-unfolding withHeld
-hand-less st = refl
 
 hand-removal : (st : State) (c : Fixup) (x : ℕ) (path : List Link) → hand (paintDeleteFixup st c x path) ≡ hand st
 unfolding paintDeleteFixup
@@ -98,11 +93,6 @@ hand-end st s =
     step : (x : State) (i : ℕ) → hand x ≡ hand st → hand (release s x i) ≡ hand st
     step x i e = hand-release s x i ∙ e
 
--- both parts of a test hold
-both : (a b : Bool) → (a && b) ≡ true → b ≡ true
-both true b e = e
-both false b e = absurd (false≢true e)
-
 filled : (st : State) → not (queueEmpty st) ≡ true → st .register .first ≢ 0
 filled st e = eqb-false (st .register .first) 0 (go (queueEmpty st) e)
   where
@@ -116,7 +106,8 @@ insert-hand st l k v =
     let c = fixupAfterInsert st k l in
     let path = pathTo (st .pool) (st .register .root) k l in
     let linked = oneMore (setLink (takeNode st k v L 0 0 redColour) l (st .register .first)) in
-    hand-insert (c .ending) (state (paintInsertFixup (c .levels) path (linked .pool)) (linked .register)) ∙ hand-link (takeNode st k v L 0 0 redColour) l (st .register .first) ∙ hand-take st k v L 0 0 redColour
+    hand-insert (c .ending) (state (paintInsertFixup (c .levels) path (linked .pool)) (linked .register)) ∙ hand-link (takeNode st k v L 0 0 redColour) l (st .register .first)
+    ∙ hand-take st k v L 0 0 redColour
 
 unlink-hand : (st : State) (l : Link) → hand (unlinkStore st l .after) ≡ hand st
 unfolding unlinkStore withHeld
@@ -144,7 +135,8 @@ publish-hand st l c =
     let base = setLink (copyNode st c L (child p L b) (child p R b) (colourOf st b)) l n in
     let r = oneLess base .register in
     let mid = state (base .pool) (withWrite (withAwaited r (readingSlots r)) (movedWrite b n (r .write))) in
-    hand-retire mid b ∙ ap (movedWrite b n) (hand-link (copyNode st c L (child p L b) (child p R b) (colourOf st b)) l n ∙ hand-take st (word p c keyWord) (word p c recordWord) L (child p L b) (child p R b) (colourOf st b))
+    hand-retire mid b ∙ ap (movedWrite b n) (hand-link (copyNode st c L (child p L b) (child p R b) (colourOf st b)) l n
+    ∙ hand-take st (word p c keyWord) (word p c recordWord) L (child p L b) (child p R b) (colourOf st b))
 
 module _ (capacity : ℕ) (st : State) (h : Within capacity st) (w : WriteOk capacity (st .register .write)) where
   same : (x : Write) → x ≡ st .register .write → WriteOk capacity x
@@ -164,6 +156,6 @@ module _ (capacity : ℕ) (st : State) (h : Within capacity st) (w : WriteOk cap
   step-hand l Replace f = same _ (replace-hand st l)
   step-hand l (Publish c) f =
       let n = st .register .first in
-      let d = filled st (both (isNode (linkNode st l)) (not (queueEmpty st)) f) in
+      let d = filled st (and-right (isNode (linkNode st l)) (not (queueEmpty st)) f) in
       rw (publish-hand st l c) (write-moved capacity (linkNode st l) n (st .register .write) (record { low = omega arith; high = h .first }) w)
   step-hand l (Detach k) f = same _ (hand-retire _ _ ∙ hand-removal _ _ _ _ ∙ hand-link st _ _)

@@ -4,3 +4,4 @@ pub mod Writes
 pub mod Plans
 pub mod Kept
 pub mod Calls
+pub mod Tests

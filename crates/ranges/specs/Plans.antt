@@ -28,7 +28,8 @@ use Rattle.spec.specs.Numbers.{pathBound}
 use Rattle.spec.specs.Pool.{word, child, isRed, keyWord}
 use Rattle.spec.specs.Register.{State, nodeAt, linkNode}
 use Rattle.spec.specs.Search.{towards, seek, sameLink, trail, pathTo, leftmost}
-use Rattle.spec.specs.Plan.{fixupResult, insertFixup, fixupAfterInsert, redChild, redSibling, deleteFixup, fixupAfterRemoval, store, turnStores, rotationStores, endingStores, Plan, plan, insertPlan, twoChildren, onlyChild, successorPath, unlinkPlan, successorPlan, deletePlan}
+use Rattle.spec.specs.Plan.{fixupResult, insertFixup, fixupAfterInsert, redChild, redSibling, deleteFixup, fixupAfterRemoval, store, turnStores, rotationStores, endingStores, Plan}
+use Rattle.spec.specs.Plan.{plan, insertPlan, twoChildren, onlyChild, successorPath, unlinkPlan, successorPlan, deletePlan}
 use Rattle.ranges.specs.Fits.{Fits, child-fits, Within, node-fits}
 use Rattle.ranges.specs.Writes.{Number, LinkOk, StoresOk, stores-append}
 
@@ -66,7 +67,8 @@ module _ (capacity : ℕ) (p : List ℕ) (fits : Fits capacity p) where
   seek-ok k zero l n h u = cond-both (PlaceOk capacity) (eqb n 0) h tt
   seek-ok k (suc a) l n h u =
       let s = towards p k n in
-      zero-case (PlaceOk capacity) n h (λ d. cond-both (PlaceOk capacity) (eqb k (word p n keyWord)) (h, number capacity n d u) (seek-ok k a (linkAt s n) (child p s n) (link-at capacity s n (number capacity n d u)) (kid s n)))
+      zero-case (PlaceOk capacity) n h (λ d. cond-both (PlaceOk capacity) (eqb k (word p n keyWord)) (h, number capacity n d u)
+      (seek-ok k a (linkAt s n) (child p s n) (link-at capacity s n (number capacity n d u)) (kid s n)))
 
   pub trail-ok : (k : ℕ) (t : Link) (a : ℕ) (l : Link) (n : ℕ) (up : List Link) → LinkOk capacity l → n ≤ capacity → LinksOk capacity up → LinksOk capacity (trail p k t a l n up)
   unfolding trail
@@ -180,7 +182,8 @@ module _ (capacity : ℕ) (st : State) (h : Within capacity st) where
 
   fixup-ok : (k : ℕ) (l : Link) → FixupOk capacity p (h .fits) (fixupAfterInsert st k l)
   unfolding fixupAfterInsert
-  fixup-ok k l = cond-both {A = Fixup} (FixupOk capacity p (h .fits)) (isRed p (owner l)) {x = insertFixup p 0 (pathTo p (st .register .root) k l)} {y = fixupResult 0 Balanced} (insertFixup-ok capacity p (h .fits) 0 (pathTo p (st .register .root) k l) (path-ok k l)) tt
+  fixup-ok k l = cond-both {A = Fixup} (FixupOk capacity p (h .fits)) (isRed p (owner l)) {x = insertFixup p 0 (pathTo p (st .register .root) k l)} {y = fixupResult 0 Balanced}
+      (insertFixup-ok capacity p (h .fits) 0 (pathTo p (st .register .root) k l) (path-ok k l)) tt
 
   pub insert-ok : (k v : ℕ) (l : Link) → LinkOk capacity l → PlanOk capacity (insertPlan st k v l)
   unfolding insertPlan
@@ -197,7 +200,8 @@ module _ (capacity : ℕ) (st : State) (h : Within capacity st) where
       let k = removal-ok capacity p (h .fits) c (child p R c) (above ∷ up) g in
       cond-both (PlanOk capacity) (eqb (child p L (child p R b)) 0)
       (planned (store l Adopt ∷ store l Replace ∷ []) (fixupAfterRemoval p c (child p R c) (above ∷ up) .ending) ((o, tt), ((o, tt), tt)) (omega arith) k)
-      (planned (store l (Publish c) ∷ store l (Detach (word p b keyWord)) ∷ []) (fixupAfterRemoval p c (child p R c) (above ∷ up) .ending) ((o, number capacity c e (node-fits capacity st above h)), ((o, tt), tt)) (omega arith) k)
+      (planned (store l (Publish c) ∷ store l (Detach (word p b keyWord)) ∷ []) (fixupAfterRemoval p c (child p R c) (above ∷ up) .ending)
+      ((o, number capacity c e (node-fits capacity st above h)), ((o, tt), tt)) (omega arith) k)
 
   path-down : (b : ℕ) (path : List Link) → Number capacity b → child p R b ≢ 0 → LinksOk capacity path
       → LinksOk capacity (successorPath p b path) × Ends capacity p (h .fits) (st .register .root) (successorPath p b path)

@@ -7,6 +7,7 @@ use native.Mathlib.Decide.{decLt}
 use lib.Dec.{eqb}
 use lib.ListN.{length, getD, take, drop, replicate, length-take, List·getD-map}
 use lib.Seq.{getD-take}
+use Rattle.base.specs.Lists.{getD-past, getD-same}
 use Rattle.base.specs.Walk.{cond-both}
 use Rattle.datatypes.specs.declared.Link.{Link}
 use Rattle.datatypes.specs.declared.Link.the-variants.{Root, Left, Right}
@@ -63,22 +64,12 @@ pub record WriteOk (capacity : ℕ) (w : Write) : Type 0 where
   pub come : (i : ℕ) → i < w .count → StoreOk capacity (getD (w .stores) i vacant)
   pub others : (i : ℕ) → w .count ≤ i → getD (w .stores) i vacant ≡ vacant
 
-past-store : (l : List Store) (i : ℕ) → length l ≤ i → getD l i vacant ≡ vacant
-past-store [] i h = refl
-past-store (x ∷ l) zero h = absurd (omega arith)
-past-store (x ∷ l) (suc i) h = past-store l i (omega arith)
-
-vacants : (k i : ℕ) → getD (replicate k vacant) i vacant ≡ vacant
-vacants zero i = refl
-vacants (suc k) zero = refl
-vacants (suc k) (suc i) = vacants k i
-
 pub write-none : (capacity : ℕ) → WriteOk capacity noWrite
-write-none capacity = record { few = omega arith; come = λ i u. absurd (omega arith); others = λ i u. vacants mostStores i }
+write-none capacity = record { few = omega arith; come = λ i u. absurd (omega arith); others = λ i u. getD-same vacant mostStores i }
 
 -- planned
 padded : (l : List Store) (k i : ℕ) → getD (l ++ replicate k vacant) i vacant ≡ getD l i vacant
-padded [] k i = vacants k i
+padded [] k i = getD-same vacant k i
 padded (x ∷ l) k zero = refl
 padded (x ∷ l) k (suc i) = padded l k i
 
@@ -90,8 +81,8 @@ write-of capacity l h u =
       few = u;
       come = λ i v. rw (getD-take mostStores xs i vacant (omega arith), padded l mostStores i) (stores-at capacity l i h v);
       others = λ i v. elim (decLt i mostStores) [
-        | yes a ↦ getD-take mostStores xs i vacant a ∙ padded l mostStores i ∙ past-store l i v
-        | no a ↦ past-store (take mostStores xs) i (let e = length-take mostStores xs in omega arith)
+        | yes a ↦ getD-take mostStores xs i vacant a ∙ padded l mostStores i ∙ getD-past vacant l i v
+        | no a ↦ getD-past vacant (take mostStores xs) i (let e = length-take mostStores xs in omega arith)
       ];
     }
 

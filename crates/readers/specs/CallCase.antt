@@ -14,7 +14,11 @@ use Rattle.spec.specs.Register.{State, state, readerOf, storeOf, withReader, wi
 use Rattle.spec.specs.Free.{endReading}
 use Rattle.spec.specs.Search.{towards}
 use Rattle.spec.specs.Turn.{stepFinds, stepMade}
-use Rattle.spec.specs.Calls.{ok, go, absent, wait, found, refused, Outcome, outcome, Test, _gives_, firstOf, unless, wrongLength, outOfRange, slotTooHigh, reading, writeInHand, placeOf, insertAt, deleteAt, insert, delete, stored, writerTurn, begin, loaded, readerStep, readerTests, tooDeep, isHeld, full, fewerFree, readerTurn, giveUp, Call, inserting, deleting, writing, beginning, turning, givingUp, call}
+use Rattle.spec.specs.Calls.{ok, go, absent, wait, found, refused, Outcome, outcome, Test, _gives_, firstOf, unless, wrongLength, outOfRange}
+use Rattle.spec.specs.Calls.{beginTests, reading, writeInHand, placeOf, insertAt, deleteAt, insert, delete, stored, writerTurn, begin, loaded}
+use Rattle.spec.specs.Calls.{readerStep, readerTests, tooDeep, isHeld, full, fewerFree, readerTurn, giveUp, Call, inserting, deleting, writing}
+use Rattle.spec.specs.Calls.{beginning, turning, givingUp, call}
+use Rattle.promise.specs.Run.{Reads}
 use Rattle.readers.specs.Descends.{step-root, step-found, step-child, load-none, load-some}
 
 -- the node that slot s loads next: the root, or the child by comparing
@@ -25,7 +29,7 @@ pub data Loads (st : State) (s n : ℕ) : Type 0 where
 
 pub record Passed (st : State) (s : ℕ) : Type 0 where
   pub low : s < slots
-  pub reads : reading st s ≡ true
+  pub reads : Reads st s
 
 -- the tests of insert and delete, and of a writer's turn
 abbrev pub insertTests : State → ℕ → ℕ → List Test
@@ -63,14 +67,6 @@ turnTests st =
     ∷ outOfRange st gives 2
     ∷ not (writeInHand st) gives 7
     ∷ (not (waiting st) && not (own st)) gives 12
-    ∷ []
-
-abbrev pub beginTests : State → ℕ → List Test
-beginTests st s =
-    wrongLength st gives 1
-    ∷ outOfRange st gives 2
-    ∷ slotTooHigh s gives 3
-    ∷ reading st s gives 4
     ∷ []
 
 -- the tests of each call

@@ -110,7 +110,8 @@ module _ (st : State) (k : ℕ) (eight : length (st .register .readers) ≡ slot
 
   again : (n c : ℕ) → readerOf (withReader (posed n .register) 0 (record { reading = true; key = k; node = c })) 0 ≡ record { reading = true; key = k; node = c }
   unfolding withReader
-  again n c = reader-same (posed n .register) 0 (record { reading = true; key = k; node = c }) (rw (length-set (st .register .readers) 0 (record { reading = true; key = k; node = n }), eight) (omega arith))
+  again n c = reader-same (posed n .register) 0 (record { reading = true; key = k; node = c })
+      (rw (length-set (st .register .readers) 0 (record { reading = true; key = k; node = n }), eight) (omega arith))
 
   -- a link is loaded that unfolds to t
   going-load : (n c : ℕ) (t : Linked) → turnAt st k n ≡ loaded (posed n) 0 k c → Rep (st .pool) c t → ((c ≢ 0) → Going st k c (answerOf (find t k))) → Going st k n (answerOf (find t k))
@@ -132,9 +133,11 @@ module _ (st : State) (k : ℕ) (eight : length (st .register .readers) ≡ slot
       let left : ltb k (word p n keyWord) ≡ true → Rep p (child p (towards p k n) n) l = λ e. rw (e, w .is) (h .1) in
       let right : ltb k (word p n keyWord) ≡ false → Rep p (child p (towards p k n) n) r = λ e. rw (e, w .is) (h .2) in
       tri-case L k (N .key)
-      (λ o e. rw e (going-load n (child p (towards p k n) n) l (step (omega arith)) (left (lt-ltb k (word p n keyWord) (omega arith))) (going l (child p (towards p k n) n) (left (lt-ltb k (word p n keyWord) (omega arith))))))
+      (λ o e. rw e (going-load n (child p (towards p k n) n) l (step (omega arith)) (left (lt-ltb k (word p n keyWord) (omega arith)))
+      (going l (child p (towards p k n) n) (left (lt-ltb k (word p n keyWord) (omega arith))))))
       (λ o e. rw e (ends n (found (N .val)) (ap (λ x. x .answer) (step-found (posed n) 0 (record { reading = true; key = k; node = n }) (there n) d (omega arith)) ∙ ap found val)))
-      (λ o e. rw e (going-load n (child p (towards p k n) n) r (step (omega arith)) (right (le-ltb k (word p n keyWord) (omega arith))) (going r (child p (towards p k n) n) (right (le-ltb k (word p n keyWord) (omega arith))))))
+      (λ o e. rw e (going-load n (child p (towards p k n) n) r (step (omega arith)) (right (le-ltb k (word p n keyWord) (omega arith)))
+      (going r (child p (towards p k n) n) (right (le-ltb k (word p n keyWord) (omega arith))))))
 
   -- from the root: what the whole tree has
   pub going-root : (T : Linked) → Rep (st .pool) (st .register .root) T → Going st k 0 (answerOf (find T k))

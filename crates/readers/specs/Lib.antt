@@ -9,6 +9,7 @@ pub mod Graft
 pub mod Thinner
 pub mod Lookups
 pub mod Descends
+pub mod Once
 pub mod Stored
 pub mod ColourWork
 pub mod Turns

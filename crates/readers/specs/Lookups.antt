@@ -12,12 +12,13 @@ use mathlib.Core.Option.{Option}
 use Rattle.datatypes.specs.declared.Side.{Side}
 use Rattle.datatypes.specs.declared.Side.the-variants.{L}
 use Rattle.spec.specs.Pool.{word, keyWord, standingWord, standingLinked}
-use Rattle.tree.specs.Distinct.{_∈_, in-append, Distinct}
+use Rattle.base.specs.Lists.{_∈_, in-append, Distinct}
 use Rattle.tree.specs.Thin.{Thin, thin-refl, thin-trans, thin-stays}
 use Rattle.tree.specs.Linked.{Linked, find, path}
+use Rattle.tree.specs.Graft.{graft, All, all-path, Keyed, Passes, apart, through, passes}
 use Rattle.heap.specs.Rep.{Rep, rep-unique}
 use Rattle.readers.specs.Thinner.{thin-members, thin-end, thin-cut, path-once, once-there}
-use Rattle.readers.specs.Graft.{graft, All, all-path, Redirects, rep-leavesTree, rep-graft, Keyed, rep-keyed, Passes, apart, through, passes}
+use Rattle.readers.specs.Graft.{Redirects, rep-leavesTree, rep-graft, rep-keyed}
 
 -- R2 of trees: t where the lookup is, T the whole tree; P are the nodes that are linked no longer
 abbrev pub Follows : (ℕ → Type 0) → List ℕ → Linked → Linked → ℕ → Type 0
@@ -87,10 +88,10 @@ pub record Store (p q : List ℕ) (U : ℕ → Type 0) (d : ℕ) (s : Side) (b r
   pub all : All U T
 
 module _ {p q : List ℕ} {U : ℕ → Type 0} {d : ℕ} {s : Side} {b root : ℕ} {T T′ : Linked} (h : Store p q U d s b root T T′) where
-  abbrev new : Linked → Linked
+  abbrev pub new : Linked → Linked
   new t = graft d s (h .below) t
 
-  whole-after : new T ≡ T′
+  pub whole-after : new T ≡ T′
   whole-after = rep-unique q (new T) T′ root root refl (rep-graft p q U d s b (h .below) (h .words) (h .unfolds) T root (h .all) (h .before)) (h .after)
 
   pub unfolds-after : (n : ℕ) (t : Linked) → All U t → Rep p n t → Rep q n (new t)

@@ -3,26 +3,27 @@ use Prim.Native.Nat.{ℕ, _<_, _≤_}
 use mathlib.Core.Path.{_≡_, sym, ap, _∙_, subst}
 use mathlib.Core.Bool.{true, cond, false≢true}
 use mathlib.Core.List.{List}
-use mathlib.Core.Logic.{_≢_, inl, inr}
+use mathlib.Core.Logic.{_≢_, inr}
 use native.Mathlib.Omega.{arith}
 use native.Mathlib.Decide.{ℕ-discrete, decLt}
 use lib.Dec.{eqb, ltb}
-use lib.ListN.{length, getD}
+use lib.ListN.{length}
 use borrow.Author.Tests.{ne-eqb, lt-ltb, le-ltb}
-use Rattle.base.specs.Walk.{foldIn, cond-both}
+use Rattle.base.specs.Walk.{cond-both}
 use Rattle.datatypes.specs.declared.Side.{Side}
 use Rattle.datatypes.specs.declared.Side.the-variants.{L, R}
-use Rattle.datatypes.specs.declared.Register.{Register}
 use Rattle.spec.specs.Numbers.{slots}
-use Rattle.spec.specs.Pool.{word, setWord, child, linkWord, nodes, standingWord, holdersWord, colourWord, standingFree, standingLinked, standingRetired}
-use Rattle.spec.specs.Register.{State, noReader, hasSlot, putSlot, readingSlots, countUp, withQueue}
-use Rattle.spec.specs.Free.{fillNode, retire, retireTwo}
-use Rattle.laws.specs.Words.{InPool, word-other}
+use Rattle.spec.specs.Pool.{word, child, nodes, standingWord, holdersWord, standingFree, standingLinked, standingRetired}
+use Rattle.spec.specs.Register.{State, hasSlot, readingSlots, countUp, withQueue}
+use Rattle.spec.specs.Free.{retire, retireTwo}
+use Rattle.spec.specs.FreeQueue.{InPool}
+use Rattle.promise.specs.Run.{Reads}
 use Rattle.heap.specs.Fill.{retire-quiet}
 use Rattle.readers.specs.Marks.{reading-bit, none-reading}
-use Rattle.readers.specs.Words.{Whole, stands-node, node-length, free-length, free-words, free-other, free-standing, free-register, retire-none, retire-some, marked-length, marked-words, marked-other, marked-standing, marked-holders, fill-other, fill-standing}
+use Rattle.readers.specs.Words.{Whole, stands-node, node-length, free-length, free-other, free-standing, free-register, retire-none}
+use Rattle.readers.specs.Words.{retire-some, marked-length, marked-other, marked-standing, marked-holders}
 use Rattle.readers.specs.Owned.{readingIn, Owned, own-retire}
-use Rattle.readers.specs.Reach.{HasStanding, NodeChange, comes, leaves, rests, goes}
+use Rattle.readers.specs.Reach.{HasStanding, NodeChange, comes, rests, goes}
 
 -- each number stands free, linked or retired
 pub ranked : (st : State) (l : List ℕ) → Whole (st .pool) → Owned st l → (n : ℕ) → word (st .pool) n standingWord ≤ standingRetired
@@ -30,9 +31,6 @@ ranked st l w h n = elim (ℕ-discrete (word (st .pool) n standingWord) 0) [
   | yes e ↦ omega arith
   | no d ↦ h .good n (stands-node (st .pool) n standingWord w (omega arith) d) .rank
 ]
-
-abbrev pub Reading : Register → ℕ → Type 0
-Reading r s = readingIn (r .readers) s ≡ true
 
 -- the three cases of a standing
 three : {A : Type 0} (a : ℕ) → a ≤ standingRetired → (a ≡ standingFree → A) → (a ≡ standingLinked → A) → (a ≡ standingRetired → A) → A
@@ -50,49 +48,11 @@ change-same p q W n rank e same =
     (λ i. comes (inr i) (e ∙ i))
     (λ i. rests i (e ∙ i) (same i .0) (same i .1))
 
-link-low : (s : Side) → linkWord s < colourWord
-link-low L = omega arith
-link-low R = omega arith
-
--- a link of a linked node
-pub change-link : (p : List ℕ) (W : ℕ → Type 0) (d : ℕ) (s : Side) (v n : ℕ) → HasStanding p d standingLinked → word p n standingWord ≤ standingRetired
-    → NodeChange p (setWord p d (linkWord s) v) W n
-change-link p W d s v n hd rank =
-    let u = link-low s in
-    change-same p (setWord p d (linkWord s) v) W n rank (word-other p d n (linkWord s) standingWord v (omega arith) (omega arith) (inr (omega arith)))
-    (λ e. (
-      word-other p d n (linkWord s) holdersWord v (omega arith) (omega arith) (inr (omega arith)),
-      λ z. (let t = link-low z in word-other p d n (linkWord s) (linkWord z) v (omega arith) (omega arith) (inl (λ i. let x = subst (λ m. HasStanding p m standingLinked) i hd in omega arith))),
-    ))
-
--- a colour
-pub change-paint : (p : List ℕ) (W : ℕ → Type 0) (d v n : ℕ) → word p n standingWord ≤ standingRetired → NodeChange p (setWord p d colourWord v) W n
-change-paint p W d v n rank =
-    change-same p (setWord p d colourWord v) W n rank (word-other p d n colourWord standingWord v (omega arith) (omega arith) (inr (omega arith)))
-    (λ e. (
-      word-other p d n colourWord holdersWord v (omega arith) (omega arith) (inr (omega arith)),
-      λ z. (let t = link-low z in word-other p d n colourWord (linkWord z) v (omega arith) (omega arith) (inr (omega arith))),
-    ))
-
--- a free node taken and filled
-pub change-fill : (p : List ℕ) (W : ℕ → Type 0) (d k v : ℕ) (s : Side) (x y c n : ℕ) → InPool p d → HasStanding p d standingFree → word p n standingWord ≤ standingRetired
-    → NodeChange p (fillNode p d k v s x y c) W n
-change-fill p W d k v s x y c n hd free rank = elim (ℕ-discrete d n) [
-  | yes e ↦ comes (inl (subst (λ m. HasStanding p m standingFree) e free)) (subst (λ m. HasStanding (fillNode p d k v s x y c) m standingLinked) e (fill-standing p d k v s x y c hd))
-  | no a ↦ change-same p (fillNode p d k v s x y c) W n rank (fill-other p d k v s x y c n standingWord (omega arith) a)
-      (λ e. (fill-other p d k v s x y c n holdersWord (omega arith) a, λ z. (let t = link-low z in fill-other p d k v s x y c n (linkWord z) (omega arith) a)))
-]
-
 -- Nodes retired: of no node do links change; a node stays as it is, or was linked and is retired or, with none reading, freed.
 pub data Retires (p q : List ℕ) (W : ℕ → Type 0) (n : ℕ) : Type 0 where
   stays : word q n standingWord ≡ word p n standingWord → word q n holdersWord ≡ word p n holdersWord → Retires p q W n
   out : HasStanding p n standingLinked → HasStanding q n standingRetired → ((s : ℕ) → s < slots → W s → hasSlot (word q n holdersWord) s ≡ true) → Retires p q W n
   off : HasStanding p n standingLinked → HasStanding q n standingFree → ((s : ℕ) → s < slots → ¬ (W s)) → Retires p q W n
-
-pub retires-change : (p q : List ℕ) (W : ℕ → Type 0) (n : ℕ) → ((z : Side) → child q z n ≡ child p z n) → word p n standingWord ≤ standingRetired → Retires p q W n → NodeChange p q W n
-retires-change p q W n links rank (stays e i) = change-same p q W n rank e (λ _. (i, links))
-retires-change p q W n links rank (out a b bits) = leaves a b bits links
-retires-change p q W n links rank (off a b none) = goes (omega arith) b (λ _. none)
 
 retires-trans : (p q r : List ℕ) (W : ℕ → Type 0) (n : ℕ) → Retires p q W n → Retires q r W n → Retires p r W n
 retires-trans p q r W n (stays a b) (stays c d) = stays (c ∙ a) (d ∙ b)
@@ -112,22 +72,16 @@ retire-other st c n f d u = elim (ℕ-discrete (readingSlots (st .register)) 0) 
   | no e ↦ rw (retire-some st c e) (marked-other (st .pool) c standingRetired (readingSlots (st .register)) n f (omega arith) d)
 ]
 
-pub retire-words : (st : State) (c n f : ℕ) → f < standingWord → word (retire st c .pool) n f ≡ word (st .pool) n f
-retire-words st c n f u = elim (ℕ-discrete (readingSlots (st .register)) 0) [
-  | yes e ↦ rw (retire-none st c e) (free-words st c n f u)
-  | no e ↦ rw (retire-some st c e) (marked-words (st .pool) c standingRetired (readingSlots (st .register)) n f (omega arith) (omega arith) (omega arith))
-]
-
 pub retire-length : (st : State) (c : ℕ) → length (retire st c .pool) ≡ length (st .pool)
 retire-length st c = elim (ℕ-discrete (readingSlots (st .register)) 0) [
   | yes e ↦ rw (retire-none st c e) (free-length st c)
   | no e ↦ rw (retire-some st c e) (marked-length (st .pool) c standingRetired (readingSlots (st .register)))
 ]
 
-pub retire-retires : (st : State) (c n : ℕ) → InPool (st .pool) c → HasStanding (st .pool) c standingLinked → Retires (st .pool) (retire st c .pool) (Reading (st .register)) n
+pub retire-retires : (st : State) (c n : ℕ) → InPool (st .pool) c → HasStanding (st .pool) c standingLinked → Retires (st .pool) (retire st c .pool) (Reads st) n
 retire-retires st c n hc e = elim (ℕ-discrete c n) [
   | no d ↦ stays (retire-other st c n standingWord d (omega arith)) (retire-other st c n holdersWord d (omega arith))
-  | yes i ↦ subst (λ m. Retires (st .pool) (retire st c .pool) (Reading (st .register)) m) i (elim (ℕ-discrete (readingSlots (st .register)) 0) [
+  | yes i ↦ subst (λ m. Retires (st .pool) (retire st c .pool) (Reads st) m) i (elim (ℕ-discrete (readingSlots (st .register)) 0) [
     | yes z ↦ off e (rw (retire-none st c z) (free-standing st c hc)) (λ s u r. false≢true (sym (none-reading (st .register) z s u) ∙ r))
     | no z ↦ out e (rw (retire-some st c z) (marked-standing (st .pool) c standingRetired (readingSlots (st .register)) hc))
         (λ s u r. rw (retire-some st c z, marked-holders (st .pool) c standingRetired (readingSlots (st .register)) hc) (reading-bit (st .register) s u ∙ r))
@@ -158,11 +112,6 @@ retireTwo-free st a c =
     let y = cond (ltb a c) c a in
     cond-both {A = State} (λ s. st .register .free ≤ s .register .free) (eqb a c) (retire-free st a) (let i = retire-free st x in let j = retire-free (retire st x) y in omega arith)
 
--- the reading slots go by the reader records alone
-pub reading-fields : (r q : Register) → q .readers ≡ r .readers → readingSlots q ≡ readingSlots r
-unfolding readingSlots
-reading-fields r q e = ap (λ xs. foldIn (λ m s. cond (getD xs s noReader .reading) (putSlot m s) m) 0 slots 0) e
-
 -- Two nodes retired by one call.
 module _ (st : State) (x y : ℕ) (apart : x ≢ y) (hx : InPool (st .pool) x) (hy : InPool (st .pool) y) (ex : HasStanding (st .pool) x standingLinked) (ey : HasStanding (st .pool) y standingLinked) where
   abbrev once : State
@@ -174,10 +123,10 @@ module _ (st : State) (x y : ℕ) (apart : x ≢ y) (hx : InPool (st .pool) x) (
   there : InPool (once .pool) y
   there = node-length (st .pool) (once .pool) y (retire-length st x) hy
 
-  pair-retires : (n : ℕ) → Retires (st .pool) (retire once y .pool) (Reading (st .register)) n
+  pair-retires : (n : ℕ) → Retires (st .pool) (retire once y .pool) (Reads st) n
   pair-retires n =
       let same = retire-quiet st x .fields .readers in
-      retires-trans (st .pool) (once .pool) (retire once y .pool) (Reading (st .register)) n (retire-retires st x n hx ex)
+      retires-trans (st .pool) (once .pool) (retire once y .pool) (Reads st) n (retire-retires st x n hx ex)
       (subst (λ xs. Retires (once .pool) (retire once y .pool) (λ s. readingIn xs s ≡ true) n) same (retire-retires once y n there second))
 
   pair-gone-first : word (retire once y .pool) x standingWord ≢ standingLinked
@@ -193,7 +142,7 @@ module _ (st : State) (x y : ℕ) (apart : x ≢ y) (hx : InPool (st .pool) x) (
   pair-owned l h = (_, own-retire once _ y (own-retire st l x h hx (omega arith)) there (let e = second in omega arith))
 
 module _ (st : State) (a c : ℕ) (apart : a ≢ c) (ha : InPool (st .pool) a) (hc : InPool (st .pool) c) (ea : HasStanding (st .pool) a standingLinked) (ec : HasStanding (st .pool) c standingLinked) where
-  pub retireTwo-retires : (n : ℕ) → Retires (st .pool) (retireTwo st a c .pool) (Reading (st .register)) n
+  pub retireTwo-retires : (n : ℕ) → Retires (st .pool) (retireTwo st a c .pool) (Reads st) n
   unfolding retireTwo
   retireTwo-retires n = rw (ne-eqb a c apart) (elim (decLt a c) [
     | yes u ↦ rw (lt-ltb a c u) (pair-retires st a c apart ha hc ea ec n)

@@ -1,6 +1,6 @@
 -- The stock of free nodes: the queue holds just the nodes standing free, once each, and the free count is their number.
 -- Kept by take, free, a node marked retired, and every word and field that is none of the queue's.
-use Prim.Native.Nat.{ℕ, _+_, _-_, _<_, _≤_}
+use Prim.Native.Nat.{ℕ, _+_, _-_, _<_}
 use mathlib.Core.Path.{_≡_, refl, sym, ap, _∙_}
 use mathlib.Core.List.{List, [], _∷_, _++_}
 use mathlib.Core.Logic.{_≢_, _⊎_, inl, inr, ⊎-elim, _↔_}
@@ -10,37 +10,23 @@ use lib.ListN.{length, length-append}
 use borrow.Author.Tests.{lt-ltb}
 use Rattle.datatypes.specs.declared.Side.{Side}
 use Rattle.datatypes.specs.declared.Register.{Register}
-use Rattle.tree.specs.Distinct as Lists
-use Rattle.tree.specs.Distinct.{_∈_, in-append, pigeonhole}
+use Rattle.base.specs.Lists.{_∈_, in-append, Distinct, pigeonhole}
 use Rattle.spec.specs.Pool.{word, setWord, nodes, standingWord, holdersWord, standingFree}
 use Rattle.spec.specs.Register.{State, state, withQueue}
 use Rattle.spec.specs.Free.{takeFree, fillNode, takeNode, freeNode}
-use Rattle.laws.specs.Words.{InPool, length-setWord, word-other}
-use Rattle.laws.specs.Queue.{NotIn, Distinct, Chain, Queue, chain-word, take-queue, free-queue}
-use Rattle.readers.specs.Words.{node-length, node-high, free-length, free-other, free-standing, free-register, marked, marked-length, marked-other, marked-standing, fill-length, fill-other, fill-standing}
-
--- the two ways to say that a number is not in a list
-pub not-in : (n : ℕ) (l : List ℕ) → ¬ (n ∈ l) → NotIn n l
-not-in n [] h = tt
-not-in n (m ∷ l) h = (λ e. h (inl e), not-in n l (λ i. h (inr i)))
-
-pub out-of : (n : ℕ) (l : List ℕ) → NotIn n l → ¬ (n ∈ l)
-out-of n [] h i = i
-out-of n (m ∷ l) h (inl e) = h .0 e
-out-of n (m ∷ l) h (inr i) = out-of n l (h .1) i
-
-distinct : (l : List ℕ) → Distinct l → Lists.Distinct l
-distinct [] d = tt
-distinct (m ∷ l) d = (out-of m l (d .0), distinct l (d .1))
+use Rattle.spec.specs.FreeQueue.{InPool, Chain, Queue}
+use Rattle.laws.specs.Words.{length-setWord, word-other}
+use Rattle.laws.specs.Queue.{chain-word, take-queue, free-queue}
+use Rattle.readers.specs.Words.{node-length, node-high, free-length, free-other, free-standing, free-register, marked, marked-length}
+use Rattle.readers.specs.Words.{marked-other, marked-standing, fill-length, fill-other, fill-standing}
 
 -- one more at the end
-not-end : (m n : ℕ) (l : List ℕ) → m ≢ n → NotIn m l → NotIn m (l ++ n ∷ [])
-not-end m n [] d h = (d, tt)
-not-end m n (k ∷ l) d h = (h .0, not-end m n l d (h .1))
-
-pub distinct-end : (n : ℕ) (l : List ℕ) → NotIn n l → Distinct l → Distinct (l ++ n ∷ [])
-distinct-end n [] h d = (tt, tt)
-distinct-end n (m ∷ l) h d = (not-end m n l (λ e. h .0 (sym e)) (d .0), distinct-end n l (h .1) (d .1))
+pub distinct-end : (n : ℕ) (l : List ℕ) → ¬ (n ∈ l) → Distinct l → Distinct (l ++ n ∷ [])
+distinct-end n [] h d = (λ i. i, tt)
+distinct-end n (m ∷ l) h d = (
+  λ i. ⊎-elim (d .0) (⊎-elim (λ e. h (inl (sym e))) (λ z. z)) (in-append m l (n ∷ []) .0 i),
+  distinct-end n l (λ i. h (inr i)) (d .1),
+)
 
 pub record QueueExact (st : State) (l : List ℕ) : Type 0 where
   pub queued : Queue st l
@@ -55,14 +41,10 @@ exact-out st l n h d i = d (h .standing n .0 i .1)
 pub exact-room : (st : State) (l : List ℕ) (n : ℕ) → QueueExact st l → InPool (st .pool) n → ¬ (n ∈ l) → length l < nodes (st .pool)
 exact-room st l n h hn out =
     let p = st .pool in
-    pigeonhole (nodes p) (n ∷ l) (out, distinct l (h .once)) (λ m i. ⊎-elim
+    pigeonhole (nodes p) (n ∷ l) (out, h .once) (λ m i. ⊎-elim
     (λ e. rw e (hn .low, node-high p n hn))
     (λ j. let k = h .standing m .0 j .0 in (k .low, node-high p m k))
     i)
-
--- the count is at most N
-pub exact-most : (st : State) (l : List ℕ) → QueueExact st l → length l ≤ nodes (st .pool)
-exact-most st l h = pigeonhole (nodes (st .pool)) l (distinct l (h .once)) (λ m i. let k = h .standing m .0 i .0 in (k .low, node-high (st .pool) m k))
 
 -- Free: to the end.
 pub free-exact : (st : State) (l : List ℕ) (n : ℕ) → QueueExact st l → InPool (st .pool) n → word (st .pool) n standingWord ≢ standingFree → QueueExact (freeNode st n) (l ++ n ∷ [])
@@ -73,8 +55,8 @@ free-exact st l n h hn d =
     let out = exact-out st l n h d in
     let room = exact-room st l n h hn out in
     record {
-      queued = free-queue st n l (h .queued) (h .once) (not-in n l out) hn;
-      once = distinct-end n l (not-in n l out) (h .once);
+      queued = free-queue st n l (h .queued) (h .once) out hn;
+      once = distinct-end n l out (h .once);
       standing = λ m. (
         λ i. ⊎-elim
             (λ j. (let a = h .standing m .0 j in
@@ -106,7 +88,7 @@ take-exact st n l k v s x y c h =
       standing = λ m. (
         λ i. (let old = h .standing m .0 (inr i) in (
           node-length p q m size (old .0),
-          fill-other p a k v s x y c m standingWord (omega arith) (λ e. out-of n l (h .once .0) (rw (sym first ∙ e) i)) ∙ old .1,
+          fill-other p a k v s x y c m standingWord (omega arith) (λ e. h .once .0 (rw (sym first ∙ e) i)) ∙ old .1,
         )),
         λ b. (elim (ℕ-discrete a m) [
           | yes e ↦ absurd (let z = sym (fill-standing p a k v s x y c ha) ∙ ap (λ i. word q i standingWord) e ∙ b .1 in omega arith)

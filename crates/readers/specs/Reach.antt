@@ -8,14 +8,17 @@ use mathlib.Core.List.{List}
 use mathlib.Core.Logic.{_≢_, _⊎_, inl, inr, ⊎-elim}
 use native.Mathlib.Omega.{arith}
 use borrow.Author.Tests.{eq-eqb, ne-eqb}
+use Rattle.base.specs.Lists.{_∈_, in-append}
 use Rattle.datatypes.specs.declared.Side.{Side}
 use Rattle.datatypes.specs.declared.Side.the-variants.{L, R}
 use Rattle.spec.specs.Numbers.{slots}
 use Rattle.spec.specs.Pool.{word, child, linkWord, nodes, standingWord, holdersWord, standingFree, standingLinked, standingRetired}
 use Rattle.spec.specs.Register.{State, hasSlot, dropSlot}
 use Rattle.spec.specs.Free.{endReading}
-use Rattle.laws.specs.Words.{InPool}
+use Rattle.spec.specs.FreeQueue.{InPool}
 use Rattle.laws.specs.Slots.{drop-same, drop-other}
+use Rattle.tree.specs.Linked.{Linked, nil, cell, nodes as treeNodes}
+use Rattle.heap.specs.Rep.{Rep}
 use Rattle.promise.specs.Demands.{Leads, arrived, onward}
 use Rattle.readers.specs.Marks.{no-bit}
 use Rattle.readers.specs.Words.{node-high, node-length, Whole, whole-length, stands-node}
@@ -54,6 +57,28 @@ pub kept-reach : (p : List ℕ) (s n m : ℕ) → s < slots → Closed p → Kep
 kept-reach p s n m u c k (arrived a d) = k
 kept-reach p s n m u c k (onward a b z d l) = kept-reach p s (child p z n) m u c (kept-child p s n z u c k (leads-there p (child p z n) m l)) l
 
+-- links lead on to a child
+pub leads-on : (p : List ℕ) (a n : ℕ) (z : Side) → Leads p a n → child p z n ≢ 0 → Leads p a (child p z n)
+leads-on p a n z (arrived m d) c = onward n (child p z n) z d (arrived (child p z n) c)
+leads-on p a n z (onward b m s d l) c = onward a (child p z n) s d (leads-on p (child p s a) n z l c)
+
+-- Links lead from a link to just the nodes of its tree.
+pub leads-in : (p : List ℕ) (T : Linked) (a n : ℕ) → Rep p a T → Leads p a n → n ∈ treeNodes T
+leads-in p nil a n h (arrived m d) = absurd (d h)
+leads-in p nil a n h (onward b m s d l) = absurd (d h)
+leads-in p (cell N x y) a n h (arrived m d) = inl (h .0 .is)
+leads-in p (cell N x y) a n h (onward b m L d l) = inr (in-append n (treeNodes x) (treeNodes y) .1 (inl (leads-in p x (child p L a) n (rw (h .0 .is) (h .1)) l)))
+leads-in p (cell N x y) a n h (onward b m R d l) = inr (in-append n (treeNodes x) (treeNodes y) .1 (inr (leads-in p y (child p R a) n (rw (h .0 .is) (h .2)) l)))
+
+pub in-leads : (p : List ℕ) (T : Linked) (a n : ℕ) → Rep p a T → n ∈ treeNodes T → Leads p a n
+in-leads p nil a n h i = absurd i
+in-leads p (cell N x y) a n h i =
+    let e = h .0 .is in
+    let d : a ≢ 0 = (let z = h .0 .within .low in omega arith) in
+    ⊎-elim (λ z. subst (λ m. Leads p a m) (e ∙ sym z) (arrived a d))
+    (λ z. ⊎-elim (λ j. onward a n L d (in-leads p x (child p L a) n (rw e (h .1)) j))
+    (λ j. onward a n R d (in-leads p y (child p R a) n (rw e (h .2)) j)) (in-append n (treeNodes x) (treeNodes y) .0 z)) i
+
 -- The end of slot s's reading: for other slots every kept node stays kept, and children stay so.
 module _ (st : State) (s : ℕ) (l : List ℕ) (w : Whole (st .pool)) (h : QueueExact st l) where
   abbrev before : List ℕ
@@ -90,7 +115,7 @@ module _ (st : State) (s : ℕ) (l : List ℕ) (w : Whole (st .pool)) (h : Queue
       go false e = e
 
   -- a retired node was retired, and each of its holders but s is left
-  retired-end : (n : ℕ) → HasStanding after n standingRetired → HasStanding before n standingRetired × (word after n holdersWord ≡ dropSlot (word before n holdersWord) s)
+  pub retired-end : (n : ℕ) → HasStanding after n standingRetired → HasStanding before n standingRetired × (word after n holdersWord ≡ dropSlot (word before n holdersWord) s)
   retired-end n e =
       let hn = after-node n (omega arith) in
       let r = end-released st s l h in

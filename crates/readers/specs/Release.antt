@@ -15,7 +15,8 @@ use Rattle.spec.specs.Numbers.{nodeWords}
 use Rattle.spec.specs.Pool.{word, setWord, nodes, standingWord, holdersWord, standingFree, standingRetired}
 use Rattle.spec.specs.Register.{State, state, noReader, withQueue, withReader, withAwaited, dropSlot}
 use Rattle.spec.specs.Free.{freeNode, release, endReading}
-use Rattle.laws.specs.Words.{InPool, length-setWord, word-none, word-same, word-other}
+use Rattle.spec.specs.FreeQueue.{InPool}
+use Rattle.laws.specs.Words.{length-setWord, word-none, word-same, word-other}
 use Rattle.laws.specs.Queue.{chain-word}
 use Rattle.readers.specs.Marks.{walk}
 use Rattle.readers.specs.Words.{node-length, node-in, free-length, free-words, free-other, free-standing, free-holders, free-register}

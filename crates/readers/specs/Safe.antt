@@ -13,17 +13,17 @@ use Rattle.datatypes.specs.declared.Link.{Link}
 use Rattle.datatypes.specs.declared.Write.{Write}
 use Rattle.datatypes.specs.declared.Reader.{Reader}
 use Rattle.spec.specs.Numbers.{slots}
-use Rattle.spec.specs.Pool.{nodes, standingWord, standingLinked}
+use Rattle.spec.specs.Pool.{standingWord, standingLinked}
 use Rattle.spec.specs.Register.{State, state, noReader, readerOf, withReader, withAwaited, withWrite}
 use Rattle.spec.specs.Free.{endReading}
 use Rattle.spec.specs.Calls.{reading}
 use Rattle.promise.specs.Demands.{Leads, Reaches}
+use Rattle.promise.specs.Run.{Reads}
 use Rattle.readers.specs.Marks.{reader-same, reader-other}
 use Rattle.readers.specs.Words.{Whole, whole-length, stands-node}
 use Rattle.readers.specs.Release.{ended, end-released}
 use Rattle.readers.specs.Owned.{readingIn, Owned, own-reader, own-end}
 use Rattle.readers.specs.Reach.{HasStanding, Kept, LinkedClosed, Closed, kept-reach, leads-there, kept-end, closed-end, end-linked, kept-store, closed-store}
-use Rattle.readers.specs.NodeChanges.{Reading}
 use Rattle.readers.specs.Stored.{own-fields}
 use Rattle.readers.specs.Turns.{Turn}
 
@@ -33,7 +33,7 @@ pub record Safe (st : State) : Type 0 where
   pub owned : Owned st queue
   pub closed : Closed (st .pool)
   pub root : st .register .root ≢ 0 → HasStanding (st .pool) (st .register .root) standingLinked
-  pub at : (s : ℕ) → s < slots → reading st s ≡ true → readerOf (st .register) s .node ≢ 0 → Kept (st .pool) s (readerOf (st .register) s .node)
+  pub at : (s : ℕ) → s < slots → Reads st s → readerOf (st .register) s .node ≢ 0 → Kept (st .pool) s (readerOf (st .register) s .node)
 
 -- what a slot reaches is kept for it
 pub safe-reach : (st : State) (s m : ℕ) → Safe st → Reaches st s m → Kept (st .pool) s m
@@ -128,11 +128,12 @@ safe-turn st after came gone l v h t linked root = record {
   whole = whole-length (st .pool) (after .pool) (t .size) (h .whole);
   queue = t .queue;
   owned = t .owned;
-  closed = closed-store (st .pool) (after .pool) (Reading (st .register)) (t .change) (h .closed) linked
-      (λ n s e u i. subst (λ xs. readingIn xs s ≡ true) (t .readers) (t .owned .good n (stands-node (after .pool) n standingWord (whole-length (st .pool) (after .pool) (t .size) (h .whole)) (omega arith) (omega arith)) .reads e s u i));
+  closed = closed-store (st .pool) (after .pool) (Reads st) (t .change) (h .closed) linked
+      (λ n s e u i. subst (λ xs. readingIn xs s ≡ true) (t .readers)
+      (t .owned .good n (stands-node (after .pool) n standingWord (whole-length (st .pool) (after .pool) (t .size) (h .whole)) (omega arith) (omega arith)) .reads e s u i));
   root = root;
   at = λ s u i d. (let o : readerOf (after .register) s ≡ readerOf (st .register) s = ap (λ xs. getD xs s noReader) (t .readers) in
       subst (λ y. Kept (after .pool) s (y .node)) (sym o)
-      (kept-store (st .pool) (after .pool) (Reading (st .register)) (t .change) s (readerOf (st .register) s .node) u (sym (ap (λ y. y .reading) o) ∙ i)
+      (kept-store (st .pool) (after .pool) (Reads st) (t .change) s (readerOf (st .register) s .node) u (sym (ap (λ y. y .reading) o) ∙ i)
       (h .at s u (sym (ap (λ y. y .reading) o) ∙ i) (λ x. d (ap (λ y. y .node) o ∙ x)))));
 }

@@ -7,19 +7,19 @@ use Rattle.datatypes.specs.declared.Side.{Side}
 use Rattle.datatypes.specs.declared.Side.the-variants.{L, R}
 use Rattle.datatypes.specs.declared.Link.{Link}
 use Rattle.datatypes.specs.declared.Link.the-variants.{Root, Left, Right}
-use Rattle.datatypes.specs.declared.Write.{Write}
-use Rattle.datatypes.specs.Side.{other, linkAt}
+use Rattle.datatypes.specs.Side.{linkAt}
 use Rattle.spec.specs.Pool.{redColour, standingLinked}
-use Rattle.spec.specs.Register.{State, state, setLink, withRoot, withQueue, withAwaited, withWrite}
+use Rattle.spec.specs.Register.{State, state, setLink, withRoot, withQueue}
 use Rattle.spec.specs.Free.{takeFree, takeNode}
 use Rattle.spec.specs.Search.{pathTo}
 use Rattle.spec.specs.Plan.{fixupAfterInsert, paintInsertFixup}
 use Rattle.spec.specs.Turn.{oneMore, endInsert, insertStore}
 use Rattle.readers.specs.Words.{Whole}
-use Rattle.readers.specs.Owned.{Slots, Owned}
+use Rattle.readers.specs.Owned.{Owned}
+use Rattle.heap.specs.ColourWork.{colours-insertFixup}
 use Rattle.readers.specs.Reach.{HasStanding}
-use Rattle.readers.specs.Stored.{OwnerLinked, Stored, own-fields, taking-stored}
-use Rattle.readers.specs.ColourWork.{Recoloured, recoloured-trans, recoloured-pool, recoloured-more, recoloured-insert, coloursChange-insertFixup, stored-recoloured}
+use Rattle.readers.specs.Stored.{OwnerLinked, taking-stored}
+use Rattle.readers.specs.ColourWork.{Recoloured, recoloured-trans, recoloured-pool, recoloured-more, recoloured-insert, stored-recoloured}
 use Rattle.readers.specs.Turns.{Turn, turn-none}
 
 -- a turn, and the awaited slots after it
@@ -41,25 +41,6 @@ awaited-take : (st : State) (k v : ℕ) (s : Side) (x y c : ℕ) → takeNode st
 unfolding takeNode takeFree withQueue
 awaited-take st k v s x y c = refl
 
--- other awaited slots, which are reading, and another write in hand
-stored-await : (st a : State) (came : List ℕ) (l : Link) (v m : ℕ) (x : Write) → Slots (a .register .readers) m → Stored st a came l v
-    → Stored st (state (a .pool) (withWrite (withAwaited (a .register) m) x)) came l v
-unfolding withAwaited withWrite
-stored-await st a came l v m x z h = record {
-  size = h .size;
-  standing = h .standing;
-  holders = h .holders;
-  keys = h .keys;
-  records = h .records;
-  links = h .links;
-  new = h .new;
-  root = h .root;
-  readers = h .readers;
-  free = h .free;
-  queue = h .queue;
-  owned = own-fields (a .pool) (a .register) (withWrite (withAwaited (a .register) m) x) (h .queue) refl refl refl refl z (h .owned);
-}
-
 -- The stores that take a node: the first of the queue, n.
 module _ (st : State) (n : ℕ) (q : List ℕ) (w : Whole (st .pool)) (h : Owned st (n ∷ q)) where
   abbrev first : ℕ
@@ -74,7 +55,8 @@ module _ (st : State) (n : ℕ) (q : List ℕ) (w : Whole (st .pool)) (h : Owned
       let linked = oneMore base in
       let coloured = state (paintInsertFixup (c .levels) path (linked .pool)) (linked .register) in
       let tint : Recoloured base (endInsert (c .ending) coloured) =
-      recoloured-trans (recoloured-more base) (recoloured-trans (recoloured-pool linked (paintInsertFixup (c .levels) path (linked .pool)) (coloursChange-insertFixup (c .levels) path (linked .pool))) (recoloured-insert (c .ending) coloured)) in
+      recoloured-trans (recoloured-more base) (recoloured-trans (recoloured-pool linked (paintInsertFixup (c .levels) path (linked .pool)) (colours-insertFixup (c .levels) path (linked .pool)))
+      (recoloured-insert (c .ending) coloured)) in
       record {
         turn = turn-none st (endInsert (c .ending) coloured) (n ∷ q) (n ∷ []) l first w o h
             (stored-recoloured st base (endInsert (c .ending) coloured) (n ∷ []) l first tint (taking-stored st n q k v L 0 0 redColour l first w o h));

@@ -19,13 +19,15 @@ use Rattle.spec.specs.Numbers.{nodeWords}
 use Rattle.spec.specs.Pool.{word, setWord, child, keyWord, recordWord, leftWord, rightWord, linkWord, colourWord, standingWord, holdersWord, standingFree, standingLinked}
 use Rattle.spec.specs.Register.{State, state, withRoot, withQueue, setLink}
 use Rattle.spec.specs.Free.{takeFree, takeNode}
-use Rattle.tree.specs.Distinct.{_∈_}
-use Rattle.laws.specs.Words.{InPool, length-setWord, word-same, word-other}
+use Rattle.base.specs.Lists.{_∈_}
+use Rattle.spec.specs.FreeQueue.{InPool}
+use Rattle.laws.specs.Words.{length-setWord, word-same, word-other}
+use Rattle.laws.specs.Queue.{link-low}
 use Rattle.readers.specs.Words.{Whole, whole-length, stands-node, fill-length, fill-other, fill-standing}
 use Rattle.readers.specs.QueueExact.{field-exact}
 use Rattle.readers.specs.Owned.{Slots, Owned, own-word, own-take}
 use Rattle.readers.specs.Reach.{HasStanding}
-use Rattle.readers.specs.Graft.{hits}
+use Rattle.tree.specs.Graft.{hits}
 
 -- the link stored, among a node's links; the root after it
 abbrev pub hitsLink : Link → ℕ → Side → Bool
@@ -58,10 +60,6 @@ pub record Stored (st mid : State) (came : List ℕ) (l : Link) (v : ℕ) : Type
   pub free : st .register .free ≤ mid .register .free + length came
   pub queue : List ℕ
   pub owned : Owned mid queue
-
-pub link-low : (s : Side) → linkWord s < colourWord
-link-low L = omega arith
-link-low R = omega arith
 
 -- a link of a node after a link is set
 pub child-set : (p : List ℕ) (d : ℕ) (s : Side) (v n : ℕ) (z : Side) → InPool p d → child (setWord p d (linkWord s) v) z n ≡ cond (hits d s n z) v (child p z n)
@@ -150,7 +148,8 @@ taking-stored st n q k w s x y c l v whole o h =
     let base = takeNode st k w s x y c in
     let out : (m f : ℕ) → f < nodeWords → ¬ (m ∈ (n ∷ [])) → word (base .pool) m f ≡ word p m f =
     λ m f u i. fill-other p a k w s x y c m f u (λ e. i (inl (sym e ∙ first))) in
-    let g = link-stored base q l v (whole-length p (base .pool) (fill-length p a k w s x y c) whole) (owner l o (λ m e. out m standingWord (omega arith) e) (here .1)) (own-take st n q k w s x y c h) in
+    let g = link-stored base q l v (whole-length p (base .pool) (fill-length p a k w s x y c) whole) (owner l o (λ m e. out m standingWord (omega arith) e) (here .1))
+    (own-take st n q k w s x y c h) in
     record {
       size = g .size ∙ fill-length p a k w s x y c;
       standing = λ m i. g .standing m (λ z. z) ∙ out m standingWord (omega arith) i;

@@ -6,7 +6,7 @@ use mathlib.Core.List.{List, [], _∷_, _++_}
 use native.Mathlib.Omega.{arith}
 use Rattle.datatypes.specs.declared.Side.the-variants.{L}
 use Rattle.tree.specs.Order.{tri-case}
-use Rattle.tree.specs.Distinct.{_∈_, in-append, Distinct}
+use Rattle.base.specs.Lists.{_∈_, in-append, Distinct}
 use Rattle.tree.specs.Occurs.{occ, in-occ}
 use Rattle.tree.specs.Thin.{Thin, done, keep, more, leave, thin-refl, thin-stays}
 use Rattle.tree.specs.Linked.{Linked, nil, cell, path, nodes, path-nodes}

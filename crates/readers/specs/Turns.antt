@@ -18,15 +18,19 @@ use Rattle.datatypes.specs.Side.{owner}
 use Rattle.spec.specs.Pool.{word, child, linkWord, keyWord, recordWord, standingWord, holdersWord, standingFree, standingLinked, standingRetired}
 use Rattle.spec.specs.Register.{State, state, withWrite}
 use Rattle.spec.specs.Free.{retire, retireTwo}
-use Rattle.tree.specs.Distinct.{_∈_}
-use Rattle.laws.specs.Words.{InPool, word-none}
+use Rattle.base.specs.Lists.{_∈_}
+use Rattle.spec.specs.FreeQueue.{InPool}
+use Rattle.laws.specs.Queue.{link-low}
+use Rattle.laws.specs.Words.{word-none}
+use Rattle.promise.specs.Run.{Reads}
 use Rattle.heap.specs.Rep.{alike-refl}
 use Rattle.heap.specs.Fill.{Quiet, retire-quiet, retireTwo-quiet}
 use Rattle.readers.specs.Words.{Whole, whole-length, stands-node}
 use Rattle.readers.specs.Owned.{readingIn, Owned, own-retire}
 use Rattle.readers.specs.Reach.{HasStanding, NodeChange, comes, leaves, goes}
-use Rattle.readers.specs.NodeChanges.{ranked, Reading, change-same, Retires, stays, out, off, retire-other, retire-retires, retire-gone, retire-free, retireTwo-free, retireTwo-retires, retireTwo-owned, retireTwo-gone, retireTwo-other}
-use Rattle.readers.specs.Stored.{hitsLink, rootAfter, OwnerLinked, Stored, link-low, own-fields}
+use Rattle.readers.specs.NodeChanges.{ranked, change-same, Retires, stays, out, off, retire-other, retire-retires, retire-gone, retire-free}
+use Rattle.readers.specs.NodeChanges.{retireTwo-free, retireTwo-retires, retireTwo-owned, retireTwo-gone, retireTwo-other}
+use Rattle.readers.specs.Stored.{hitsLink, rootAfter, OwnerLinked, Stored, own-fields}
 
 -- whether a number is in a list
 pub in-dec : (n : ℕ) (l : List ℕ) → Dec (n ∈ l)
@@ -40,7 +44,7 @@ in-dec n (m ∷ l) = go (ℕ-discrete n m) (in-dec n l)
 
 pub record Turn (st after : State) (came gone : List ℕ) (l : Link) (v : ℕ) : Type 0 where
   pub size : length (after .pool) ≡ length (st .pool)
-  pub change : (n : ℕ) → NodeChange (st .pool) (after .pool) (Reading (st .register)) n
+  pub change : (n : ℕ) → NodeChange (st .pool) (after .pool) (Reads st) n
   -- those linked afterwards: those that were or came, and did not go
   pub linked : (n : ℕ) → HasStanding (after .pool) n standingLinked ↔ ((HasStanding (st .pool) n standingLinked ⊎ (n ∈ came)) × (¬ (n ∈ gone)))
   pub new : (n : ℕ) → n ∈ came → HasStanding (st .pool) n standingFree
@@ -68,7 +72,7 @@ owner-linked p (Right m) n z o d e = d (subst (λ i. HasStanding p i standingLin
 
 -- What was stored, then the nodes of `gone` retired.
 module _ (st mid after : State) (q came gone : List ℕ) (l : Link) (v : ℕ) (w : Whole (st .pool)) (o : OwnerLinked (st .pool) l) (h : Owned st q) (s : Stored st mid came l v)
-    (quiet : Quiet mid after) (each : (n : ℕ) → Retires (mid .pool) (after .pool) (Reading (mid .register)) n)
+    (quiet : Quiet mid after) (each : (n : ℕ) → Retires (mid .pool) (after .pool) (Reads mid) n)
     (carriedOut : (n : ℕ) → n ∈ gone → HasStanding (st .pool) n standingLinked × (owner l ≢ n) × (word (after .pool) n standingWord ≢ standingLinked))
     (kept : (n : ℕ) → ¬ (n ∈ gone) → word (after .pool) n standingWord ≡ word (mid .pool) n standingWord)
     (grows : mid .register .free ≤ after .register .free) (l′ : List ℕ) (owned : Owned after l′) where
@@ -82,15 +86,19 @@ module _ (st mid after : State) (q came gone : List ℕ) (l : Link) (v : ℕ) (w
   leavesTree : (n : ℕ) (z : Side) → ¬ (n ∈ came) → owner l ≢ n → child (after .pool) z n ≡ child (st .pool) z n
   leavesTree n z i d = same-link n z ∙ s .links n z i ∙ rw (not-hit l n z d)
 
-  change-of : (n : ℕ) → NodeChange (st .pool) (after .pool) (Reading (st .register)) n
+  change-of : (n : ℕ) → NodeChange (st .pool) (after .pool) (Reads st) n
   change-of n = go (each n) (in-dec n gone) (in-dec n came)
     where
       plain : ¬ (n ∈ came) → word (after .pool) n standingWord ≡ word (mid .pool) n standingWord → word (after .pool) n holdersWord ≡ word (mid .pool) n holdersWord
-          → NodeChange (st .pool) (after .pool) (Reading (st .register)) n
-      plain i a b = change-same (st .pool) (after .pool) (Reading (st .register)) n (ranked st q w h n) (a ∙ s .standing n i)
-          (λ e. (b ∙ s .holders n i, λ z. leavesTree n z i (owner-linked (st .pool) l n (λ x. let y = subst (λ m. HasStanding (st .pool) m standingRetired) x e in let k = word-none (st .pool) standingWord in omega arith) o (λ x. let y = x in omega arith))))
+          → NodeChange (st .pool) (after .pool) (Reads st) n
+      plain i a b = change-same (st .pool) (after .pool) (Reads st) n (ranked st q w h n) (a ∙ s .standing n i)
+          (λ e. (
+            b ∙ s .holders n i,
+            λ z. leavesTree n z i (owner-linked (st .pool) l n
+                (λ x. let y = subst (λ m. HasStanding (st .pool) m standingRetired) x e in let k = word-none (st .pool) standingWord in omega arith) o (λ x. let y = x in omega arith)),
+          ))
 
-      go : Retires (mid .pool) (after .pool) (Reading (mid .register)) n → Dec (n ∈ gone) → Dec (n ∈ came) → NodeChange (st .pool) (after .pool) (Reading (st .register)) n
+      go : Retires (mid .pool) (after .pool) (Reads mid) n → Dec (n ∈ gone) → Dec (n ∈ came) → NodeChange (st .pool) (after .pool) (Reads st) n
       go (stays a b) g (yes i) = comes (inl (s .new n i .0)) (a ∙ s .new n i .1)
       go (stays a b) g (no i) = plain i a b
       go (out a b bits) (no j) c = absurd (let z = kept n j in omega arith)

@@ -1,13 +1,14 @@
 -- What free, retire and take do to each word of each node, and to the register.
-use Prim.Native.Nat.{ℕ, zero, suc, _-_, _*_, _<_, _≤_}
+use Prim.Native.Nat.{ℕ, _-_, _*_, _<_, _≤_}
 use mathlib.Core.Path.{_≡_, refl, _∙_}
 use mathlib.Core.Bool.{Bool, true, false, cond}
-use mathlib.Core.List.{List, [], _∷_}
+use mathlib.Core.List.{List}
 use mathlib.Core.Logic.{_≢_, inl, inr}
 use native.Mathlib.Omega.{arith}
 use native.Mathlib.Decide.{ℕ-discrete, decLe}
 use lib.ListN.{length, getD}
 use borrow.Author.Tests.{eq-eqb, ne-eqb}
+use Rattle.base.specs.Lists.{getD-past}
 use Rattle.datatypes.specs.declared.Side.{Side}
 use Rattle.datatypes.specs.declared.Side.the-variants.{L, R}
 use Rattle.datatypes.specs.Side.{other}
@@ -15,7 +16,8 @@ use Rattle.spec.specs.Numbers.{nodeWords}
 use Rattle.spec.specs.Pool.{place, word, setWord, nodes, keyWord, recordWord, linkWord, colourWord, standingWord, holdersWord, nextWord, standingFree, standingLinked, standingRetired}
 use Rattle.spec.specs.Register.{State, state, withQueue, countUp, readingSlots}
 use Rattle.spec.specs.Free.{queueEmpty, fillNode, freeNode, retire}
-use Rattle.laws.specs.Words.{InPool, length-setWord, word-none, word-at, word-same, word-other}
+use Rattle.spec.specs.FreeQueue.{InPool}
+use Rattle.laws.specs.Words.{length-setWord, word-none, word-at, word-same, word-other}
 
 pub node-set : (p : List ℕ) (m n f v : ℕ) → InPool p m → InPool (setWord p n f v) m
 node-set p m n f v h = record { low = h .low; high = rw length-setWord (h .high) }
@@ -37,17 +39,12 @@ Whole p = length p ≡ nodes p * nodeWords
 pub whole-length : (p q : List ℕ) → length q ≡ length p → Whole p → Whole q
 whole-length p q e h = omega arith
 
-pub past-end : (l : List ℕ) (i : ℕ) → length l ≤ i → getD l i 0 ≡ 0
-past-end [] i h = refl
-past-end (x ∷ l) zero h = absurd (omega arith)
-past-end (x ∷ l) (suc i) h = past-end l i (omega arith)
-
 pub stands-node : (p : List ℕ) (n f : ℕ) → Whole p → f < nodeWords → word p n f ≢ 0 → InPool p n
 stands-node p n f w u d = elim (ℕ-discrete n 0) [
   | yes e ↦ absurd (d (rw (e, word-none p f)))
   | no c ↦ elim (decLe (n * nodeWords) (length p)) [
     | yes h ↦ record { low = omega arith; high = h }
-    | no h ↦ absurd (d (word-at p n f (omega arith) ∙ past-end p (place n f) (omega arith)))
+    | no h ↦ absurd (d (word-at p n f (omega arith) ∙ getD-past 0 p (place n f) (omega arith)))
   ]
 ]
 
@@ -124,10 +121,6 @@ module _ (p : List ℕ) (n a b : ℕ) where
 
   pub marked-length : length marked ≡ length p
   marked-length = length-setWord _ n holdersWord b ∙ length-setWord p n standingWord a
-
-  pub marked-words : (m f : ℕ) → f < nodeWords → f ≢ standingWord → f ≢ holdersWord → word marked m f ≡ word p m f
-  marked-words m f h d e =
-      word-other _ n m holdersWord f b (omega arith) h (inr (omega arith)) ∙ word-other p n m standingWord f a (omega arith) h (inr (omega arith))
 
   pub marked-other : (m f : ℕ) → f < nodeWords → n ≢ m → word marked m f ≡ word p m f
   marked-other m f h d = word-other _ n m holdersWord f b (omega arith) h (inl d) ∙ word-other p n m standingWord f a (omega arith) h (inl d)

@@ -16,6 +16,7 @@ use Rattle.spec.specs.Free.{endReading}
 use Rattle.spec.specs.Search.{towards}
 use Rattle.spec.specs.Calls.{Answer, ok, go, absent, wait, found, more, done, refused, Outcome, firstOf, reading, Call, inserting, deleting, writing, beginning, turning, givingUp}
 use Rattle.spec.specs.PlainList.{Plain, recordFor}
+use Rattle.promise.specs.Run.{Reads}
 use Rattle.tree.specs.Linked.{Linked, nil, cell, find}
 use Rattle.heap.specs.Rep.{Rep}
 use Rattle.readers.specs.Marks.{reader-same, reader-other}
@@ -25,10 +26,10 @@ use Rattle.readers.specs.Safe.{Safe, end-reader, end-own}
 use Rattle.runs.specs.Writer.{Writer, afterStore}
 use Rattle.runs.specs.Sound.{Sound}
 use Rattle.runs.specs.Slot.{Stand, stand-begin}
-use Rattle.runs.specs.Follow.{EndsBy, StandAt}
+use Rattle.runs.specs.Follow.{BeginsBy, TurnsBy, EndsBy, StandAt}
 
 -- which slot a call names, and which call it is
-abbrev slotOf : Call → ℕ
+abbrev pub slotOf : Call → ℕ
 slotOf (inserting k v) = 0
 slotOf (deleting k) = 0
 slotOf writing = 0
@@ -36,7 +37,7 @@ slotOf (beginning s k) = s
 slotOf (turning s) = s
 slotOf (givingUp s) = s
 
-abbrev keyOf : Call → ℕ
+abbrev pub keyOf : Call → ℕ
 keyOf (inserting k v) = k
 keyOf (deleting k) = k
 keyOf writing = 0
@@ -44,7 +45,7 @@ keyOf (beginning s k) = k
 keyOf (turning s) = 0
 keyOf (givingUp s) = 0
 
-abbrev kindOf : Call → ℕ
+abbrev pub kindOf : Call → ℕ
 kindOf (inserting k v) = 0
 kindOf (deleting k) = 1
 kindOf writing = 2
@@ -53,7 +54,7 @@ kindOf (turning s) = 4
 kindOf (givingUp s) = 5
 
 -- which answer it is, and its record
-abbrev toldOf : Answer → ℕ
+abbrev pub toldOf : Answer → ℕ
 toldOf ok = 0
 toldOf go = 1
 toldOf absent = 2
@@ -63,7 +64,7 @@ toldOf (more l n) = 5
 toldOf (done l n) = 6
 toldOf (refused n) = 7
 
-abbrev recordOf : Answer → ℕ
+abbrev pub recordOf : Answer → ℕ
 recordOf ok = 0
 recordOf go = 0
 recordOf absent = 0
@@ -82,79 +83,81 @@ begun-stand : (st : State) (A : Option ℕ → Type 0) (s k t j : ℕ) → t ≡
 begun-stand st A s k t j e f u =
     subst (λ m. StandAt (state (st .pool) (withReader (st .register) t (record { reading = true; key = j; node = 0 }))) A m k) e
     (subst (λ m. StandAt (state (st .pool) (withReader (st .register) t (record { reading = true; key = j; node = 0 }))) A t m) f
-    (subst (λ y. Stand (st .pool) (withReader (st .register) t (record { reading = true; key = j; node = 0 }) .root) (withReader (st .register) t (record { reading = true; key = j; node = 0 }) .awaited) y A t j)
+    (subst (λ y. Stand (st .pool) (withReader (st .register) t (record { reading = true; key = j; node = 0 }) .root)
+    (withReader (st .register) t (record { reading = true; key = j; node = 0 }) .awaited) y A t j)
     (sym (reader-same (st .register) t (record { reading = true; key = j; node = 0 }) u)) (stand-begin _ _ _ A t j)))
 
 -- an accepted begin
-pub begun-right : (st : State) (c : Call) (o : Outcome) (A : Option ℕ → Type 0) (s k : ℕ) → CallCase st c o → Safe st → c ≡ beginning s k → o .answer ≡ ok → (s < slots) × StandAt (o .after) A s k
-begun-right st c o A s k (refuses d n) safe e a = absurd (let z = ap toldOf a in omega arith)
-begun-right st c o A s k (plansInsert j v f) safe e a = absurd (let z = ap kindOf e in omega arith)
-begun-right st c o A s k (plansDelete j f) safe e a = absurd (let z = ap kindOf e in omega arith)
-begun-right st c o A s k (waits f) safe e a = absurd (let z = ap kindOf e in omega arith)
-begun-right st c o A s k (stores f g i) safe e a = absurd (let z = ap kindOf e in omega arith)
-begun-right st c o A s k (begins t j u f) safe e a =
+pub begun-right : (st : State) (c : Call) (o : Outcome) (A : Option ℕ → Type 0) (s k : ℕ) → CallCase st c o → Safe st → BeginsBy c (o .answer) s k → (s < slots) × StandAt (o .after) A s k
+begun-right st c o A s k (refuses d n) safe (e, a) = absurd (let z = ap toldOf a in omega arith)
+begun-right st c o A s k (plansInsert j v f) safe (e, a) = absurd (let z = ap kindOf e in omega arith)
+begun-right st c o A s k (plansDelete j f) safe (e, a) = absurd (let z = ap kindOf e in omega arith)
+begun-right st c o A s k (waits f) safe (e, a) = absurd (let z = ap kindOf e in omega arith)
+begun-right st c o A s k (stores f g i) safe (e, a) = absurd (let z = ap kindOf e in omega arith)
+begun-right st c o A s k (begins t j u f) safe (e, a) =
     let y = ap slotOf e in
     let z = ap keyOf e in
     (subst (λ m. m < slots) y u, begun-stand st A s k t j y z (rw (safe .owned .eight) u))
-begun-right st c o A s k (loads t n p l f) safe e a = absurd (let z = ap kindOf e in omega arith)
-begun-right st c o A s k (misses t n p l f) safe e a = absurd (let z = ap kindOf e in omega arith)
-begun-right st c o A s k (finds t p f g) safe e a = absurd (let z = ap kindOf e in omega arith)
-begun-right st c o A s k (leaves t p) safe e a = absurd (let z = ap kindOf e in omega arith)
+begun-right st c o A s k (loads t n p l f) safe (e, a) = absurd (let z = ap kindOf e in omega arith)
+begun-right st c o A s k (misses t n p l f) safe (e, a) = absurd (let z = ap kindOf e in omega arith)
+begun-right st c o A s k (finds t p f g) safe (e, a) = absurd (let z = ap kindOf e in omega arith)
+begun-right st c o A s k (leaves t p) safe (e, a) = absurd (let z = ap kindOf e in omega arith)
 
 -- a call that does not end the reading of slot s, by its answer, by which call it is, by its slot
 not-told : (c : Call) (a : Answer) (s : ℕ) → toldOf a ≢ 0 → toldOf a ≢ 2 → toldOf a ≢ 4 → ¬ (EndsBy c a s)
 not-told c a s p q r (inl x) = q (ap toldOf (x .1))
-not-told c a s p q r (inr (inl x)) = r (ap toldOf (x .2))
+not-told c a s p q r (inr (inl x)) = r (ap toldOf (x .1 .1))
 not-told c a s p q r (inr (inr x)) = p (ap toldOf (x .1))
 
 not-kind : (c : Call) (a : Answer) (s : ℕ) → kindOf c ≢ 4 → kindOf c ≢ 5 → ¬ (EndsBy c a s)
 not-kind c a s p q (inl x) = p (ap kindOf (x .0))
-not-kind c a s p q (inr (inl x)) = p (ap kindOf (x .1))
+not-kind c a s p q (inr (inl x)) = p (ap kindOf (x .1 .0))
 not-kind c a s p q (inr (inr x)) = q (ap kindOf (x .0))
 
 not-slot : (c : Call) (a : Answer) (s : ℕ) → slotOf c ≢ s → ¬ (EndsBy c a s)
 not-slot c a s d (inl x) = d (ap slotOf (x .0))
-not-slot c a s d (inr (inl x)) = d (ap slotOf (x .1))
+not-slot c a s d (inr (inl x)) = d (ap slotOf (x .1 .0))
 not-slot c a s d (inr (inr x)) = d (ap slotOf (x .0))
 
 write-reading : (st : State) (w : Write) (s : ℕ) → reading (state (st .pool) (withWrite (st .register) w)) s ≡ reading st s
 unfolding withWrite
 write-reading st w s = refl
 
-ended-not : (st : State) (t s : ℕ) → t < slots → Safe st → t ≡ s → reading (endReading st t) s ≡ true → ⊥
-ended-not st t s u h i e = false≢true (sym (ap (λ y. y .reading) (end-own st t u h)) ∙ subst (λ m. reading (endReading st t) m ≡ true) (sym i) e)
+ended-not : (st : State) (t s : ℕ) → t < slots → Safe st → t ≡ s → Reads (endReading st t) s → ⊥
+ended-not st t s u h i e = false≢true (sym (ap (λ y. y .reading) (end-own st t u h)) ∙ subst (λ m. Reads (endReading st t) m) (sym i) e)
 
 module _ (W : State → Plain → Linked → Type 0) (writer : Writer W) where
   -- found
-  pub found-right : (st : State) (x : Plain) (c : Call) (o : Outcome) (A : Option ℕ → Type 0) (s k v : ℕ) → CallCase st c o → Sound W writer st x → c ≡ turning s → o .answer ≡ found v → StandAt st A s k → A (some v)
-  found-right st x c o A s k v (refuses d n) h e a g = absurd (let z = ap toldOf a in omega arith)
-  found-right st x c o A s k v (plansInsert j w f) h e a g = absurd (let z = ap kindOf e in omega arith)
-  found-right st x c o A s k v (plansDelete j f) h e a g = absurd (let z = ap kindOf e in omega arith)
-  found-right st x c o A s k v (waits f) h e a g = absurd (let z = ap kindOf e in omega arith)
-  found-right st x c o A s k v (stores f i j) h e a g = absurd (let z = ap kindOf e in omega arith)
-  found-right st x c o A s k v (begins t j u f) h e a g = absurd (let z = ap kindOf e in omega arith)
-  found-right st x c o A s k v (loads t n p l f) h e a g = absurd (let z = ap toldOf a in omega arith)
-  found-right st x c o A s k v (misses t n p l f) h e a g = absurd (let z = ap toldOf a in omega arith)
-  found-right st x c o A s k v (finds t p d f) h e a g =
+  pub found-right : (st : State) (x : Plain) (c : Call) (o : Outcome) (A : Option ℕ → Type 0) (s k v : ℕ) → CallCase st c o → Sound W writer st x → TurnsBy c (o .answer) s (found v)
+      → StandAt st A s k → A (some v)
+  found-right st x c o A s k v (refuses d n) h (e, a) g = absurd (let z = ap toldOf a in omega arith)
+  found-right st x c o A s k v (plansInsert j w f) h (e, a) g = absurd (let z = ap kindOf e in omega arith)
+  found-right st x c o A s k v (plansDelete j f) h (e, a) g = absurd (let z = ap kindOf e in omega arith)
+  found-right st x c o A s k v (waits f) h (e, a) g = absurd (let z = ap kindOf e in omega arith)
+  found-right st x c o A s k v (stores f i j) h (e, a) g = absurd (let z = ap kindOf e in omega arith)
+  found-right st x c o A s k v (begins t j u f) h (e, a) g = absurd (let z = ap kindOf e in omega arith)
+  found-right st x c o A s k v (loads t n p l f) h (e, a) g = absurd (let z = ap toldOf a in omega arith)
+  found-right st x c o A s k v (misses t n p l f) h (e, a) g = absurd (let z = ap toldOf a in omega arith)
+  found-right st x c o A s k v (finds t p d f) h (e, a) g =
       let y = ap slotOf e in
       let z = ap recordOf a in
       let d′ = subst (λ m. readerOf (st .register) m .node ≢ 0) y d in
       let f′ = subst (λ m. readerOf (st .register) m .key ≡ word (st .pool) (readerOf (st .register) m .node) keyWord) y f in
       let z′ = subst (λ m. word (st .pool) (readerOf (st .register) m .node) recordWord ≡ v) y z in
       subst (λ w. A (some w)) z′ (turn-found (st .pool) A (readerOf (st .register) s .node) k d′ (sym (g .key) ∙ f′) (g .finds d′))
-  found-right st x c o A s k v (leaves t p) h e a g = absurd (let z = ap toldOf a in omega arith)
+  found-right st x c o A s k v (leaves t p) h (e, a) g = absurd (let z = ap toldOf a in omega arith)
 
   -- absent
-  pub absent-right : (st : State) (x : Plain) (c : Call) (o : Outcome) (A : Option ℕ → Type 0) (s k : ℕ) → CallCase st c o → Sound W writer st x → c ≡ turning s → o .answer ≡ absent
+  pub absent-right : (st : State) (x : Plain) (c : Call) (o : Outcome) (A : Option ℕ → Type 0) (s k : ℕ) → CallCase st c o → Sound W writer st x → TurnsBy c (o .answer) s absent
       → A (recordFor k (x .tickets)) → StandAt st A s k → A none
-  absent-right st x c o A s k (refuses d n) h e a was g = absurd (let z = ap toldOf a in omega arith)
-  absent-right st x c o A s k (plansInsert j w f) h e a was g = absurd (let z = ap kindOf e in omega arith)
-  absent-right st x c o A s k (plansDelete j f) h e a was g = absurd (let z = ap kindOf e in omega arith)
-  absent-right st x c o A s k (waits f) h e a was g = absurd (let z = ap kindOf e in omega arith)
-  absent-right st x c o A s k (stores f i j) h e a was g = absurd (let z = ap kindOf e in omega arith)
-  absent-right st x c o A s k (begins t j u f) h e a was g = absurd (let z = ap kindOf e in omega arith)
-  absent-right st x c o A s k (loads t n p l f) h e a was g = absurd (let z = ap toldOf a in omega arith)
-  absent-right st x c o A s k (misses t n p l f) h e a was g = go (subst (λ m. Loads st m n) (ap slotOf e) l) f
+  absent-right st x c o A s k (refuses d n) h (e, a) was g = absurd (let z = ap toldOf a in omega arith)
+  absent-right st x c o A s k (plansInsert j w f) h (e, a) was g = absurd (let z = ap kindOf e in omega arith)
+  absent-right st x c o A s k (plansDelete j f) h (e, a) was g = absurd (let z = ap kindOf e in omega arith)
+  absent-right st x c o A s k (waits f) h (e, a) was g = absurd (let z = ap kindOf e in omega arith)
+  absent-right st x c o A s k (stores f i j) h (e, a) was g = absurd (let z = ap kindOf e in omega arith)
+  absent-right st x c o A s k (begins t j u f) h (e, a) was g = absurd (let z = ap kindOf e in omega arith)
+  absent-right st x c o A s k (loads t n p l f) h (e, a) was g = absurd (let z = ap toldOf a in omega arith)
+  absent-right st x c o A s k (misses t n p l f) h (e, a) was g = go (subst (λ m. Loads st m n) (ap slotOf e) l) f
     where
       go : Loads st s n → n ≡ 0 → A none
       go (atRoot i j) z =
@@ -164,12 +167,12 @@ module _ (W : State → Plain → Linked → Type 0) (writer : Writer W) where
           let m = readerOf (st .register) s .node in
           turn-absent (st .pool) A k (child (st .pool) (towards (st .pool) k m) m) (ap (λ y. child (st .pool) (towards (st .pool) y m) m) (sym (g .key)) ∙ sym j ∙ z)
           (turn-finds (st .pool) A m k d (λ y. i (g .key ∙ y)) (g .finds d))
-  absent-right st x c o A s k (finds t p d f) h e a was g = absurd (let z = ap toldOf a in omega arith)
-  absent-right st x c o A s k (leaves t p) h e a was g = absurd (let z = ap toldOf a in omega arith)
+  absent-right st x c o A s k (finds t p d f) h (e, a) was g = absurd (let z = ap toldOf a in omega arith)
+  absent-right st x c o A s k (leaves t p) h (e, a) was g = absurd (let z = ap toldOf a in omega arith)
 
   -- a slot that reads after a call read before it and the call did not end that, or the call begins its lookup
-  pub read-before : (st : State) (x : Plain) (c : Call) (o : Outcome) → CallCase st c o → Sound W writer st x → (s : ℕ) → s < slots → reading (o .after) s ≡ true
-      → ((reading st s ≡ true) × (¬ (EndsBy c (o .answer) s))) ⊎ ((k : ℕ) × (c ≡ beginning s k) × (o .answer ≡ ok))
+  pub read-before : (st : State) (x : Plain) (c : Call) (o : Outcome) → CallCase st c o → Sound W writer st x → (s : ℕ) → s < slots → Reads (o .after) s
+      → (Reads st s × (¬ (EndsBy c (o .answer) s))) ⊎ ((k : ℕ) × BeginsBy c (o .answer) s k)
   read-before st x c o (refuses d n) h s u e = inl (e, not-told d (refused (firstOf (testsOf st d))) s (omega arith) (omega arith) (omega arith))
   read-before st x c o (plansInsert j v f) h s u e = inl (sym (write-reading st _ s) ∙ e, not-kind (inserting j v) ok s (omega arith) (omega arith))
   read-before st x c o (plansDelete j f) h s u e = inl (sym (write-reading st _ s) ∙ e, not-kind (deleting j) ok s (omega arith) (omega arith))
@@ -179,11 +182,11 @@ module _ (W : State → Plain → Linked → Type 0) (writer : Writer W) where
       let same : readerOf (afterStore st .register) s ≡ readerOf (st .register) s = ap (λ xs. getD xs s noReader) (z .turn .readers) in
       inl (sym (ap (λ y. y .reading) same) ∙ e, not-kind writing _ s (omega arith) (omega arith))
   read-before st x c o (begins t j v f) h s u e = elim (ℕ-discrete t s) [
-    | yes i ↦ inr (j, ap (λ m. beginning m j) i, refl)
+    | yes i ↦ inr (j, (ap (λ m. beginning m j) i, refl))
     | no i ↦ inl (sym (ap (λ y. y .reading) (reader-other (st .register) t s _ i)) ∙ e, not-kind (beginning t j) ok s (omega arith) (omega arith))
   ]
   read-before st x c o (loads t n p l d) h s u e = elim (ℕ-discrete t s) [
-    | yes i ↦ inl (subst (λ m. reading st m ≡ true) i (p .reads), not-told (turning t) go s (omega arith) (omega arith) (omega arith))
+    | yes i ↦ inl (subst (λ m. Reads st m) i (p .reads), not-told (turning t) go s (omega arith) (omega arith) (omega arith))
     | no i ↦ inl (sym (ap (λ y. y .reading) (reader-other (st .register) t s _ i)) ∙ e, not-told (turning t) go s (omega arith) (omega arith) (omega arith))
   ]
   read-before st x c o (misses t n p l f) h s u e = elim (ℕ-discrete t s) [

@@ -2,8 +2,10 @@ pub mod Writer
 pub mod Sound
 pub mod Slot
 pub mod Follow
+pub mod Starts
 pub mod Begin
 pub mod Answers
 pub mod Theorem
+pub mod Facts
 pub mod Rest
 pub mod Whole

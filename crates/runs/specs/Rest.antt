@@ -12,37 +12,26 @@ use lib.Dec.{eqb}
 use lib.ListN.{length}
 use borrow.Author.Tests.{eqb-true, eqb-false, eq-eqb, le-leb}
 use Rattle.datatypes.specs.declared.Link.{Link}
-use Rattle.sequential.specs.Tree.{leaf}
 use Rattle.sequential.specs.Delete.{changedBy}
 use Rattle.spec.specs.Numbers.{nodeWords, leastNodes, mostNodes, slots, mostStores}
 use Rattle.spec.specs.Pool.{word, colourWord, nodes, lengthRight}
 use Rattle.spec.specs.Register.{State, storeOf, hasSlot, withWrite, lessFirst}
 use Rattle.spec.specs.Turn.{Made, stepFinds, stepMade}
-use Rattle.spec.specs.Calls.{Answer, ok, go, absent, wait, found, more, done, refused, Outcome, stored, Test, _gives_, firstOf, wrongLength, outOfRange, reading, writeInHand, placeOf, tooDeep, isHeld, fewerFree, insertAt, deleteAt, readerTests, Call, inserting, deleting, writing, beginning, turning, givingUp}
+use Rattle.spec.specs.Calls.{Answer, ok, go, absent, wait, found, more, done, refused, Outcome, stored, Test, _gives_, firstOf, wrongLength}
+use Rattle.spec.specs.Calls.{outOfRange, reading, writeInHand, placeOf, tooDeep, isHeld, fewerFree, insertAt, deleteAt, beginTests, readerTests, Call, inserting}
+use Rattle.spec.specs.Calls.{deleting, writing, beginning, turning, givingUp}
 use Rattle.spec.specs.PlainList.{Plain, carriedOut, noticeOf, acceptedWrites}
 use Rattle.laws.specs.Slots.{no-slot}
+use Rattle.laws.specs.Turns.{and-false}
 use Rattle.tree.specs.Linked.{Linked}
-use Rattle.promise.specs.Run.{after}
-use Rattle.promise.specs.Demands.{Stands, FreeRight}
-use Rattle.readers.specs.Words.{Whole, node-high, node-in}
-use Rattle.readers.specs.CallCase.{CallCase, refuses, plansInsert, plansDelete, waits, stores, begins, loads, misses, finds, leaves, testsOf, insertTests, deleteTests, turnTests, beginTests, own, waiting, Clear, not-false}
+use Rattle.promise.specs.Run.{Reads, after}
+use Rattle.promise.specs.Demands.{Stands}
+use Rattle.readers.specs.Words.{Whole}
+use Rattle.readers.specs.CallCase.{CallCase, refuses, plansInsert, plansDelete, waits, stores, begins, loads, misses, finds, leaves, testsOf, insertTests}
+use Rattle.readers.specs.CallCase.{deleteTests, turnTests, own, waiting, Clear, not-false}
 use Rattle.readers.specs.Safe.{Safe}
 use Rattle.runs.specs.Sound.{store-carriedOut}
-
--- the free queue
-pub safe-free : (st : State) → Safe st → FreeRight st
-safe-free st h =
-    let z = h .owned .exact in
-    record {
-      queue = h .queue;
-      queued = z .queued;
-      once = z .once;
-      standing = λ n. (
-        λ i. (let a = z .standing n .0 i in (a .0 .low, node-high (st .pool) n (a .0), a .1)),
-        λ a. z .standing n .1 (node-in (st .pool) n (a .0) (a .1), a .2),
-      );
-      counted = z .counted;
-    }
+use Rattle.runs.specs.Answers.{toldOf}
 
 -- a mask that is not 0 has a slot
 find-slot : (w m : ℕ) → ((s : ℕ) × (s < w) × (hasSlot m s ≡ true)) ⊎ ((s : ℕ) → s < w → hasSlot m s ≡ false)
@@ -62,23 +51,14 @@ some-slot m u d = go (find-slot slots m)
     go (inl r) = r
     go (inr r) = absurd (d (no-slot slots m u r))
 
-abbrev pub toldOf : Answer → ℕ
-toldOf ok = 0
-toldOf go = 1
-toldOf absent = 2
-toldOf wait = 3
-toldOf (found v) = 4
-toldOf (more l n) = 5
-toldOf (done l n) = 6
-toldOf (refused n) = 7
-
 -- a store answers more while stores are left, else done
 pub stored-told : (m : Made) → (toldOf (stored m .answer) ≡ 6) ⊎ ((toldOf (stored m .answer) ≡ 5) × (stored m .after .register .write .count ≢ 0))
 unfolding stored withWrite
 stored-told m = go (eqb (lessFirst (m .after .register .write) .count) 0) refl
   where
     go : (b : Bool) → eqb (lessFirst (m .after .register .write) .count) 0 ≡ b
-        → (toldOf (cond b (done (m .link) (m .node)) (more (m .link) (m .node))) ≡ 6) ⊎ ((toldOf (cond b (done (m .link) (m .node)) (more (m .link) (m .node))) ≡ 5) × (lessFirst (m .after .register .write) .count ≢ 0))
+        → (toldOf (cond b (done (m .link) (m .node)) (more (m .link) (m .node))) ≡ 6) ⊎
+        ((toldOf (cond b (done (m .link) (m .node)) (more (m .link) (m .node))) ≡ 5) × (lessFirst (m .after .register .write) .count ≢ 0))
     go true e = inl refl
     go false e = inr (refl, eqb-false _ 0 e)
 
@@ -86,7 +66,7 @@ stored-not : (m : Made) → ¬ (stored m .answer ≡ wait)
 stored-not m e = ⊎-elim (λ a. let z = ap toldOf e in omega arith) (λ a. let z = ap toldOf e in let b = a .0 in omega arith) (stored-told m)
 
 -- a turn answers wait only while an awaited slot is reading
-pub wait-right : (st : State) (c : Call) (o : Outcome) → CallCase st c o → Safe st → o .answer ≡ wait → (s : ℕ) × (s < slots) × (hasSlot (st .register .awaited) s ≡ true) × (reading st s ≡ true)
+pub wait-right : (st : State) (c : Call) (o : Outcome) → CallCase st c o → Safe st → o .answer ≡ wait → (s : ℕ) × (s < slots) × (hasSlot (st .register .awaited) s ≡ true) × (Reads st s)
 wait-right st c o (refuses d n) h e = absurd (let z = ap toldOf e in omega arith)
 wait-right st c o (plansInsert j v f) h e = absurd (let z = ap toldOf e in omega arith)
 wait-right st c o (plansDelete j f) h e = absurd (let z = ap toldOf e in omega arith)
@@ -146,35 +126,47 @@ refused-by st c o n z (misses t m p l f) e = absurd (z (sym (ap numberOf e)))
 refused-by st c o n z (finds t p d f) e = absurd (z (sym (ap numberOf e)))
 refused-by st c o n z (leaves t p) e = absurd (z (sym (ap numberOf e)))
 
-pub not-two : (st : State) (c : Call) → outOfRange st ≡ false → firstOf (testsOf st c) ≢ 2
-not-two st (inserting k v) r =
-    avoided 2 (insertTests st k v) (omega arith)
-    (inl (omega arith), λ _. (inr r, λ _. (inl (omega arith), λ _. (inl (omega arith), λ _. (inl (omega arith), λ _. (inl (omega arith), λ _. (inl (omega arith), λ _. (inl (omega arith), λ _. tt))))))))
-not-two st (deleting k) r =
-    avoided 2 (deleteTests st k) (omega arith)
-    (inl (omega arith), λ _. (inr r, λ _. (inl (omega arith), λ _. (inl (omega arith), λ _. (inl (omega arith), λ _. (inl (omega arith), λ _. (inl (omega arith), λ _. tt)))))))
-not-two st writing r = avoided 2 (turnTests st) (omega arith) (inl (omega arith), λ _. (inr r, λ _. (inl (omega arith), λ _. (inl (omega arith), λ _. tt))))
-not-two st (beginning s k) r = avoided 2 (beginTests st s) (omega arith) (inl (omega arith), λ _. (inr r, λ _. (inl (omega arith), λ _. (inl (omega arith), λ _. tt))))
-not-two st (turning s) r = avoided 2 (readerTests st s) (omega arith) (inl (omega arith), λ _. (inr r, λ _. (inl (omega arith), λ _. (inl (omega arith), λ _. tt))))
-not-two st (givingUp s) r = avoided 2 (readerTests st s) (omega arith) (inl (omega arith), λ _. (inr r, λ _. (inl (omega arith), λ _. (inl (omega arith), λ _. tt))))
+-- every call tests the length first and the ranges second; no later test gives 1 or 2
+abbrev Others : ℕ → List Test → Type 0
+Others n [] = Unit {0}
+Others n ((b gives k) ∷ ts) = (k ≢ n) × Others n ts
+
+others-avoid : (n : ℕ) (ts : List Test) → Others n ts → Avoids n ts
+others-avoid n [] h = tt
+others-avoid n ((b gives k) ∷ ts) h = (inl (h .0), λ _. others-avoid n ts (h .1))
+
+-- the tests after the first n
+abbrev less : ℕ → List Test → List Test
+less zero ts = ts
+less (suc n) [] = []
+less (suc n) (t ∷ ts) = less n ts
 
 pub not-one : (st : State) (c : Call) → wrongLength st ≡ false → firstOf (testsOf st c) ≢ 1
-not-one st (inserting k v) r = avoided 1 (insertTests st k v) (omega arith) (inr r, λ _. (inl (omega arith), λ _. (inl (omega arith), λ _. (inl (omega arith), λ _. (inl (omega arith), λ _. (inl (omega arith), λ _. (inl (omega arith), λ _. (inl (omega arith), λ _. tt))))))))
-not-one st (deleting k) r = avoided 1 (deleteTests st k) (omega arith) (inr r, λ _. (inl (omega arith), λ _. (inl (omega arith), λ _. (inl (omega arith), λ _. (inl (omega arith), λ _. (inl (omega arith), λ _. (inl (omega arith), λ _. tt)))))))
-not-one st writing r = avoided 1 (turnTests st) (omega arith) (inr r, λ _. (inl (omega arith), λ _. (inl (omega arith), λ _. (inl (omega arith), λ _. tt))))
-not-one st (beginning s k) r = avoided 1 (beginTests st s) (omega arith) (inr r, λ _. (inl (omega arith), λ _. (inl (omega arith), λ _. (inl (omega arith), λ _. tt))))
-not-one st (turning s) r = avoided 1 (readerTests st s) (omega arith) (inr r, λ _. (inl (omega arith), λ _. (inl (omega arith), λ _. (inl (omega arith), λ _. tt))))
-not-one st (givingUp s) r = avoided 1 (readerTests st s) (omega arith) (inr r, λ _. (inl (omega arith), λ _. (inl (omega arith), λ _. (inl (omega arith), λ _. tt))))
+not-one st (inserting k v) r = avoided 1 (insertTests st k v) (omega arith) (inr r, λ _. others-avoid 1 (less 1 (insertTests st k v)) (omega arith))
+not-one st (deleting k) r = avoided 1 (deleteTests st k) (omega arith) (inr r, λ _. others-avoid 1 (less 1 (deleteTests st k)) (omega arith))
+not-one st writing r = avoided 1 (turnTests st) (omega arith) (inr r, λ _. others-avoid 1 (less 1 (turnTests st)) (omega arith))
+not-one st (beginning s k) r = avoided 1 (beginTests st s) (omega arith) (inr r, λ _. others-avoid 1 (less 1 (beginTests st s)) (omega arith))
+not-one st (turning s) r = avoided 1 (readerTests st s) (omega arith) (inr r, λ _. others-avoid 1 (less 1 (readerTests st s)) (omega arith))
+not-one st (givingUp s) r = avoided 1 (readerTests st s) (omega arith) (inr r, λ _. others-avoid 1 (less 1 (readerTests st s)) (omega arith))
+
+pub not-two : (st : State) (c : Call) → outOfRange st ≡ false → firstOf (testsOf st c) ≢ 2
+not-two st (inserting k v) r = avoided 2 (insertTests st k v) (omega arith) (inl (omega arith), λ _. (inr r, λ _. others-avoid 2 (less 2 (insertTests st k v)) (omega arith)))
+not-two st (deleting k) r = avoided 2 (deleteTests st k) (omega arith) (inl (omega arith), λ _. (inr r, λ _. others-avoid 2 (less 2 (deleteTests st k)) (omega arith)))
+not-two st writing r = avoided 2 (turnTests st) (omega arith) (inl (omega arith), λ _. (inr r, λ _. others-avoid 2 (less 2 (turnTests st)) (omega arith)))
+not-two st (beginning s k) r = avoided 2 (beginTests st s) (omega arith) (inl (omega arith), λ _. (inr r, λ _. others-avoid 2 (less 2 (beginTests st s)) (omega arith)))
+not-two st (turning s) r = avoided 2 (readerTests st s) (omega arith) (inl (omega arith), λ _. (inr r, λ _. others-avoid 2 (less 2 (readerTests st s)) (omega arith)))
+not-two st (givingUp s) r = avoided 2 (readerTests st s) (omega arith) (inl (omega arith), λ _. (inr r, λ _. others-avoid 2 (less 2 (readerTests st s)) (omega arith)))
 
 -- a pool of N nodes has the right length
-pub length-right : (st : State) (N : ℕ) → 8 ≤ N → N ≤ 1023 → Whole (st .pool) → nodes (st .pool) ≡ N → wrongLength st ≡ false
+pub length-right : (st : State) (N : ℕ) → leastNodes ≤ N → N ≤ mostNodes → Whole (st .pool) → nodes (st .pool) ≡ N → wrongLength st ≡ false
 unfolding lengthRight
 length-right st N lo hi w e =
     rw (eq-eqb (length (st .pool) % nodeWords) 0 (omega arith), le-leb leastNodes (nodes (st .pool)) (omega arith), le-leb (nodes (st .pool)) mostNodes (omega arith))
 
 -- What the writer's side gives of these.
 pub record Completes (W : State → Plain → Linked → Type 0) : Type 0 where
-  pub rest : (st : State) (x : Plain) (T : Linked) → W st x T → ((n : ℕ) → word (st .pool) n colourWord ≤ 1) → writeInHand st ≡ false → Stands (st .pool) (st .register .root) (changedBy leaf (acceptedWrites x))
+  pub rest : (st : State) (x : Plain) (T : Linked) → W st x T → ((n : ℕ) → word (st .pool) n colourWord ≤ 1) → writeInHand st ≡ false
+      → Stands (st .pool) (st .register .root) (changedBy (x .started) (acceptedWrites x))
   pub few : (st : State) (x : Plain) (T : Linked) → W st x T → writeInHand st ≡ true → x .made + st .register .write .count ≤ mostStores
   pub insertGoes : (st : State) (x : Plain) (T : Linked) (k v : ℕ) → Safe st → W st x T → writeInHand st ≡ false
       → (tooDeep (placeOf st k) ≡ false) × (isHeld (placeOf st k) ≡ false → fewerFree st 3 ≡ false → insertAt st k v (placeOf st k) .possible ≡ true)
@@ -229,10 +221,6 @@ all-clear : (ts : List Test) → Clear ts → firstOf ts ≡ 0
 all-clear [] h = refl
 all-clear ((true gives n) ∷ ts) h = absurd (false≢true (sym (h .0)))
 all-clear ((false gives n) ∷ ts) h = all-clear ts (h .1)
-
-and-false : (a b : Bool) → b ≡ false → (a && b) ≡ false
-and-false true b e = e
-and-false false b e = refl
 
 -- awaited slots read, so if none of them reads none is awaited
 pub none-awaited : (st : State) → Safe st → ((s : ℕ) → s < slots → hasSlot (st .register .awaited) s ≡ true → reading st s ≡ false) → st .register .awaited ≡ 0

@@ -1,51 +1,41 @@
 -- Both sides of the invariant, kept by every call.
-use Prim.Native.Nat.{ℕ, _+_, _<_}
+use Prim.Native.Nat.{ℕ, _+_, _<_, _≤_}
 use mathlib.Core.Path.{_≡_, refl, _∙_}
 use mathlib.Core.Bool.{Bool, true, false, cond}
 use mathlib.Core.List.{List}
-use mathlib.Core.Logic.{_≢_, _⊎_, inl, inr, ⊎-elim, _↔_}
+use mathlib.Core.Logic.{_≢_, inl, _↔_}
 use native.Mathlib.Omega.{arith}
 use lib.ListN.{length-append}
 use lib.Dec.{eqb}
-use Rattle.datatypes.specs.declared.Side.{Side}
 use Rattle.datatypes.specs.declared.Side.the-variants.{L, R}
 use Rattle.datatypes.specs.declared.Reader.{Reader}
-use Rattle.spec.specs.Numbers.{slots}
+use Rattle.spec.specs.Numbers.{leastNodes, mostNodes, slots}
 use Rattle.spec.specs.Pool.{child, standingLinked, nodes as poolNodes}
 use Rattle.spec.specs.Register.{State, state, storeOf, readerOf, withReader, withAwaited, lessFirst}
 use Rattle.spec.specs.Free.{endReading}
 use Rattle.spec.specs.Search.{towards}
 use Rattle.spec.specs.Turn.{Made, stepMade}
-use Rattle.spec.specs.Calls.{more, done, Outcome, stored, Call, call}
+use Rattle.spec.specs.Calls.{more, done, Outcome, stored, Call}
 use Rattle.spec.specs.PlainList.{Plain, carriedOut, noticeOf, feed}
-use Rattle.tree.specs.Distinct.{_∈_, in-append}
-use Rattle.tree.specs.Linked.{Linked, nil, cell, nodes}
+use Rattle.base.specs.Lists.{_∈_}
+use Rattle.tree.specs.Linked.{Linked, nodes}
 use Rattle.heap.specs.Rep.{Rep, alike-refl}
 use Rattle.readers.specs.Release.{ended, freedBelow, end-released}
-use Rattle.readers.specs.Reach.{HasStanding, Kept, LinkedClosed, kept-child, end-linked, linked-end}
+use Rattle.readers.specs.Reach.{HasStanding, Kept, LinkedClosed, leads-on, leads-in, in-leads, kept-child, end-linked, linked-end}
 use Rattle.readers.specs.CallCase.{CallCase, refuses, plansInsert, plansDelete, waits, stores, begins, loads, misses, finds, leaves, Loads, atRoot, atNode, Passed}
 use Rattle.readers.specs.Safe.{Safe, safe-write, safe-reader, safe-end, safe-turn}
+use Rattle.promise.specs.Run.{Start, outset, Reads}
+use Rattle.promise.specs.Demands.{arrived}
+use Rattle.ranges.specs.Calls.{Ranged}
 use Rattle.runs.specs.Writer.{LeavesTree, Stores, Writer, afterStore}
 
--- the children of a tree's nodes are its nodes
-rep-top : (p : List ℕ) (a : ℕ) (t : Linked) → Rep p a t → a ≢ 0 → a ∈ nodes t
-rep-top p a nil h d = absurd (d h)
-rep-top p a (cell N l r) h d = inl (h .0 .is)
-
-rep-child : (p : List ℕ) (t : Linked) (a n : ℕ) (z : Side) → Rep p a t → n ∈ nodes t → child p z n ≢ 0 → child p z n ∈ nodes t
-rep-child p nil a n z h i d = absurd i
-rep-child p (cell N l r) a n L h (inl e) d = inr (in-append _ (nodes l) (nodes r) .1 (inl (rep-top p (child p L n) l (rw e (h .1)) d)))
-rep-child p (cell N l r) a n R h (inl e) d = inr (in-append _ (nodes l) (nodes r) .1 (inr (rep-top p (child p R n) r (rw e (h .2)) d)))
-rep-child p (cell N l r) a n z h (inr i) d =
-    inr (in-append _ (nodes l) (nodes r) .1
-    (⊎-elim (λ j. inl (rep-child p l _ n z (h .1) j d)) (λ j. inr (rep-child p r _ n z (h .2) j d)) (in-append n (nodes l) (nodes r) .0 i)))
-
+-- The tree's nodes are those linked: so children of linked nodes are linked, and so is the root's node.
 module _ (p : List ℕ) (root : ℕ) (T : Linked) (h : Rep p root T) (l : (n : ℕ) → HasStanding p n standingLinked ↔ (n ∈ nodes T)) where
   pub tree-closed : LinkedClosed p
-  tree-closed n z e d = l (child p z n) .1 (rep-child p T root n z h (l n .0 e) d)
+  tree-closed n z e d = l (child p z n) .1 (leads-in p T root (child p z n) h (leads-on p root n z (in-leads p T root n h (l n .0 e)) d))
 
   pub root-linked : root ≢ 0 → HasStanding p root standingLinked
-  root-linked d = l root .1 (rep-top p root T h d)
+  root-linked d = l root .1 (leads-in p T root root h (arrived root d))
 
 -- What the calls of readers leave alone.
 leavesTree-reader : (st : State) (s : ℕ) (x : Reader) → LeavesTree st (state (st .pool) (withReader (st .register) s x))
@@ -92,13 +82,15 @@ module _ (W : State → Plain → Linked → Type 0) (writer : Writer W) where
   -- the child, or the root, that a slot loads is kept for it
   pub kept-load : (st : State) (s n : ℕ) → Safe st → Passed st s → Loads st s n → n ≢ 0 → Kept (st .pool) s n
   kept-load st s n h p (atRoot e i) d = rw i (inl (h .root (λ z. d (i ∙ z))))
-  kept-load st s n h p (atNode a b i) d = rw i (kept-child (st .pool) s (readerOf (st .register) s .node) (towards (st .pool) (readerOf (st .register) s .key) (readerOf (st .register) s .node)) (p .low) (h .closed) (h .at s (p .low) (p .reads) a) (λ z. d (i ∙ z)))
+  kept-load st s n h p (atNode a b i) d = rw i (kept-child (st .pool) s (readerOf (st .register) s .node)
+      (towards (st .pool) (readerOf (st .register) s .key) (readerOf (st .register) s .node)) (p .low) (h .closed) (h .at s (p .low) (p .reads) a) (λ z. d (i ∙ z)))
 
   safe-store : (st after : State) (x : Plain) (T : Linked) → Safe st → (s : Stores st after T (λ t. W after x t)) → Safe after
   safe-store st after x T h s =
       let r = writer .unfolds after x (s .tree) (s .kept) in
       let l = writer .linked after x (s .tree) (s .kept) in
-      safe-turn st after (s .came) (s .gone) (s .link) (s .value) h (s .turn) (tree-closed (after .pool) (after .register .root) (s .tree) r l) (root-linked (after .pool) (after .register .root) (s .tree) r l)
+      safe-turn st after (s .came) (s .gone) (s .link) (s .value) h (s .turn) (tree-closed (after .pool) (after .register .root) (s .tree) r l)
+      (root-linked (after .pool) (after .register .root) (s .tree) r l)
 
   pub sound-next : (st : State) (x : Plain) (c : Call) (o : Outcome) → CallCase st c o → Sound st x → Sound (o .after) (feed x c (noticeOf (o .answer)))
   sound-next st x c o (refuses d n) h = h
@@ -119,3 +111,11 @@ module _ (W : State → Plain → Linked → Type 0) (writer : Writer W) where
       record { safe = safe-end st s (p .low) (h .safe); tree = h .tree; holds = writer .leavesTree st _ x (h .tree) (h .holds) (leavesTree-end st s (p .low) (h .safe)) }
   sound-next st x c o (leaves s p) h =
       record { safe = safe-end st s (p .low) (h .safe); tree = h .tree; holds = writer .leavesTree st _ x (h .tree) (h .holds) (leavesTree-end st s (p .low) (h .safe)) }
+
+  -- What a run needs of its start: both sides of the invariant, every word and field in its range, no slot reading.
+  pub record Starts (S : Start) : Type 0 where
+    pub least : leastNodes ≤ S .size
+    pub most : S .size ≤ mostNodes
+    pub sound : Sound (S .index) (outset S .plain)
+    pub ranged : Ranged (S .size) (S .index)
+    pub quiet : (s : ℕ) → s < slots → ¬ (Reads (S .index) s)

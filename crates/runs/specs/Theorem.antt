@@ -1,20 +1,19 @@
--- Demand 3 of every list of calls, from what the writer's side gives (Writer).
+-- Demand 3 of every list of calls from a start, from what the writer's side gives (Writer).
 use Prim.Native.Nat.{ℕ, zero, suc, _+_, _-_, _<_, _≤_}
 use mathlib.Core.Path.{_≡_, refl, sym, ap, _∙_, subst}
-use mathlib.Core.Bool.{true, false≢true}
 use mathlib.Core.List.{List, [], _∷_}
 use mathlib.Core.Option.{Option, none, some}
-use mathlib.Core.Logic.{_≢_, _⊎_, inl, inr}
+use mathlib.Core.Logic.{_⊎_, inl, inr}
 use native.Mathlib.Omega.{arith}
 use native.Mathlib.Decide.{ℕ-discrete}
 use Rattle.spec.specs.Numbers.{slots}
 use Rattle.spec.specs.Pool.{standingWord}
 use Rattle.spec.specs.Register.{State}
-use Rattle.spec.specs.Calls.{ok, reading, Call, beginning, turning, givingUp, call}
+use Rattle.spec.specs.Calls.{Answer, ok, absent, found, Call, beginning, turning, givingUp, call}
 use Rattle.spec.specs.PlainList.{Plain, recordFor}
 use Rattle.laws.specs.Words.{word-none}
-use Rattle.tree.specs.Linked.{Linked, nil}
-use Rattle.promise.specs.Run.{Moment, thenPerhaps, callAt, after, indexAfter, plainAfter, ticketsAfter, Gives, Ends, Lookup}
+use Rattle.tree.specs.Linked.{Linked}
+use Rattle.promise.specs.Run.{Start, Reads, Moment, thenPerhaps, callAt, after, indexAfter, plainAfter, ticketsAfter, Gives, Ends, Reading}
 use Rattle.promise.specs.Demands.{AtOneMoment, LookupsRight, Going, answerOf, TreeHolds, Reaches, NodesKept, Demand3}
 use Rattle.readers.specs.Reach.{Kept, kept-stands}
 use Rattle.readers.specs.QueueExact.{QueueExact}
@@ -22,11 +21,10 @@ use Rattle.readers.specs.Descends.{going-root}
 use Rattle.readers.specs.CallCase.{callCase}
 use Rattle.readers.specs.Safe.{Safe, safe-reach}
 use Rattle.runs.specs.Writer.{Writer}
-use Rattle.runs.specs.Sound.{Sound, sound-next}
+use Rattle.runs.specs.Sound.{Sound, sound-next, Starts}
 use Rattle.runs.specs.Slot.{stand-more}
-use Rattle.runs.specs.Follow.{EndsBy, StandAt, stand-next, kept-next}
+use Rattle.runs.specs.Follow.{BeginsBy, EndsBy, StandAt, stand-next, kept-next}
 use Rattle.runs.specs.Answers.{begun-right, found-right, absent-right, read-before}
-use Rattle.runs.specs.Begin.{safe-fresh, quiet-fresh}
 
 -- the call that there is
 abbrev given : Call → Option Call → Call
@@ -37,12 +35,20 @@ abbrev thereIs : Option Call → ℕ
 thereIs none = 0
 thereIs (some c) = 1
 
-module _ (W : State → Plain → Linked → Type 0) (writer : Writer W) (N : ℕ) (lo : 8 ≤ N) (hi : N ≤ 1023) (cs : List Call) where
+-- call j of the run is c: what the run says that it gives, and what c answers
+module _ (S : Start) (cs : List Call) (j : ℕ) (c d : Call) (a : Answer) (e : callAt cs j ≡ some c) where
+  pub by-call : Gives S cs j d a → (c ≡ d) × (call (indexAfter S cs j) c .answer ≡ a)
+  by-call g = let i : c ≡ d = ap (given c) (sym e ∙ g .0) in (i, ap (λ x. call (indexAfter S cs j) x .answer) i ∙ g .1)
+
+  to-run : (c ≡ d) × (call (indexAfter S cs j) c .answer ≡ a) → Gives S cs j d a
+  to-run x = (e ∙ ap some (x .0), ap (λ y. call (indexAfter S cs j) y .answer) (sym (x .0)) ∙ x .1)
+
+module _ (W : State → Plain → Linked → Type 0) (writer : Writer W) (S : Start) (starts : Starts W writer S) (cs : List Call) where
   abbrev at : ℕ → State
-  at j = indexAfter N cs j
+  at j = indexAfter S cs j
 
   abbrev list : ℕ → Plain
-  list j = plainAfter N cs j
+  list j = plainAfter S cs j
 
   -- The invariant holds at each moment.
   sound-perhaps : (m : Moment) (c : Option Call) → Sound W writer (m .index) (m .plain) → Sound W writer (thenPerhaps m c .index) (thenPerhaps m c .plain)
@@ -51,47 +57,47 @@ module _ (W : State → Plain → Linked → Type 0) (writer : Writer W) (N : �
 
   pub sound-at : (j : ℕ) → Sound W writer (at j) (list j)
   unfolding after
-  sound-at zero = record { safe = safe-fresh N lo; tree = nil; holds = writer .starts N lo hi }
-  sound-at (suc j) = sound-perhaps (after N cs j) (callAt cs j) (sound-at j)
+  sound-at zero = starts .sound
+  sound-at (suc j) = sound-perhaps (after S cs j) (callAt cs j) (sound-at j)
 
   -- the answers possible for the key k at the moments of a lookup begun by call i, up to moment j
   abbrev Possible : ℕ → ℕ → ℕ → Option ℕ → Type 0
-  Possible k i j o = (t : ℕ) × (i < t) × (t ≤ j) × (recordFor k (ticketsAfter N cs t) ≡ o)
+  Possible k i j o = (t : ℕ) × (i < t) × (t ≤ j) × (recordFor k (ticketsAfter S cs t) ≡ o)
 
   later : (k i j : ℕ) (o : Option ℕ) → Possible k i j o → Possible k i (suc j) o
   later k i j o p = (p .0, p .1, (let a = p .2 in omega arith), p .3)
 
-  now : (k i j : ℕ) → i < j → Possible k i j (recordFor k (ticketsAfter N cs j))
+  now : (k i j : ℕ) → i < j → Possible k i j (recordFor k (ticketsAfter S cs j))
   now k i j u = (j, u, omega arith, refl)
 
   -- a call that ends the slot's reading, as the run says it
-  ends-at : (s j : ℕ) (c : Call) → callAt cs j ≡ some c → EndsBy c (call (at j) c .answer) s → Ends N cs s j
-  ends-at s j c e (inl x) = inl (e ∙ ap some (x .0), ap (λ d. call (at j) d .answer) (sym (x .0)) ∙ x .1)
-  ends-at s j c e (inr (inl x)) = inr (inl (x .0, (e ∙ ap some (x .1), ap (λ d. call (at j) d .answer) (sym (x .1)) ∙ x .2)))
-  ends-at s j c e (inr (inr x)) = inr (inr (e ∙ ap some (x .0), ap (λ d. call (at j) d .answer) (sym (x .0)) ∙ x .1))
+  ends-at : (s j : ℕ) (c : Call) → callAt cs j ≡ some c → EndsBy c (call (at j) c .answer) s → Ends S cs s j
+  ends-at s j c e (inl x) = inl (to-run S cs j c (turning s) absent e x)
+  ends-at s j c e (inr (inl x)) = inr (inl (x .0, to-run S cs j c (turning s) (found (x .0)) e (x .1)))
+  ends-at s j c e (inr (inr x)) = inr (inr (to-run S cs j c (givingUp s) ok e x))
 
   -- one moment less of a lookup
-  shorter : (s k i j m : ℕ) → i < m → m ≤ j → Lookup N cs s k i j → Lookup N cs s k i m
+  pub shorter : (s k i j m : ℕ) → i < m → m ≤ j → Reading S cs s k i j → Reading S cs s k i m
   shorter s k i j m a b l = record { begins = l .begins; later = a; lasts = λ t u v. l .lasts t u (omega arith) }
 
   -- A slot stands right at each moment of its lookup.
-  stand-perhaps : (s k i j : ℕ) (c : Option Call) → callAt cs j ≡ c → i < j → s < slots → ¬ (Ends N cs s j) → StandAt (at j) (Possible k i j) s k
-      → Possible k i (suc j) (recordFor k (thenPerhaps (after N cs j) c .plain .tickets)) → StandAt (thenPerhaps (after N cs j) c .index) (Possible k i (suc j)) s k
+  stand-perhaps : (s k i j : ℕ) (c : Option Call) → callAt cs j ≡ c → i < j → s < slots → ¬ (Ends S cs s j) → StandAt (at j) (Possible k i j) s k
+      → Possible k i (suc j) (recordFor k (thenPerhaps (after S cs j) c .plain .tickets)) → StandAt (thenPerhaps (after S cs j) c .index) (Possible k i (suc j)) s k
   stand-perhaps s k i j none e u low lasts g p = stand-more _ _ _ _ (Possible k i j) (Possible k i (suc j)) s k (later k i j) g
   stand-perhaps s k i j (some c) e u low lasts g p =
-      stand-next W writer (at j) (list j) c (call (at j) c) (callCase (at j) c) (sound-at j) (Possible k i j) (Possible k i (suc j)) s k low (later k i j) (now k i j u) p (λ x. lasts (ends-at s j c e x)) g
+      stand-next W writer (at j) (list j) c (call (at j) c) (callCase (at j) c) (sound-at j) (Possible k i j) (Possible k i (suc j)) s k low (later k i j) (now k i j u) p
+      (λ x. lasts (ends-at s j c e x)) g
 
-  begin-perhaps : (s k i : ℕ) (c : Option Call) → callAt cs i ≡ c → Gives N cs i (beginning s k) ok → (s < slots) × StandAt (thenPerhaps (after N cs i) c .index) (Possible k i (suc i)) s k
+  begin-perhaps : (s k i : ℕ) (c : Option Call) → callAt cs i ≡ c → Gives S cs i (beginning s k) ok → (s < slots) × StandAt (thenPerhaps (after S cs i) c .index) (Possible k i (suc i)) s k
   begin-perhaps s k i none e g = absurd (let z : _≡_ {A = ℕ} 0 1 = (let x = sym e ∙ g .0 in cc) in omega arith)
   begin-perhaps s k i (some c) e g =
-      let same : c ≡ beginning s k = ap (given c) (sym e ∙ g .0) in
-      begun-right (at i) c (call (at i) c) (Possible k i (suc i)) s k (callCase (at i) c) (sound-at i .safe) same (ap (λ d. call (at i) d .answer) same ∙ g .1)
+      begun-right (at i) c (call (at i) c) (Possible k i (suc i)) s k (callCase (at i) c) (sound-at i .safe) (by-call S cs i c (beginning s k) ok e g)
 
-  pub stands : (s k i j : ℕ) → Lookup N cs s k i j → (s < slots) × StandAt (at j) (Possible k i j) s k
+  pub stands : (s k i j : ℕ) → Reading S cs s k i j → (s < slots) × StandAt (at j) (Possible k i j) s k
   unfolding after
   stands s k i zero l = absurd (let z = l .later in omega arith)
   stands s k i (suc j) l = elim (ℕ-discrete i j) [
-    | yes e ↦ subst (λ m. (s < slots) × StandAt (thenPerhaps (after N cs m) (callAt cs m) .index) (Possible k i (suc m)) s k) e (begin-perhaps s k i (callAt cs i) refl (l .begins))
+    | yes e ↦ subst (λ m. (s < slots) × StandAt (thenPerhaps (after S cs m) (callAt cs m) .index) (Possible k i (suc m)) s k) e (begin-perhaps s k i (callAt cs i) refl (l .begins))
     | no d ↦
         (let u : i < j = (let z = l .later in omega arith) in
         let g = stands s k i j (shorter s k i (suc j) j u (omega arith) l) in
@@ -99,67 +105,68 @@ module _ (W : State → Plain → Linked → Type 0) (writer : Writer W) (N : �
   ]
 
   -- the other way: a reading slot is in a lookup
-  ends-by : (s j : ℕ) (c : Call) → callAt cs j ≡ some c → Ends N cs s j → EndsBy c (call (at j) c .answer) s
-  ends-by s j c e (inl x) = let i : c ≡ turning s = ap (given c) (sym e ∙ x .0) in inl (i, ap (λ d. call (at j) d .answer) i ∙ x .1)
-  ends-by s j c e (inr (inl x)) = let i : c ≡ turning s = ap (given c) (sym e ∙ x .1 .0) in inr (inl (x .0, i, ap (λ d. call (at j) d .answer) i ∙ x .1 .1))
-  ends-by s j c e (inr (inr x)) = let i : c ≡ givingUp s = ap (given c) (sym e ∙ x .0) in inr (inr (i, ap (λ d. call (at j) d .answer) i ∙ x .1))
+  ends-by : (s j : ℕ) (c : Call) → callAt cs j ≡ some c → Ends S cs s j → EndsBy c (call (at j) c .answer) s
+  ends-by s j c e (inl x) = inl (by-call S cs j c (turning s) absent e x)
+  ends-by s j c e (inr (inl x)) = inr (inl (x .0, by-call S cs j c (turning s) (found (x .0)) e (x .1)))
+  ends-by s j c e (inr (inr x)) = inr (inr (by-call S cs j c (givingUp s) ok e x))
 
-  none-ends : (s j : ℕ) → callAt cs j ≡ none → ¬ (Ends N cs s j)
+  none-ends : (s j : ℕ) → callAt cs j ≡ none → ¬ (Ends S cs s j)
   none-ends s j e (inl x) = let z = ap thereIs (sym e ∙ x .0) in omega arith
   none-ends s j e (inr (inl x)) = let z = ap thereIs (sym e ∙ x .1 .0) in omega arith
   none-ends s j e (inr (inr x)) = let z = ap thereIs (sym e ∙ x .0) in omega arith
 
-  longer : (s k i j : ℕ) → Lookup N cs s k i j → ¬ (Ends N cs s j) → Lookup N cs s k i (suc j)
+  longer : (s k i j : ℕ) → Reading S cs s k i j → ¬ (Ends S cs s j) → Reading S cs s k i (suc j)
   longer s k i j l h = record {
     begins = l .begins;
     later = (let z = l .later in omega arith);
-    lasts = λ t a b x. elim (ℕ-discrete t j) [ yes y ↦ h (subst (λ m. Ends N cs s m) y x) | no d ↦ l .lasts t a (omega arith) x ];
+    lasts = λ t a b x. elim (ℕ-discrete t j) [ yes y ↦ h (subst (λ m. Ends S cs s m) y x) | no d ↦ l .lasts t a (omega arith) x ];
   }
 
   abbrev In : ℕ → ℕ → Type 0
-  In s j = (k : ℕ) × (i : ℕ) × Lookup N cs s k i j
+  In s j = (k : ℕ) × (i : ℕ) × Reading S cs s k i j
 
-  in-perhaps : (s j : ℕ) (c : Option Call) → callAt cs j ≡ c → s < slots → reading (thenPerhaps (after N cs j) c .index) s ≡ true → (reading (at j) s ≡ true → In s j) → In s (suc j)
+  in-perhaps : (s j : ℕ) (c : Option Call) → callAt cs j ≡ c → s < slots → Reads (thenPerhaps (after S cs j) c .index) s → (Reads (at j) s → In s j) → In s (suc j)
   in-perhaps s j none q u e f = let z = f e in (z .0, z .1, longer s (z .0) (z .1) j (z .2) (none-ends s j q))
   in-perhaps s j (some c) q u e f = go (read-before W writer (at j) (list j) c (call (at j) c) (callCase (at j) c) (sound-at j) s u e)
     where
-      go : ((reading (at j) s ≡ true) × (¬ (EndsBy c (call (at j) c .answer) s))) ⊎ ((k : ℕ) × (c ≡ beginning s k) × (call (at j) c .answer ≡ ok)) → In s (suc j)
+      go : (Reads (at j) s × (¬ (EndsBy c (call (at j) c .answer) s))) ⊎ ((k : ℕ) × BeginsBy c (call (at j) c .answer) s k) → In s (suc j)
       go (inl x) = let z = f (x .0) in (z .0, z .1, longer s (z .0) (z .1) j (z .2) (λ y. x .1 (ends-by s j c q y)))
       go (inr x) = (
         x .0,
         j,
         record {
-          begins = (q ∙ ap some (x .1), ap (λ d. call (at j) d .answer) (sym (x .1)) ∙ x .2);
+          begins = to-run S cs j c (beginning s (x .0)) ok q (x .1);
           later = omega arith;
           lasts = λ t a b. absurd (omega arith);
         },
       )
 
-  in-lookup : (s j : ℕ) → s < slots → reading (at j) s ≡ true → In s j
+  in-lookup : (s j : ℕ) → s < slots → Reads (at j) s → In s j
   unfolding after
-  in-lookup s zero u e = absurd (false≢true (sym (quiet-fresh N lo s) ∙ e))
+  in-lookup s zero u e = absurd (starts .quiet s u e)
   in-lookup s (suc j) u e = in-perhaps s j (callAt cs j) refl u e (in-lookup s j u)
 
   -- Part 1.
-  lookups : LookupsRight N cs
+  lookups : LookupsRight S cs
   lookups = record {
     whenFound = λ s k i j v l g. (
         let z = stands s k i j l in
-        widen k i j (some v) (found-right W writer (at j) (list j) (turning s) (call (at j) (turning s)) (Possible k i j) s k v (callCase (at j) (turning s)) (sound-at j) refl (g .1) (z .1))
+        widen k i j (some v) (found-right W writer (at j) (list j) (turning s) (call (at j) (turning s)) (Possible k i j) s k v (callCase (at j) (turning s)) (sound-at j) (refl, g .1) (z .1))
         );
     whenAbsent = λ s k i j l g. (
         let z = stands s k i j l in
-        widen k i j none (absent-right W writer (at j) (list j) (turning s) (call (at j) (turning s)) (Possible k i j) s k (callCase (at j) (turning s)) (sound-at j) refl (g .1) (now k i j (l .later)) (z .1))
+        widen k i j none (absent-right W writer (at j) (list j) (turning s) (call (at j) (turning s)) (Possible k i j) s k (callCase (at j) (turning s)) (sound-at j) (refl, g .1)
+        (now k i j (l .later)) (z .1))
         );
     reads = λ s k i j l. (let z = stands s k i j l in (z .0, z .1 .reads, z .1 .key));
     inLookup = in-lookup;
   }
     where
-      widen : (k i j : ℕ) (o : Option ℕ) → Possible k i j o → AtOneMoment N cs k i j o
+      widen : (k i j : ℕ) (o : Option ℕ) → Possible k i j o → AtOneMoment S cs k i j o
       widen k i j o p = (p .0, p .1, (let a = p .2 in omega arith), p .3)
 
   -- Part 2.
-  holds : TreeHolds N cs
+  holds : TreeHolds S cs
   holds = record {
     everyKey = λ j k. (
         let h = sound-at j in
@@ -170,13 +177,13 @@ module _ (W : State → Plain → Linked → Type 0) (writer : Writer W) (N : �
   }
 
   -- Part 3. What is kept for a slot at a moment of its lookup is kept until the lookup ends.
-  kept-perhaps : (s k i j m : ℕ) (c : Option Call) → callAt cs j ≡ c → Lookup N cs s k i j → ¬ (Ends N cs s j) → Kept (at j .pool) s m → Kept (thenPerhaps (after N cs j) c .index .pool) s m
+  kept-perhaps : (s k i j m : ℕ) (c : Option Call) → callAt cs j ≡ c → Reading S cs s k i j → ¬ (Ends S cs s j) → Kept (at j .pool) s m → Kept (thenPerhaps (after S cs j) c .index .pool) s m
   kept-perhaps s k i j m none e l lasts h = h
   kept-perhaps s k i j m (some c) e l lasts h =
       let g = stands s k i j l in
       kept-next W writer (at j) (list j) c (call (at j) c) (callCase (at j) c) (sound-at j) s m (g .0) (g .1 .reads) (λ x. lasts (ends-at s j c e x)) h
 
-  kept-until : (s k i j t m d : ℕ) → Lookup N cs s k i j → i < t → Kept (at t .pool) s m → t + d ≤ j → Kept (at (t + d) .pool) s m
+  kept-until : (s k i j t m d : ℕ) → Reading S cs s k i j → i < t → Kept (at t .pool) s m → t + d ≤ j → Kept (at (t + d) .pool) s m
   unfolding after
   kept-until s k i j t m zero l a h u = let e : t + 0 ≡ t = omega arith in rw e h
   kept-until s k i j t m (suc d) l a h u =
@@ -184,7 +191,7 @@ module _ (W : State → Plain → Linked → Type 0) (writer : Writer W) (N : �
       let before = kept-until s k i j t m d l a h (omega arith) in
       rw e (kept-perhaps s k i (t + d) m (callAt cs (t + d)) refl (shorter s k i j (t + d) (omega arith) (omega arith) l) (l .lasts (t + d) (omega arith) (omega arith)) before)
 
-  kept-at : (s k i j t m u : ℕ) → Lookup N cs s k i j → i < t → Reaches (at t) s m → t ≤ u → u ≤ j → Kept (at u .pool) s m
+  kept-at : (s k i j t m u : ℕ) → Reading S cs s k i j → i < t → Reaches (at t) s m → t ≤ u → u ≤ j → Kept (at u .pool) s m
   kept-at s k i j t m u l a r b c =
       let e : t + (u - t) ≡ u = omega arith in
       rw e at (kept-until s k i j t m (u - t) l a (safe-reach (at t) s m (sound-at t .safe) r) (omega arith))
@@ -197,11 +204,11 @@ module _ (W : State → Plain → Linked → Type 0) (writer : Writer W) (N : �
       go [] z = kept-stands (st .pool) s m k (rw (sym e ∙ z .queued .chain) (word-none (st .pool) standingWord))
       go (n ∷ l) z = kept-stands (st .pool) s m k (rw (sym e ∙ z .queued .chain .0) (z .standing n .0 (inl refl) .1))
 
-  kept : NodesKept N cs
+  kept : NodesKept S cs
   kept = record {
     notFree = λ s k i j t m u l a r b c. kept-stands (at u .pool) s m (kept-at s k i j t m u l a r b c);
     notTaken = λ s k i j t m u c l a r b d e x. first-free (at u) s m (sound-at u .safe) (x .first) (kept-at s k i j t m u l a r b (omega arith));
   }
 
-  pub demand3 : Demand3 N cs
+  pub demand3 : Demand3 S cs
   demand3 = record { lookups = lookups; holds = holds; kept = kept }

@@ -1,6 +1,6 @@
--- The whole promise of a list of calls, from what the writer's side gives (`Writer`, `Completes`).
-use Prim.Native.Nat.{ℕ, zero, suc, _+_, _<_, _≤_}
-use mathlib.Core.Path.{_≡_, sym, ap, subst}
+-- The whole promise of a list of calls from a start, from what the writer's side gives (`Writer`, `Completes`).
+use Prim.Native.Nat.{ℕ, zero, suc, _+_, _<_}
+use mathlib.Core.Path.{_≡_, refl, sym, ap, _∙_, subst}
 use mathlib.Core.Bool.{true, false}
 use mathlib.Core.List.{List}
 use mathlib.Core.Option.{Option, none, some}
@@ -9,22 +9,24 @@ use native.Mathlib.Omega.{arith}
 use native.Mathlib.Numerals.{add-one}
 use borrow.Author.Tests.{eq-eqb, ne-eqb}
 use Rattle.datatypes.specs.declared.Link.{Link}
+use Rattle.sequential.specs.Delete.{Change, changedBy}
 use Rattle.spec.specs.Numbers.{slots, mostStores}
 use Rattle.spec.specs.Register.{State, storeOf, hasSlot}
 use Rattle.spec.specs.Turn.{stepMade}
-use Rattle.spec.specs.Calls.{more, done, Outcome, wrongLength, reading, writeInHand, Call, writing, call}
-use Rattle.spec.specs.PlainList.{Plain, carriedOut, noticeOf}
+use Rattle.spec.specs.Calls.{more, done, Outcome, wrongLength, reading, writeInHand, Call, inserting, deleting, writing, beginning, turning, givingUp, call}
+use Rattle.spec.specs.PlainList.{Plain, Notice, turnedDown, waited, carriedOut, noticeOf, acceptedWrites, storeMade, feed}
 use Rattle.tree.specs.Linked.{Linked}
-use Rattle.promise.specs.Run.{Moment, thenPerhaps, callAt, after, indexAfter, plainAfter, Gives}
-use Rattle.promise.specs.Demands.{Demand2, NeverMet, Promise}
+use Rattle.promise.specs.Run.{Start, Moment, thenPerhaps, callAt, after, indexAfter, plainAfter, Gives}
+use Rattle.promise.specs.Demands.{Stands, Demand2, NeverMet, PromiseFrom}
 use Rattle.readers.specs.CallCase.{CallCase, callCase, refuses, plansInsert, plansDelete, waits, stores, begins, loads, misses, finds, leaves}
 use Rattle.ranges.specs.Fits.{colour-fits}
 use Rattle.ranges.specs.Calls.{Ranged, ranged-in, ranged-next}
 use Rattle.runs.specs.Writer.{Writer}
-use Rattle.runs.specs.Begin.{ranged-fresh}
-use Rattle.runs.specs.Sound.{Sound}
+use Rattle.runs.specs.Sound.{Sound, Starts}
+use Rattle.runs.specs.Starts.{exact-right}
+use Rattle.runs.specs.Answers.{toldOf}
 use Rattle.runs.specs.Theorem.{sound-at, demand3}
-use Rattle.runs.specs.Rest.{Completes, safe-free, wait-right, toldOf, stored-told, refused-by, not-one, not-two, not-twelve, length-right, none-awaited, turn-clear, turn-goes, done-left}
+use Rattle.runs.specs.Rest.{Completes, wait-right, stored-told, refused-by, not-one, not-two, not-twelve, length-right, none-awaited, turn-clear, turn-goes, done-left}
 
 -- a turn that answers more leaves stores to come
 more-left : (st : State) (c : Call) (o : Outcome) (l : Link) (n : ℕ) → CallCase st c o → o .answer ≡ more l n → o .after .register .write .count ≢ 0
@@ -40,39 +42,63 @@ more-left st c o l n (misses t m p i f) e = absurd (let z = ap toldOf e in omega
 more-left st c o l n (finds t p d f) e = absurd (let z = ap toldOf e in omega arith)
 more-left st c o l n (leaves t p) e = absurd (let z = ap toldOf e in omega arith)
 
-module _ (W : State → Plain → Linked → Type 0) (writer : Writer W) (completes : Completes W) (N : ℕ) (lo : 8 ≤ N) (hi : N ≤ 1023) (cs : List Call) where
-  abbrev at : ℕ → State
-  at j = indexAfter N cs j
+-- the plain list keeps the tree that it started with
+started-store : (x : Plain) (c : Option Change) → storeMade x c .started ≡ x .started
+started-store x none = refl
+started-store x (some c) = refl
 
-  sound : (j : ℕ) → Sound W writer (at j) (plainAfter N cs j)
-  sound j = sound-at W writer N lo hi cs j
+started-feed : (x : Plain) (c : Call) (h : Notice) → feed x c h .started ≡ x .started
+started-feed x c turnedDown = refl
+started-feed x c waited = refl
+started-feed x (inserting k v) carriedOut = refl
+started-feed x (deleting k) carriedOut = refl
+started-feed x writing carriedOut = started-store x (x .inHand)
+started-feed x (beginning s k) carriedOut = refl
+started-feed x (turning s) carriedOut = refl
+started-feed x (givingUp s) carriedOut = refl
+
+started-perhaps : (m : Moment) (c : Option Call) → thenPerhaps m c .plain .started ≡ m .plain .started
+started-perhaps m none = refl
+started-perhaps m (some c) = started-feed (m .plain) c (noticeOf (call (m .index) c .answer))
+
+module _ (W : State → Plain → Linked → Type 0) (writer : Writer W) (completes : Completes W) (S : Start) (starts : Starts W writer S) (cs : List Call) where
+  abbrev at : ℕ → State
+  at j = indexAfter S cs j
+
+  sound : (j : ℕ) → Sound W writer (at j) (plainAfter S cs j)
+  sound j = sound-at W writer S starts cs j
 
   next-is : (j : ℕ) (c : Call) → callAt cs j ≡ some c → at (suc j) ≡ call (at j) c .after
   unfolding after
-  next-is j c e = ap (λ o. thenPerhaps (after N cs j) o .index) e
+  next-is j c e = ap (λ o. thenPerhaps (after S cs j) o .index) e
 
-  soon : (j : ℕ) (l : Link) (n : ℕ) → Gives N cs j writing (more l n) → plainAfter N cs (j + 1) .made < mostStores
+  soon : (j : ℕ) (l : Link) (n : ℕ) → Gives S cs j writing (more l n) → plainAfter S cs (j + 1) .made < mostStores
   soon j l n g =
       let h = sound (suc j) in
       let left : at (suc j) .register .write .count ≢ 0 =
       subst (λ st. st .register .write .count ≢ 0) (sym (next-is j writing (g .0))) (more-left (at j) writing (call (at j) writing) l n (callCase (at j) writing) (g .1)) in
       let hand : writeInHand (at (suc j)) ≡ true = rw (ne-eqb (at (suc j) .register .write .count) 0 left) in
-      let few = completes .few (at (suc j)) (plainAfter N cs (suc j)) (h .tree) (h .holds) hand in
+      let few = completes .few (at (suc j)) (plainAfter S cs (suc j)) (h .tree) (h .holds) hand in
       rw (add-one j) (omega arith)
 
-  -- the ranges hold at each moment
-  ranged-perhaps : (x : Moment) (c : Option Call) → Ranged N (x .index) → Ranged N (thenPerhaps x c .index)
-  ranged-perhaps x none h = h
-  ranged-perhaps x (some c) h = ranged-next N (x .index) c (call (x .index) c) (callCase (x .index) c) h
-
-  ranged : (j : ℕ) → Ranged N (at j)
+  pub started : (j : ℕ) → plainAfter S cs j .started ≡ S .tree
   unfolding after
-  ranged zero = ranged-fresh N lo
-  ranged (suc j) = ranged-perhaps (after N cs j) (callAt cs j) (ranged j)
+  started zero = refl
+  started (suc j) = started-perhaps (after S cs j) (callAt cs j) ∙ started j
+
+  -- the ranges hold at each moment
+  ranged-perhaps : (x : Moment) (c : Option Call) → Ranged (S .size) (x .index) → Ranged (S .size) (thenPerhaps x c .index)
+  ranged-perhaps x none h = h
+  ranged-perhaps x (some c) h = ranged-next (S .size) (x .index) c (call (x .index) c) (callCase (x .index) c) h
+
+  pub ranged : (j : ℕ) → Ranged (S .size) (at j)
+  unfolding after
+  ranged zero = starts .ranged
+  ranged (suc j) = ranged-perhaps (after S cs j) (callAt cs j) (ranged j)
 
   -- the pool keeps its length
   lent : (j : ℕ) → wrongLength (at j) ≡ false
-  lent j = length-right (at j) N lo hi (sound j .safe .whole) (ranged j .within .size)
+  lent j = length-right (at j) (S .size) (starts .least) (starts .most) (sound j .safe .whole) (ranged j .within .size)
 
   goesOn : (j : ℕ) → writeInHand (at j) ≡ true → ((s : ℕ) → s < slots → hasSlot (at j .register .awaited) s ≡ true → reading (at j) s ≡ false)
       → noticeOf (call (at j) writing .answer) ≡ carriedOut
@@ -80,18 +106,20 @@ module _ (W : State → Plain → Linked → Type 0) (writer : Writer W) (comple
       let h = sound j in
       let z = none-awaited (at j) (h .safe) f in
       turn-goes (at j) writing (call (at j) writing) (callCase (at j) writing)
-      (turn-clear (at j) (lent j) (ranged-in N (at j) (ranged j)) w (completes .stepGoes (at j) (plainAfter N cs j) (h .tree) (h .safe) (h .holds) z w)) z
+      (turn-clear (at j) (lent j) (ranged-in (S .size) (at j) (ranged j)) w (completes .stepGoes (at j) (plainAfter S cs j) (h .tree) (h .safe) (h .holds) z w)) z
 
-  finished : (j : ℕ) (l : Link) (n : ℕ) → Gives N cs j writing (done l n) → writeInHand (at (j + 1)) ≡ false
+  finished : (j : ℕ) (l : Link) (n : ℕ) → Gives S cs j writing (done l n) → writeInHand (at (j + 1)) ≡ false
   finished j l n g =
       let none-left : at (suc j) .register .write .count ≡ 0 =
       subst (λ st. st .register .write .count ≡ 0) (sym (next-is j writing (g .0))) (done-left (at j) writing (call (at j) writing) l n (callCase (at j) writing) (g .1)) in
       rw (add-one j, eq-eqb (at (suc j) .register .write .count) 0 none-left)
 
-  pub demand2 : Demand2 N cs
+  pub demand2 : Demand2 S cs
   demand2 = record {
-    atRest = λ j e. (let h = sound j in completes .rest (at j) (plainAfter N cs j) (h .tree) (h .holds) (λ n. colour-fits N (at j .pool) n (ranged j .within .fits)) e);
-    free = λ j. safe-free (at j) (sound j .safe);
+    atRest = λ j e. (let h = sound j in
+        subst (λ t. Stands (at j .pool) (at j .register .root) (changedBy t (acceptedWrites (plainAfter S cs j)))) (started j)
+        (completes .rest (at j) (plainAfter S cs j) (h .tree) (h .holds) (λ n. colour-fits (S .size) (at j .pool) n (ranged j .within .fits)) e));
+    free = λ j. (let h = sound j .safe in exact-right (at j) (h .queue) (h .owned .exact));
     soon = soon;
     waits = λ j g. wait-right (at j) writing (call (at j) writing) (callCase (at j) writing) (sound j .safe) (g .1);
     goesOn = goesOn;
@@ -99,13 +127,13 @@ module _ (W : State → Plain → Linked → Type 0) (writer : Writer W) (comple
     size = λ j. ranged j .within .size;
   }
 
-  pub never : NeverMet N cs
+  pub never : NeverMet S cs
   never = record {
-    range = λ j c g. not-two (at j) c (ranged-in N (at j) (ranged j)) (refused-by (at j) c (call (at j) c) 2 (omega arith) (callCase (at j) c) (g .1));
+    range = λ j c g. not-two (at j) c (ranged-in (S .size) (at j) (ranged j)) (refused-by (at j) c (call (at j) c) 2 (omega arith) (callCase (at j) c) (g .1));
     steps = λ j c g. (let h = sound j in
-        not-twelve W completes (at j) (plainAfter N cs j) (h .tree) (h .safe) (h .holds) c (refused-by (at j) c (call (at j) c) 12 (omega arith) (callCase (at j) c) (g .1)));
+        not-twelve W completes (at j) (plainAfter S cs j) (h .tree) (h .safe) (h .holds) c (refused-by (at j) c (call (at j) c) 12 (omega arith) (callCase (at j) c) (g .1)));
     lent = λ j c g. not-one (at j) c (lent j) (refused-by (at j) c (call (at j) c) 1 (omega arith) (callCase (at j) c) (g .1));
   }
 
-  pub promise : Promise N cs
-  promise = record { demand2 = demand2; demand3 = demand3 W writer N lo hi cs; never = never }
+  pub promise : PromiseFrom S cs
+  promise = record { demand2 = demand2; demand3 = demand3 W writer S starts cs; never = never }

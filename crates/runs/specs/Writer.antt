@@ -10,13 +10,14 @@ use Rattle.datatypes.specs.declared.Link.{Link}
 use Rattle.datatypes.specs.declared.Store.{Store}
 use Rattle.sequential.specs.Delete.{insertion, deletion}
 use Rattle.spec.specs.Pool.{standingLinked}
-use Rattle.spec.specs.Register.{State, state, fresh, storeOf, withWrite, writeOf, readingSlots}
+use Rattle.spec.specs.Register.{State, state, storeOf, withWrite, writeOf, readingSlots}
 use Rattle.spec.specs.Turn.{stepFinds, stepMade}
 use Rattle.spec.specs.Calls.{firstOf, writeInHand, placeOf, insertAt, deleteAt, stored}
-use Rattle.spec.specs.PlainList.{Plain, noTicket, recordFor, begun, storeMade}
-use Rattle.tree.specs.Distinct.{_∈_}
-use Rattle.tree.specs.Thin.{Thin}
-use Rattle.tree.specs.Linked.{Linked, nil, find, path, nodes}
+use Rattle.spec.specs.PlainList.{Plain, recordFor, begun, storeMade}
+use Rattle.base.specs.Lists.{_∈_}
+use Rattle.tree.specs.Zipper.{Thins}
+use Rattle.tree.specs.Linked.{Linked, find, nodes}
+use Rattle.tree.specs.Tickets.{True}
 use Rattle.heap.specs.Rep.{Rep, Alike}
 use Rattle.readers.specs.Reach.{HasStanding}
 use Rattle.readers.specs.Lookups.{Unlinked}
@@ -47,7 +48,7 @@ pub record Stores (st after : State) (T : Linked) (W : Linked → Type 0) : Type
   pub owner : OwnerLinked (st .pool) link
   pub below : Linked
   pub unfolds : Rep (after .pool) value below
-  pub ways : ((k : ℕ) → Thin (Unlinked (after .pool)) (path T k) (path tree k)) ⊎ (after .register .awaited ≡ readingSlots (st .register))
+  pub ways : Thins (Unlinked (after .pool)) T tree ⊎ (after .register .awaited ≡ readingSlots (st .register))
   pub kept : W tree
 
 -- the state after the first store of the write in hand
@@ -58,10 +59,10 @@ abbrev pub planned : State → List Store → State
 planned st l = state (st .pool) (withWrite (st .register) (writeOf l))
 
 pub record Writer (W : State → Plain → Linked → Type 0) : Type 0 where
-  pub starts : (N : ℕ) → 8 ≤ N → N ≤ 1023 → W (fresh N) noTicket nil
   pub unfolds : (st : State) (x : Plain) (T : Linked) → W st x T → Rep (st .pool) (st .register .root) T
   pub linked : (st : State) (x : Plain) (T : Linked) → W st x T → (n : ℕ) → HasStanding (st .pool) n standingLinked ↔ (n ∈ nodes T)
   pub finds : (st : State) (x : Plain) (T : Linked) → W st x T → (k : ℕ) → find T k ≡ recordFor k (x .tickets)
+  pub told : (st : State) (x : Plain) (T : Linked) → W st x T → True T
   pub held : (st : State) (x : Plain) (T : Linked) → W st x T → st .register .held ≡ length (x .tickets)
   pub leavesTree : (st after : State) (x : Plain) (T : Linked) → W st x T → LeavesTree st after → W after x T
   pub insert : (st : State) (x : Plain) (T : Linked) (k v : ℕ) → Safe st → W st x T → firstOf (insertTests st k v) ≡ 0

@@ -1,6 +1,7 @@
 pub mod Numbers
 pub mod Pool
 pub mod Register
+pub mod FreeQueue
 pub mod Free
 pub mod Search
 pub mod Plan

@@ -1,6 +1,7 @@
 -- 01, 'What demand 3 speaks of': the plain list. It is fed the calls in order, with their arguments and whether each was refused, and of a
 -- writer's turn whether it answered wait; nothing of pool or register.
 use Prim.Native.Nat.{ℕ, _+_}
+use mathlib.Core.Path.{_≡_}
 use mathlib.Core.Bool.{Bool, true, false, cond}
 use mathlib.Core.List.{List, [], _∷_, _++_}
 use mathlib.Core.Option.{Option, none, some}
@@ -23,6 +24,11 @@ abbrev pub recordFor : ℕ → List Ticket → Option ℕ
 recordFor k [] = none
 recordFor k (t ∷ ts) = cond (eqb (t .key) k) (some (t .value)) (recordFor k ts)
 
+-- at most one ticket for a key
+abbrev pub Unique : List Ticket → Type 0
+Unique [] = Unit {0}
+Unique (t ∷ ts) = (recordFor (t .key) ts ≡ none) × Unique ts
+
 -- At its list store an insert puts in its key with its record, in place of any there, and a delete takes its key out.
 abbrev pub updated : Change → List Ticket → List Ticket
 updated (insertion k v) ts = record { key = k; value = v } ∷ without k ts
@@ -40,16 +46,18 @@ abbrev pub listStore : Tree → Change → ℕ
 listStore t (insertion k v) = 1
 listStore t (deletion k) = cond (adopts (descend t k [] .at)) 2 1
 
--- It keeps tickets, the writes accepted so far (the last of them may be in hand), the one in hand and how many stores that has made.
+-- It keeps tickets, the writes accepted so far (the last of them may be in hand), the one in hand and how many stores that has made; and the
+-- tree that it started with, on which the sequential tree goes on.
 pub record Plain : Type 0 where
+  pub started : Tree
   pub tickets : List Ticket
   pub before : List Change
   pub inHand : Option Change
   pub made : ℕ
 
--- It starts with no ticket and no write.
-abbrev pub noTicket : Plain
-noTicket = record { tickets = []; before = []; inHand = none; made = 0 }
+-- It starts with no write; on an index just set up with no ticket either, and no tree.
+abbrev pub noneAccepted : Tree → List Ticket → Plain
+noneAccepted t ts = record { started = t; tickets = ts; before = []; inHand = none; made = 0 }
 
 -- the writes accepted so far
 abbrev pub withInHand : List Change → Option Change → List Change
@@ -75,15 +83,15 @@ noticeOf (refused n) = turnedDown
 
 -- An accepted insert or delete becomes the write in hand, no store made.
 abbrev pub begun : Plain → Change → Plain
-begun x c = record { tickets = x .tickets; before = acceptedWrites x; inHand = some c; made = 0 }
+begun x c = record { started = x .started; tickets = x .tickets; before = acceptedWrites x; inHand = some c; made = 0 }
 
 -- a store of the write in hand; the sequential tree is that of the writes accepted before
 abbrev pub storeMade : Plain → Option Change → Plain
 storeMade x none = x
 storeMade x (some c) =
     let m = x .made + 1 in
-    let atList = eqb m (listStore (changedBy leaf (x .before)) c) in
-    record { tickets = cond atList (updated c (x .tickets)) (x .tickets); before = x .before; inHand = some c; made = m }
+    let atList = eqb m (listStore (changedBy (x .started) (x .before)) c) in
+    record { started = x .started; tickets = cond atList (updated c (x .tickets)) (x .tickets); before = x .before; inHand = some c; made = m }
 
 -- All else changes nothing: wait, any refused call, begin, reader's turn, give up.
 abbrev pub feed : Plain → Call → Notice → Plain

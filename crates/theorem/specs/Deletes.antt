@@ -2,7 +2,7 @@
 use Prim.Native.Nat.{ℕ, _+_, _-_, _≤_}
 use mathlib.Core.Path.{_≡_, refl, sym, ap, _∙_, subst}
 use mathlib.Core.Logic.{_≢_}
-use mathlib.Core.Bool.{Bool, true, false, cond, not, _&&_, false≢true}
+use mathlib.Core.Bool.{true, false, cond, not, false≢true}
 use mathlib.Core.List.{List, [], _∷_}
 use mathlib.Core.Option.{Option, none, some}
 use native.Mathlib.Omega.{arith}
@@ -23,7 +23,7 @@ use Rattle.datatypes.specs.declared.Step.the-variants.{Unlink, Adopt, Replace, 
 use Rattle.datatypes.specs.declared.Store.{Store}
 use Rattle.datatypes.specs.Side.{other, linkAt, owner, sideOf}
 use Rattle.sequential.specs.Tree as Seq
-use Rattle.sequential.specs.Tree.{Colour, Tree, leaf, node, descend}
+use Rattle.sequential.specs.Tree.{Colour, Tree, node, descend}
 use Rattle.sequential.specs.Delete as SeqDelete
 use Rattle.sequential.specs.Delete.{deletion}
 use Rattle.spec.specs.Pool.{word, child, isRed, keyWord}
@@ -32,10 +32,11 @@ use Rattle.spec.specs.Search.{pathTo}
 use Rattle.spec.specs.Plan.{fixupResult, redChild, redSibling, deleteFixup, fixupAfterRemoval, store, endingStores, Plan, twoChildren, onlyChild, successorPath, unlinkPlan, successorPlan, deletePlan}
 use Rattle.spec.specs.Calls.{firstOf, placeOf, isHeld, deleteAt}
 use Rattle.spec.specs.PlainList.{Ticket, Plain, recordFor, without, updated, acceptedWrites, begun, adopts}
+use Rattle.laws.specs.Turns.{and-false}
 use Rattle.tree.specs.Sorted.{Ordered}
 use Rattle.tree.specs.Descent as Descent
 use Rattle.tree.specs.Descent.{descend-place}
-use Rattle.tree.specs.Changes.{history-proper, find-delete, find-delete-other}
+use Rattle.tree.specs.Changes.{changedBy-proper, find-delete, find-delete-other}
 use Rattle.tree.specs.Linked.{Node, Linked, nil, cell, find}
 use Rattle.tree.specs.Erase.{erase, eraseWay, erase-plug, erase-find, erase-into}
 use Rattle.heap.specs.Rep.{Rep}
@@ -90,10 +91,6 @@ data Shape (w : Plan) : ℕ → Type 0 where
 cell-there : (p : List ℕ) (i : ℕ) (K : Node) (u w : Linked) → Rep p i (cell K u w) → i ≢ 0
 cell-there p i K u w h = let a = h .0 .is in let b = h .0 .within .low in omega arith
 
-and-false : (a : Bool) → (a && false) ≡ false
-and-false true = refl
-and-false false = refl
-
 module _ (st : State) (l : Link) (b : ℕ) where
   abbrev p : List ℕ
   p = st .pool
@@ -113,7 +110,8 @@ module _ (st : State) (l : Link) (b : ℕ) where
       go [] y = absurd (false≢true y)
       go (a ∷ up) y =
           let c = linkNode st a in
-          rw (eq-eqb (child p L (child p R b)) 0 z) (second (store l Adopt) (store l Replace) (endingStores (fixupAfterRemoval p c (child p R c) (a ∷ up) .ending)) refl refl refl (λ capacity h. refl) (let i = few-removal p c (child p R c) (a ∷ up) in omega arith))
+          rw (eq-eqb (child p L (child p R b)) 0 z) (second (store l Adopt) (store l Replace) (endingStores (fixupAfterRemoval p c (child p R c) (a ∷ up) .ending)) refl refl refl
+          (λ capacity h. refl) (let i = few-removal p c (child p R c) (a ∷ up) in omega arith))
 
   third-form : twoChildren p b ≡ true → child p L (child p R b) ≢ 0 → deletePlan st l b .possible ≡ true → Shape (deletePlan st l b) 1
   unfolding deletePlan
@@ -123,13 +121,15 @@ module _ (st : State) (l : Link) (b : ℕ) where
       go [] y = absurd (false≢true y)
       go (a ∷ up) y =
           let c = linkNode st a in
-          rw (ne-eqb (child p L (child p R b)) 0 z) (at-once (store l (Publish c)) (store l (Detach (word p b keyWord)) ∷ endingStores (fixupAfterRemoval p c (child p R c) (a ∷ up) .ending)) refl refl (λ capacity h. refl) (let i = few-removal p c (child p R c) (a ∷ up) in omega arith))
+          rw (ne-eqb (child p L (child p R b)) 0 z) (at-once (store l (Publish c))
+          (store l (Detach (word p b keyWord)) ∷ endingStores (fixupAfterRemoval p c (child p R c) (a ∷ up) .ending)) refl refl (λ capacity h. refl)
+          (let i = few-removal p c (child p R c) (a ∷ up) in omega arith))
 
   -- by the tree at the place
   form-of : (f : ℕ → Colour) (c : Colour) (k v : ℕ) (x y : Linked) → Rep p (child p L b) x → Rep p (child p R b) y → deletePlan st l b .possible ≡ true
       → Shape (deletePlan st l b) (cond (adopts (node c k v (erase f x) (erase f y))) 2 1)
   form-of f c k v nil y hx hy ok = first-form (rw (eq-eqb (child p L b) 0 hx))
-  form-of f c k v (cell N a d) nil hx hy ok = first-form (rw (eq-eqb (child p R b) 0 hy) (and-false (not (eqb (child p L b) 0))))
+  form-of f c k v (cell N a d) nil hx hy ok = first-form (rw (eq-eqb (child p R b) 0 hy) (and-false (not (eqb (child p L b) 0)) false refl))
   form-of f c k v (cell N a d) (cell M nil e) hx hy ok =
       second-form (rw (ne-eqb (child p L b) 0 (cell-there p _ N a d hx), ne-eqb (child p R b) 0 (cell-there p _ M nil e hy))) (rw (hy .0 .is) (hy .1)) ok
   form-of f c k v (cell N a d) (cell M (cell K u w) e) hx hy ok =
@@ -168,7 +168,8 @@ writerSide-delete st x T k safe h e =
     let pl = delete-possible st T k (old .0) (fin .rest) (old .1) in
     let ih = accepted-in-hand st (SeqDelete.delete (erase (colours (st .pool)) T) k) T w (fin .rest) pl in
     let S = seqOf x in
-    let goal : SeqDelete.delete (erase (colours (st .pool)) T) k ≡ seqOf (begun x (deletion k)) = ap (λ t. SeqDelete.delete t k) (fin .tree) ∙ sym (changed-end leaf (acceptedWrites x) (deletion k)) in
+    let goal : SeqDelete.delete (erase (colours (st .pool)) T) k ≡ seqOf (begun x (deletion k)) = ap (λ t. SeqDelete.delete t k) (fin .tree)
+    ∙ sym (changed-end (x .started) (acceptedWrites x) (deletion k)) in
     let seq : (q : ℕ) → Seq.find S q ≡ recordFor q (x .tickets) = λ q. ap (λ t. Seq.find t q) (sym (fin .tree)) ∙ erase-find (colours (st .pool)) T q ∙ h .finds q in
     let free = ltb-false (st .register .free) 4 (c .1 .1 .1 .1 .1 .0) in
     let less = without-some k (old .0) (x .tickets) (h .unique) (sym (h .finds k) ∙ old .1) in
@@ -179,7 +180,8 @@ writerSide-delete st x T k safe h e =
         change = deletion k;
         inHand = refl;
         counts = f _ _ ∙ rw (with-held (st .register) (writeOf (w .stores))) (omega arith);
-        tells = λ q. tells-delete S k (x .tickets) (history-proper (acceptedWrites x) .ordered) seq q ∙ ap (λ t. Seq.find t q) (sym (changed-end leaf (acceptedWrites x) (deletion k)));
+        tells = λ q. tells-delete S k (x .tickets) (changedBy-proper (x .started) (acceptedWrites x) (h .started) .ordered) seq q
+            ∙ ap (λ t. Seq.find t q) (sym (changed-end (x .started) (acceptedWrites x) (deletion k)));
         unique = unique-without k (x .tickets) (h .unique);
       },
       refl,
@@ -199,10 +201,12 @@ writerSide-delete st x T k safe h e =
       takes = tk;
       timing = tm;
       few = let a = ih .room in omega arith;
+      started = h .started;
     }
 
     finish : (w : Plan) (i : ℕ) → i ≡ indexOf (begun x (deletion k)) (deletion k) → Shape w i → InHand (planned st (w .stores)) (seqOf (begun x (deletion k))) T (w .stores) → 4 ≤ st .register .free
-        → ((s : Store) → ((capacity n : ℕ) → heldAfter (s .step) capacity n ≡ n - 1) → (p : Pending (planned st (w .stores)) (begun x (deletion k)) s) × (p .change ≡ deletion k)) → WriterSide (planned st (w .stores)) (begun x (deletion k)) T
+        → ((s : Store) → ((capacity n : ℕ) → heldAfter (s .step) capacity n ≡ n - 1) → (p : Pending (planned st (w .stores)) (begun x (deletion k)) s) × (p .change ≡ deletion k))
+        → WriterSide (planned st (w .stores)) (begun x (deletion k)) T
     finish w i j (at-once s l a b f t) ih free pending =
         let p = pending s f in
         make w ih (rw (a, with-free (st .register) (writeOf (s ∷ l))) (omega arith))

@@ -7,7 +7,7 @@ use mathlib.Core.List.{List}
 use native.Mathlib.Omega.{arith}
 use native.Mathlib.Decide.{decLe}
 use Rattle.datatypes.specs.declared.Link.{Link}
-use Rattle.tree.specs.Distinct.{_∈_}
+use Rattle.base.specs.Lists.{_∈_}
 use Rattle.tree.specs.Linked.{Linked, nodes}
 use Rattle.tree.specs.Occurs.{occ, in-occ, occ-in}
 use Rattle.heap.specs.Shift.{Shift}

@@ -1,4 +1,4 @@
--- The writer's side at the start and through readers' calls; at rest, an accepted insert.
+-- The writer's side through readers' calls; at rest, an accepted insert.
 use Prim.Native.Nat.{ℕ, _+_, _-_, _/_, _≤_}
 use mathlib.Core.Path.{_≡_, refl, sym, ap, _∙_, subst}
 use mathlib.Core.Logic.{_≢_}
@@ -27,61 +27,29 @@ use Rattle.datatypes.specs.declared.Store.{Store}
 use Rattle.datatypes.specs.declared.Register.{Register}
 use Rattle.datatypes.specs.Side.{other, owner, sideOf, sameSide}
 use Rattle.sequential.specs.Tree as Seq
-use Rattle.sequential.specs.Tree.{Tree, leaf}
+use Rattle.sequential.specs.Tree.{Tree}
 use Rattle.sequential.specs.Insert as SeqInsert
 use Rattle.sequential.specs.Delete.{Change, insertion, changed, changedBy}
 use Rattle.spec.specs.Numbers.{nodeWords}
-use Rattle.spec.specs.Pool.{child, isRed, standingWord, standingLinked, nodes as poolNodes}
-use Rattle.spec.specs.Register.{State, fresh, freshRegister, withWrite, writeOf}
+use Rattle.spec.specs.Pool.{child, isRed, nodes as poolNodes}
+use Rattle.spec.specs.Register.{State, withWrite, writeOf}
 use Rattle.spec.specs.Search.{pathTo}
 use Rattle.spec.specs.Plan.{fixupResult, insertFixup, fixupAfterInsert, store, turnStores, endingStores, insertPlan}
 use Rattle.spec.specs.Calls.{firstOf, writeInHand, placeOf, isHeld, tooDeep, insertAt}
-use Rattle.spec.specs.PlainList.{Ticket, Plain, noTicket, recordFor, updated, acceptedWrites, begun}
+use Rattle.spec.specs.PlainList.{Ticket, Plain, recordFor, updated, acceptedWrites, begun}
 use Rattle.tree.specs.Sorted.{Ordered}
-use Rattle.tree.specs.Changes.{history-proper, find-insert, find-insert-other}
-use Rattle.tree.specs.Linked.{Linked, nil, find, nodes}
+use Rattle.tree.specs.Changes.{changedBy-proper, find-insert, find-insert-other}
+use Rattle.tree.specs.Linked.{Linked, find}
 use Rattle.tree.specs.Erase.{erase, erase-find}
-use Rattle.heap.specs.Sites.{site-of}
 use Rattle.heap.specs.Colours.{colours}
-use Rattle.heap.specs.Phase.{at-rest}
 use Rattle.heap.specs.Writes.{InHand, Finished, in-hand-rest, in-hand-kept, write-count}
-use Rattle.heap.specs.Accept.{accepted-in-hand, searched, heldOf, insert-possible, fresh-rest}
-use Rattle.readers.specs.Reach.{HasStanding}
+use Rattle.heap.specs.Accept.{accepted-in-hand, searched, heldOf, insert-possible}
 use Rattle.readers.specs.CallCase.{clear, insertTests}
 use Rattle.readers.specs.Safe.{Safe}
 use Rattle.runs.specs.Writer.{LeavesTree, planned}
-use Rattle.runs.specs.Begin.{word-low}
 use Rattle.theorem.specs.Tickets.{without-same, without-other, unique-without, without-none}
 use Rattle.theorem.specs.Laters.{takesAll}
 use Rattle.theorem.specs.WriterSide.{seqOf, Pending, Timing, over, now, soon, WriterSide}
-
--- The fresh index.
-fresh-write : (N : ℕ) → fresh N .register .write ≡ writeOf []
-unfolding fresh freshRegister writeOf
-fresh-write N = refl
-
-fresh-fields : (N : ℕ) → (fresh N .register .held ≡ 0) × (fresh N .register .root ≡ 0)
-unfolding fresh freshRegister
-fresh-fields N = (refl, refl)
-
-fresh-stand : (N : ℕ) → 8 ≤ N → (n : ℕ) → ¬ (HasStanding (fresh N .pool) n standingLinked)
-unfolding fresh
-fresh-stand N lo n e = let a = word-low N lo n standingWord (omega arith) in absurd (omega arith)
-
-pub writerSide-fresh : (N : ℕ) → 8 ≤ N → N ≤ 1023 → WriterSide (fresh N) noTicket nil
-writerSide-fresh N lo hi =
-    let r = fresh-rest N hi in
-    record {
-      stores = [];
-      hand = record { phase = at-rest nil (site-of (fresh N .pool) (fresh N .register .root) [] nil (r .rep)) (r .sound) refl; write = fresh-write N; room = omega arith; small = r .small };
-      linked = λ n. (λ e. absurd (fresh-stand N lo n e), λ i. absurd i);
-      finds = λ k. refl;
-      held = fresh-fields N .0;
-      unique = tt;
-      takes = omega arith;
-      timing = over [] tt tt;
-      few = omega arith;
-    }
 
 -- Readers' calls.
 module _ (st after : State) (x : Plain) (s : LeavesTree st after) where
@@ -111,6 +79,7 @@ module _ (st after : State) (x : Plain) (s : LeavesTree st after) where
     takes = let a = h .takes in let b = s .free in omega arith;
     timing = leavesTree-timing (h .stores) (h .timing);
     few = h .few;
+    started = h .started;
   }
 
 -- At rest.
@@ -187,11 +156,12 @@ writerSide-insert st x T k v safe h e =
     let pl = insert-possible st T k v (fin .rest) new in
     let ih = accepted-in-hand st (SeqInsert.insert (erase (colours (st .pool)) T) k v) T w (fin .rest) pl in
     let S = seqOf x in
-    let goal : SeqInsert.insert (erase (colours (st .pool)) T) k v ≡ seqOf (begun x (insertion k v)) = ap (λ t. SeqInsert.insert t k v) (fin .tree) ∙ sym (changed-end leaf (acceptedWrites x) (insertion k v)) in
+    let goal : SeqInsert.insert (erase (colours (st .pool)) T) k v ≡ seqOf (begun x (insertion k v)) = ap (λ t. SeqInsert.insert t k v) (fin .tree)
+    ∙ sym (changed-end (x .started) (acceptedWrites x) (insertion k v)) in
     let shape = insert-shape st k v (placeOf st k) place (c .1 .1 .1 .0) in
     let absent : recordFor k (x .tickets) ≡ none = sym (h .finds k) ∙ new in
     let seq : (q : ℕ) → Seq.find S q ≡ recordFor q (x .tickets) = λ q. ap (λ t. Seq.find t q) (sym (fin .tree)) ∙ erase-find (colours (st .pool)) T q ∙ h .finds q in
-    let ord = history-proper (acceptedWrites x) .ordered in
+    let ord = changedBy-proper (x .started) (acceptedWrites x) (h .started) .ordered in
     let room = leb-false (poolNodes (st .pool) - 4) (st .register .held) (c .1 .1 .1 .1 .1 .0) in
     let free = ltb-false (st .register .free) 3 (c .1 .1 .1 .1 .1 .1 .0) in
     let few = few-insert st k (shape .0) in
@@ -209,8 +179,9 @@ writerSide-insert st x T k v safe h e =
             change = insertion k v;
             inHand = refl;
             counts = rw (with-held (st .register) (writeOf (w .stores)), lt-ltb (st .register .held) (poolNodes (st .pool)) (omega arith)) (let z = without-none k (x .tickets) absent in omega arith);
-            tells = λ q. tells-insert S k v (x .tickets) ord seq absent q ∙ ap (λ t. Seq.find t q) (sym (changed-end leaf (acceptedWrites x) (insertion k v)));
+            tells = λ q. tells-insert S k v (x .tickets) ord seq absent q ∙ ap (λ t. Seq.find t q) (sym (changed-end (x .started) (acceptedWrites x) (insertion k v)));
             unique = (without-same k (x .tickets), unique-without k (x .tickets) (h .unique));
           }) refl);
       few = let a = ih .room in omega arith;
+      started = h .started;
     }

@@ -13,7 +13,7 @@ use Rattle.spec.specs.Numbers.{slots}
 use Rattle.spec.specs.Pool.{standingLinked}
 use Rattle.spec.specs.Register.{State, state, setLink}
 use Rattle.spec.specs.Turn.{Made}
-use Rattle.tree.specs.Distinct.{_∈_}
+use Rattle.base.specs.Lists.{_∈_}
 use Rattle.tree.specs.Linked.{Linked, nodes}
 use Rattle.tree.specs.Occurs.{occ}
 use Rattle.heap.specs.Rep.{Rep}
@@ -38,7 +38,8 @@ base-stored st base came k v safe unchanged q o = link-stored st (safe .queue) k
 base-stored st base came k v safe (filled j w s x y c) q o = taking-stored st (st .register .first) (q .0) j w s x y c k v (safe .whole) o (q .1)
 
 -- other awaited slots, which are reading, and other fields than the queue's
-stored-fields : (st a : State) (r : Register) (came : List ℕ) (k : Link) (v : ℕ) → SameQueue (a .register) r → Slots (r .readers) (r .awaited) → Stored st a came k v → Stored st (state (a .pool) r) came k v
+stored-fields : (st a : State) (r : Register) (came : List ℕ) (k : Link) (v : ℕ) → SameQueue (a .register) r → Slots (r .readers) (r .awaited) → Stored st a came k v
+    → Stored st (state (a .pool) r) came k v
 stored-fields st a r came k v e z h = record {
   size = h .size;
   standing = h .standing;
@@ -79,7 +80,7 @@ parts-turn st T T′ m came gone b safe rep lk sh ps q aw = rw (ps .retired) (go
 
     tinted : Stored st (state (ps .mid .pool) (setLink (ps .base) (m .link) (m .node) .register)) came (m .link) (m .node)
     tinted = stored-recoloured st (setLink (ps .base) (m .link) (m .node)) _ came (m .link) (m .node)
-        (recoloured-pool (setLink (ps .base) (m .link) (m .node)) (ps .mid .pool) (record { size = ps .tint .size; words = ps .tint .words })) base
+        (recoloured-pool (setLink (ps .base) (m .link) (m .node)) (ps .mid .pool) (ps .tint)) base
 
     slots : Slots (ps .mid .register .readers) (ps .mid .register .awaited)
     slots = rw (ps .queue .readers ∙ base .readers, sym (all-awaited (ps .mid) gone) ∙ ap (λ s. s .register .awaited) (sym (ps .retired))) aw

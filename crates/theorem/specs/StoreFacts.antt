@@ -21,7 +21,7 @@ use Rattle.spec.specs.Register.{State, state, withWrite, readingSlots, lessFirs
 use Rattle.spec.specs.Turn.{Made, insertStore, stepMade}
 use Rattle.spec.specs.Calls.{stored}
 use Rattle.sequential.specs.Tree.{Tree}
-use Rattle.tree.specs.Distinct.{_∈_, in-append}
+use Rattle.base.specs.Lists.{_∈_, in-append}
 use Rattle.tree.specs.Linked.{Linked, nil, cell, path, nodes}
 use Rattle.tree.specs.Thin.{Thin}
 use Rattle.tree.specs.Zipper.{Thins}

@@ -1,11 +1,13 @@
--- The theorem: demands 2 and 3, and that 2 and 12 are never met, of every list of calls on a pool of any N from 8 to 1,023 just set up.
-use Prim.Native.Nat.{ℕ, _≤_}
+-- The theorem: demands 2 and 3, and that 2 and 12 are never met, of every list of calls on a pool of any N from 8 to 1,023 just set up; and
+-- from every other sound start (runs: Starts).
+use Prim.Native.Nat.{ℕ, _<_, _≤_}
 use mathlib.Core.Path.{_≡_, sym, _∙_, subst}
+use mathlib.Core.Bool.{false≢true}
 use mathlib.Core.List.{List}
 use native.Mathlib.Omega.{arith}
 use native.Mathlib.Decide.{ℕ-discrete}
 use borrow.Author.Tests.{eq-eqb, ne-eqb}
-use Rattle.spec.specs.Pool.{word, colourWord, redColour}
+use Rattle.spec.specs.Pool.{word, colourWord, standingWord, redColour, standingLinked}
 use Rattle.spec.specs.Calls.{Call}
 use Rattle.tree.specs.Linked.{Linked, nil, cell, find}
 use Rattle.tree.specs.Erase.{erase}
@@ -14,14 +16,23 @@ use Rattle.heap.specs.Colours.{hue, colours}
 use Rattle.heap.specs.Run.{phase-rep}
 use Rattle.heap.specs.Writes.{write-count}
 use Rattle.heap.specs.Accept.{searched, insert-possible, delete-possible}
-use Rattle.promise.specs.Demands.{colourNumber, Stands, Promise}
+use Rattle.promise.specs.Run.{Start, justSetUp, indexAfter, Reading}
+use Rattle.promise.specs.Demands.{colourNumber, Stands, PromiseFrom, Promise}
 use Rattle.readers.specs.Words.{node-high}
+use Rattle.readers.specs.Reach.{Kept}
 use Rattle.runs.specs.Writer.{Writer}
+use Rattle.runs.specs.Sound.{Starts}
+use Rattle.runs.specs.Starts.{SoundStart, ranged-start, safe-start}
+use Rattle.runs.specs.Begin.{sound-fresh}
 use Rattle.runs.specs.Rest.{Completes}
+use Rattle.runs.specs.Facts as Facts
+use Rattle.runs.specs.Facts.{TicketAt}
 use Rattle.runs.specs.Whole as Whole
 use Rattle.theorem.specs.WriterSide.{WriterSide, writerSide-store, writerSide-finds}
-use Rattle.theorem.specs.Rests.{writerSide-fresh, writerSide-leavesTree, resting, none-of, writerSide-insert}
+use Rattle.theorem.specs.Rests.{writerSide-leavesTree, resting, none-of, writerSide-insert}
 use Rattle.theorem.specs.Deletes.{some-of, writerSide-delete}
+use Rattle.theorem.specs.Truth.{phase-true}
+use Rattle.theorem.specs.Starts.{writerSide-start}
 
 -- a colour word of 0 or 1 is its colour's number
 hue-number : (w : ℕ) → w ≤ 1 → w ≡ colourNumber (hue w)
@@ -42,12 +53,12 @@ stands p (cell N l r) a c h =
     let e = w .is in
     rw e (w .within .low, node-high p (N .num) (w .within), w .key-is, w .val-is, colour-number p (N .num) (c (N .num)), stands p l _ c (h .1), stands p r _ c (h .2))
 
-writer : Writer WriterSide
+pub writer : Writer WriterSide
 writer = record {
-  starts = writerSide-fresh;
   unfolds = λ st x T h. phase-rep (h .hand .phase);
   linked = λ st x T h. h .linked;
   finds = λ st x T h. h .finds;
+  told = λ st x T h. phase-true (h .hand .phase);
   held = λ st x T h. h .held;
   leavesTree = λ st after x T h s. writerSide-leavesTree st after x s T h;
   insert = writerSide-insert;
@@ -55,7 +66,7 @@ writer = record {
   store = λ st x T safe h a w f. writerSide-store st x T safe h w;
 }
 
-completes : Completes WriterSide
+pub completes : Completes WriterSide
 completes = record {
   rest = λ st x T h c e. (let f = resting st x T h e in subst (λ t. Stands (st .pool) (st .register .root) t) (f .tree) (stands (st .pool) T (st .register .root) c (f .rest .rep)));
   few = λ st x T h e. (let a = h .few in rw (h .hand .write, write-count (h .stores)) a);
@@ -72,5 +83,32 @@ completes = record {
   stepGoes = λ st x T safe h a w. writerSide-finds st x T safe h w;
 }
 
+-- a sound start
+pub starts-sound : (S : Start) → SoundStart S → Starts WriterSide writer S
+starts-sound S h =
+    let j = writerSide-start S h in
+    record {
+      least = h .least;
+      most = h .most;
+      sound = record { safe = safe-start S h; tree = j .0; holds = j .1 };
+      ranged = ranged-start S h;
+      quiet = λ s u e. false≢true (sym (h .quiet s u) ∙ e);
+    }
+
+-- every list of calls from a sound start
+pub promise-from : (S : Start) → SoundStart S → (cs : List Call) → PromiseFrom S cs
+promise-from S h cs = Whole.promise WriterSide writer completes S (starts-sound S h) cs
+
+-- and so on a pool of N nodes just set up
 pub promise : (N : ℕ) → 8 ≤ N → N ≤ 1023 → (cs : List Call) → Promise N cs
-promise N lo hi cs = Whole.promise WriterSide writer completes N lo hi cs
+promise N lo hi cs = promise-from (justSetUp N) (sound-fresh N lo hi) cs
+
+-- Two facts of every run from a sound start (runs: Facts), between the stores of a write too; C-11 and C-13 will use them.
+-- each linked node has its ticket in the plain list
+pub linked-ticket : (S : Start) → SoundStart S → (cs : List Call) (j m : ℕ) → word (indexAfter S cs j .pool) m standingWord ≡ standingLinked → TicketAt S cs j m j
+linked-ticket S h cs j m e = Facts.linked-ticket WriterSide writer S (starts-sound S h) cs j m e
+
+-- each node kept for a slot (linked, or retired with its bit) had its ticket at a moment of that slot's reading
+pub kept-ticket : (S : Start) → SoundStart S → (cs : List Call) (s k i j m : ℕ) → Reading S cs s k i j → Kept (indexAfter S cs j .pool) s m
+    → (t : ℕ) × (i < t) × (t ≤ j) × TicketAt S cs j m t
+kept-ticket S h cs s k i j m l e = Facts.kept-ticket WriterSide writer S (starts-sound S h) cs s k i j m l e

@@ -9,7 +9,7 @@ use native.Mathlib.Omega.{arith}
 use lib.Dec.{eqb}
 use lib.ListN.{length}
 use borrow.Author.Tests.{eqb-true, eqb-false, ne-eqb}
-use Rattle.spec.specs.PlainList.{Ticket, without, recordFor}
+use Rattle.spec.specs.PlainList.{Ticket, without, recordFor, Unique}
 
 pub none-some : (v : ℕ) → ¬ (_≡_ {A = Option ℕ} none (some v))
 none-some v e = let z : _≡_ {A = ℕ} 0 1 = cc in absurd (omega arith)
@@ -29,10 +29,6 @@ without-other k q (t ∷ ts) d = go (eqb (t .key) k) refl (without-other k q ts 
     go : (b : Bool) → eqb (t .key) k ≡ b → recordFor q (without k ts) ≡ recordFor q ts → recordFor q (cond b (without k ts) (t ∷ without k ts)) ≡ recordFor q (t ∷ ts)
     go true e h = let z = ne-eqb (t .key) q (λ x. d (sym x ∙ eqb-true (t .key) k e)) in rw z h
     go false e h = rw h
-
-abbrev pub Unique : List Ticket → Type 0
-Unique [] = Unit {0}
-Unique (t ∷ ts) = (recordFor (t .key) ts ≡ none) × Unique ts
 
 pub unique-without : (k : ℕ) (ts : List Ticket) → Unique ts → Unique (without k ts)
 unique-without k [] h = tt

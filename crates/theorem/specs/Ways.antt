@@ -13,8 +13,8 @@ use Rattle.datatypes.specs.declared.Side.the-variants.{L, R}
 use Rattle.datatypes.specs.declared.Link.{Link}
 use Rattle.datatypes.specs.Side.{other, linkAt, owner}
 use Rattle.spec.specs.Pool.{standingLinked}
-use Rattle.tree.specs.Distinct.{_∈_}
-use Rattle.tree.specs.Linked.{Node, copy, Linked, nil, cell, at, path, nodes}
+use Rattle.base.specs.Lists.{_∈_}
+use Rattle.tree.specs.Linked.{Node, copy, Linked, nil, cell, at, nodes}
 use Rattle.tree.specs.Zipper.{Frame, hole, plug, plug-append, Thins}
 use Rattle.tree.specs.Occurs.{one, one-same, one-case, occ, occ-append, occ-at, occ-plug}
 use Rattle.tree.specs.Rotations.{diag₁, zig₂}
@@ -84,7 +84,8 @@ module _ (p : List ℕ) (root : ℕ) where
   shift-owner (by-adopt fs B C l y ord w) lk = lk (C .num) (there fs _ (C .num) (far-in L B l (at L C nil y) (C .num) (capacity L C nil y)))
   shift-owner (by-replace fs B C l y ord w) lk = link-owner fs _ lk
   shift-owner (by-publish fs gs B C n l y al ord w z) lk = link-owner fs _ lk
-  shift-owner (by-detach fs gs B C n l y al ord w z) lk = link-owner (gs ++ (hole R (copy C n) l ∷ fs)) (at L C nil y) (λ i u. lk i (subst (λ t. 0 < occ i (nodes t)) (plug-append gs (hole R (copy C n) l ∷ fs) (at L C nil y)) u))
+  shift-owner (by-detach fs gs B C n l y al ord w z) lk = link-owner (gs ++ (hole R (copy C n) l ∷ fs)) (at L C nil y)
+      (λ i u. lk i (subst (λ t. 0 < occ i (nodes t)) (plug-append gs (hole R (copy C n) l ∷ fs) (at L C nil y)) u))
 
   -- the nodes that go stand in the tree, and the link is not theirs
   abbrev pub Going : Linked → Link → ℕ → Type 0
@@ -125,10 +126,11 @@ module _ (p : List ℕ) (root : ℕ) where
   shift-two (by-zig-A fs s A B C m a x y r ord w z) h = tt
   shift-two (by-zig-C fs s A B C m n a x y r ord w z q d) h = tt
   shift-two (by-zig-raise fs s A B C m n a x y r ord w z q d) h = λ e.
+      let low = at s A a (at s B (at s (copy A m) a x) (at s (copy C n) y r)) in
       let site = site-of p root fs (zig₂ s A B C m n a x y r) h in
-      let z = not-below-at p _ s C (at s A a (at s B (at s (copy A m) a x) (at s (copy C n) y r))) r (site .sub) .0 in
+      let z = not-below-at p _ s C low r (site .sub) .0 in
       let b = capacity s A a (at s B (at s (copy A m) a x) (at s (copy C n) y r)) in
-      let c : occ (A .num) (nodes (at s A a (at s B (at s (copy A m) a x) (at s (copy C n) y r)))) ≡ occ (C .num) (nodes (at s A a (at s B (at s (copy A m) a x) (at s (copy C n) y r)))) = ap (λ i. occ i (nodes (at s A a (at s B (at s (copy A m) a x) (at s (copy C n) y r))))) e in
+      let c : occ (A .num) (nodes low) ≡ occ (C .num) (nodes low) = ap (λ i. occ i (nodes low)) e in
       absurd (omega arith)
   shift-two (by-unlink fs s B x ord w) h = tt
   shift-two (by-adopt fs B C l y ord w) h = tt

@@ -11,15 +11,16 @@ use lib.ListN.{length}
 use borrow.Author.Tests.{eq-eqb, ne-eqb}
 use Rattle.datatypes.specs.declared.Store.{Store}
 use Rattle.sequential.specs.Tree as Seq
-use Rattle.sequential.specs.Tree.{Tree, leaf}
+use Rattle.sequential.specs.Tree.{Tree}
 use Rattle.sequential.specs.Delete.{Change, changedBy}
 use Rattle.spec.specs.Numbers.{nodeWords, mostStores}
 use Rattle.spec.specs.Pool.{standingLinked, nodes as poolNodes}
 use Rattle.spec.specs.Register.{State, storeOf, withWrite}
 use Rattle.spec.specs.Turn.{Made, stepFinds, stepMade}
 use Rattle.spec.specs.Calls.{stored, writeInHand}
-use Rattle.spec.specs.PlainList.{Ticket, Plain, recordFor, updated, withInHand, acceptedWrites, storeMade, listStore as listIndex}
-use Rattle.tree.specs.Distinct.{_∈_}
+use Rattle.spec.specs.PlainList.{Ticket, Plain, recordFor, Unique, updated, withInHand, acceptedWrites, storeMade, listStore as listIndex}
+use Rattle.base.specs.Lists.{_∈_}
+use Rattle.tree.specs.Changes.{Proper}
 use Rattle.tree.specs.Linked.{Linked, find, nodes}
 use Rattle.tree.specs.Occurs.{occ, occ-in}
 use Rattle.heap.specs.Moves.{Fresh}
@@ -32,17 +33,16 @@ use Rattle.readers.specs.Owned.{Owned}
 use Rattle.readers.specs.Reach.{HasStanding}
 use Rattle.readers.specs.Safe.{Safe}
 use Rattle.runs.specs.Writer.{Stores, afterStore}
-use Rattle.theorem.specs.Tickets.{Unique}
 use Rattle.theorem.specs.Laters.{takesAll, later-plain, held-plain, later-length, later-takes, taken-length}
 use Rattle.theorem.specs.Steps.{QueueKept}
 use Rattle.theorem.specs.StoreFacts.{turned, met-turn, met-linked, met-stores}
 
 abbrev pub seqOf : Plain → Tree
-seqOf x = changedBy leaf (acceptedWrites x)
+seqOf x = changedBy (x .started) (acceptedWrites x)
 
 -- which store is the plain list's, with the sequential tree of the writes before
 abbrev pub indexOf : Plain → Change → ℕ
-indexOf x c = listIndex (changedBy leaf (x .before)) c
+indexOf x c = listIndex (changedBy (x .started) (x .before)) c
 
 -- the list store s is still to come: what it will make of tickets and keys held
 pub record Pending (st : State) (x : Plain) (s : Store) : Type 0 where
@@ -72,6 +72,7 @@ pub record WriterSide (st : State) (x : Plain) (T : Linked) : Type 0 where
   pub takes : takesAll stores ≤ st .register .free
   pub timing : Timing st x stores
   pub few : x .made + length stores ≤ mostStores
+  pub started : Proper (x .started)
 
 -- the queue has a node where one is taken
 exact : (st : State) (T : Linked) (came : List ℕ) → Safe st → ((n : ℕ) → HasStanding (st .pool) n standingLinked ↔ (n ∈ nodes T)) → length came ≤ st .register .free → Ready st T came × QueueKept st came
@@ -86,13 +87,13 @@ exact st T (c ∷ l) safe lk u = go (safe .queue) (safe .owned) refl
         let out : ¬ (0 < occ n (nodes T)) = λ w. (let b = lk n .1 (occ-in n (nodes T) w) in let d = a .1 in absurd (omega arith)) in
         (record { within = rw first (a .0); new = rw first (omega arith) }, (z, subst (λ i. Owned st (i ∷ z)) (sym first) h))
 
-module _ (st : State) (x : Plain) (T : Linked) (safe : Safe st) (s : Store) (l : List Store) (hand : InHand st (seqOf x) T (s ∷ l)) (lk : (n : ℕ) → HasStanding (st .pool) n standingLinked ↔ (n ∈ nodes T))
-    (fnd : (k : ℕ) → find T k ≡ recordFor k (x .tickets)) (hld : st .register .held ≡ length (x .tickets)) (unq : Unique (x .tickets)) (tks : takesAll (s ∷ l) ≤ st .register .free) (fw : x .made + length (s ∷ l) ≤ mostStores) where
+module _ (st : State) (x : Plain) (T : Linked) (safe : Safe st) (was : WriterSide st x T) (s : Store) (l : List Store) (hand : InHand st (seqOf x) T (s ∷ l))
+    (tks : takesAll (s ∷ l) ≤ st .register .free) (fw : x .made + length (s ∷ l) ≤ mostStores) where
   pub ready : Ready st T (takenBy (s .step) (st .register .first)) × QueueKept st (takenBy (s .step) (st .register .first))
-  ready = exact st T (takenBy (s .step) (st .register .first)) safe lk (let a = taken-length (s .step) (st .register .first) 0 in omega arith)
+  ready = exact st T (takenBy (s .step) (st .register .first)) safe (was .linked) (let a = taken-length (s .step) (st .register .first) 0 in omega arith)
 
   abbrev t : Writes.Turn st (seqOf x) T s l
-  t = turned st (seqOf x) T s l safe hand lk (ready .0) (ready .1)
+  t = turned st (seqOf x) T s l safe hand (was .linked) (ready .0) (ready .1)
 
   abbrev m : Made
   m = stepMade st (s .link) (s .step)
@@ -109,7 +110,7 @@ module _ (st : State) (x : Plain) (T : Linked) (safe : Safe st) (s : Store) (l :
 
   takes-after : takesAll rest ≤ after .register .free
   takes-after =
-      let a = met-turn st (seqOf x) T s l safe hand lk (ready .0) (ready .1) .free in
+      let a = met-turn st (seqOf x) T s l safe hand (was .linked) (ready .0) (ready .1) .free in
       let b = later-takes st (s .link) (s .step) l in
       let c = taken-length (s .step) (st .register .first) 0 in
       omega arith
@@ -120,19 +121,21 @@ module _ (st : State) (x : Plain) (T : Linked) (safe : Safe st) (s : Store) (l :
     x′ = storeMade x (some c)
 
     same-seq : seqOf x ≡ seqOf x′
-    same-seq = ap (λ o. changedBy leaf (withInHand (x .before) o)) inh
+    same-seq = ap (λ o. changedBy (x .started) (withInHand (x .before) o)) inh
 
-    writerSide : (ts : List Ticket) → x′ .tickets ≡ ts → ((k : ℕ) → find (t .next .tree) k ≡ recordFor k ts) → after .register .held ≡ length ts → Unique ts → Timing after x′ rest → WriterSide after x′ (t .next .tree)
+    writerSide : (ts : List Ticket) → x′ .tickets ≡ ts → ((k : ℕ) → find (t .next .tree) k ≡ recordFor k ts) → after .register .held ≡ length ts → Unique ts → Timing after x′ rest
+        → WriterSide after x′ (t .next .tree)
     writerSide ts e f h u w = record {
       stores = rest;
       hand = subst (λ g. InHand after g (t .next .tree) rest) same-seq (t .in-hand);
-      linked = met-linked st (seqOf x) T s l safe hand lk (ready .0) (ready .1);
+      linked = met-linked st (seqOf x) T s l safe hand (was .linked) (ready .0) (ready .1);
       finds = λ k. f k ∙ ap (recordFor k) (sym e);
       held = h ∙ ap length (sym e);
       unique = subst Unique (sym e) u;
       takes = takes-after;
       timing = w;
       few = let a = later-length st (s .link) (s .step) l in omega arith;
+      started = was .started;
     }
 
     past : (r : List Store) → indexOf x c ≤ x .made + 1 → Past x′ r
@@ -150,13 +153,13 @@ module _ (st : State) (x : Plain) (T : Linked) (safe : Safe st) (s : Store) (l :
 
     pub off-list : listStore (s .step) ≡ false → x .made + 1 ≢ indexOf x c → Timing after x′ rest → WriterSide after x′ (t .next .tree)
     off-list e d w =
-        writerSide (x .tickets) (rw (ne-eqb (x .made + 1) (indexOf x c) d)) (λ k. turn-same t e k ∙ fnd k)
-        (held-after ∙ held-plain (s .step) _ _ e ∙ hld) unq w
+        writerSide (x .tickets) (rw (ne-eqb (x .made + 1) (indexOf x c) d)) (λ k. turn-same t e k ∙ was .finds k)
+        (held-after ∙ held-plain (s .step) _ _ e ∙ was .held) (was .unique) w
 
     pub next-pending : (b : Store) (p : Pending st x b) → p .change ≡ c → listStore (s .step) ≡ false → x .made + 1 ≢ indexOf x c → Pending after x′ b
     next-pending b p i e d =
         let same : x′ .tickets ≡ x .tickets = rw (ne-eqb (x .made + 1) (indexOf x c) d) in
-        let big : poolNodes (after .pool) ≡ poolNodes (st .pool) = ap (λ n. n / nodeWords) (met-turn st (seqOf x) T s l safe hand lk (ready .0) (ready .1) .size) in
+        let big : poolNodes (after .pool) ≡ poolNodes (st .pool) = ap (λ n. n / nodeWords) (met-turn st (seqOf x) T s l safe hand (was .linked) (ready .0) (ready .1) .size) in
         let lists : updated (p .change) (x .tickets) ≡ updated c (x′ .tickets) = ap (λ z. updated z (x .tickets)) i ∙ ap (updated c) (sym same) in
         record {
           change = c;
@@ -187,41 +190,45 @@ module _ (st : State) (x : Plain) (T : Linked) (safe : Safe st) (h : WriterSide 
   turn-on : (s : Store) (l : List Store) → InHand st (seqOf x) T (s ∷ l) → takesAll (s ∷ l) ≤ st .register .free → x .made + length (s ∷ l) ≤ mostStores → Timing st x (s ∷ l)
       → Stores st (stored (stepMade st (s .link) (s .step)) .after) T (λ z. WriterSide (stored (stepMade st (s .link) (s .step)) .after) (storeMade x (x .inHand)) z)
   turn-on s l hand tks fw w =
-      let r = ready st x T safe s l hand (h .linked) (h .finds) (h .held) (h .unique) tks fw in
+      let r = ready st x T safe h s l hand tks fw in
       met-stores st (seqOf x) T s l safe hand (h .linked) (r .0) (r .1) (λ z. WriterSide (stored (stepMade st (s .link) (s .step)) .after) (storeMade x (x .inHand)) z) (go (due-of st x s l w))
     where
-      kept : (c : Change) → x .inHand ≡ some c → WriterSide (stored (stepMade st (s .link) (s .step)) .after) (storeMade x (some c)) (t st x T safe s l hand (h .linked) (h .finds) (h .held) (h .unique) tks fw .next .tree)
-          → WriterSide (stored (stepMade st (s .link) (s .step)) .after) (storeMade x (x .inHand)) (t st x T safe s l hand (h .linked) (h .finds) (h .held) (h .unique) tks fw .next .tree)
-      kept c e j = subst (λ o. WriterSide (stored (stepMade st (s .link) (s .step)) .after) (storeMade x o) (t st x T safe s l hand (h .linked) (h .finds) (h .held) (h .unique) tks fw .next .tree)) (sym e) j
+      kept : (c : Change) → x .inHand ≡ some c → WriterSide (stored (stepMade st (s .link) (s .step)) .after) (storeMade x (some c)) (t st x T safe h s l hand tks fw .next .tree)
+          → WriterSide (stored (stepMade st (s .link) (s .step)) .after) (storeMade x (x .inHand)) (t st x T safe h s l hand tks fw .next .tree)
+      kept c e j = subst (λ o. WriterSide (stored (stepMade st (s .link) (s .step)) .after) (storeMade x o) (t st x T safe h s l hand tks fw .next .tree)) (sym e) j
 
-      go : Due st x s l → WriterSide (stored (stepMade st (s .link) (s .step)) .after) (storeMade x (x .inHand)) (t st x T safe s l hand (h .linked) (h .finds) (h .held) (h .unique) tks fw .next .tree)
+      go : Due st x s l → WriterSide (stored (stepMade st (s .link) (s .step)) .after) (storeMade x (x .inHand)) (t st x T safe h s l hand tks fw .next .tree)
       go (is-over q (c, i, u)) =
-          kept c i (off-list st x T safe s l hand (h .linked) (h .finds) (h .held) (h .unique) tks fw c i (q .0) (λ e. let z = u in absurd (omega arith))
-          (over (later st (s .link) (s .step) l) (later-settled st (s .link) (s .step) l (q .1)) (past st x T safe s l hand (h .linked) (h .finds) (h .held) (h .unique) tks fw c i (later st (s .link) (s .step) l) (omega arith))))
-      go (is-now e p i) = kept (p .change) (p .inHand) (at-list st x T safe s l hand (h .linked) (h .finds) (h .held) (h .unique) tks fw (p .change) (p .inHand) e p refl i)
+          kept c i (off-list st x T safe h s l hand tks fw c i (q .0) (λ e. let z = u in absurd (omega arith))
+          (over (later st (s .link) (s .step) l) (later-settled st (s .link) (s .step) l (q .1)) (past st x T safe h s l hand tks fw c i (later st (s .link) (s .step) l) (omega arith))))
+      go (is-now e p i) = kept (p .change) (p .inHand) (at-list st x T safe h s l hand tks fw (p .change) (p .inHand) e p refl i)
       go (is-soon b k e f g p i) =
           let c = p .change in
           let rest = later-plain st (s .link) (s .step) l f ∙ e in
-          kept c (p .inHand) (off-list st x T safe s l hand (h .linked) (h .finds) (h .held) (h .unique) tks fw c (p .inHand) f (λ z. absurd (omega arith))
-          (subst (λ w. Timing (stored (stepMade st (s .link) (s .step)) .after) (storeMade x (some c)) w) (sym rest) (next-now st x T safe s l hand (h .linked) (h .finds) (h .held) (h .unique) tks fw c (p .inHand) b k p refl f (λ z. absurd (omega arith)) g i)))
+          kept c (p .inHand) (off-list st x T safe h s l hand tks fw c (p .inHand) f (λ z. absurd (omega arith))
+          (subst (λ w. Timing (stored (stepMade st (s .link) (s .step)) .after) (storeMade x (some c)) w) (sym rest)
+          (next-now st x T safe h s l hand tks fw c (p .inHand) b k p refl f (λ z. absurd (omega arith)) g i)))
 
   -- the first store of a write in hand
   pub writerSide-store : writeInHand st ≡ true → Stores st (afterStore st) T (λ z. WriterSide (afterStore st) (storeMade x (x .inHand)) z)
   writerSide-store w = go (h .stores) (h .hand) (h .takes) (h .few) (h .timing)
     where
-      go : (l : List Store) → InHand st (seqOf x) T l → takesAll l ≤ st .register .free → x .made + length l ≤ mostStores → Timing st x l → Stores st (afterStore st) T (λ z. WriterSide (afterStore st) (storeMade x (x .inHand)) z)
+      go : (l : List Store) → InHand st (seqOf x) T l → takesAll l ≤ st .register .free → x .made + length l ≤ mostStores → Timing st x l
+          → Stores st (afterStore st) T (λ z. WriterSide (afterStore st) (storeMade x (x .inHand)) z)
       go [] hand tks fw d = absurd (false≢true (rw (hand .write, write-count []) at w))
       go (s ∷ l) hand tks fw d =
-          let r = ready st x T safe s l hand (h .linked) (h .finds) (h .held) (h .unique) tks fw in
-          let first : storeOf (st .register) 0 ≡ s = t st x T safe s l hand (h .linked) (h .finds) (h .held) (h .unique) tks fw .first in
-          subst (λ y. Stores st (stored (stepMade st (y .link) (y .step)) .after) T (λ z. WriterSide (stored (stepMade st (y .link) (y .step)) .after) (storeMade x (x .inHand)) z)) (sym first) (turn-on s l hand tks fw d)
+          let r = ready st x T safe h s l hand tks fw in
+          let first : storeOf (st .register) 0 ≡ s = t st x T safe h s l hand tks fw .first in
+          subst (λ y. Stores st (stored (stepMade st (y .link) (y .step)) .after) T (λ z. WriterSide (stored (stepMade st (y .link) (y .step)) .after) (storeMade x (x .inHand)) z))
+          (sym first) (turn-on s l hand tks fw d)
 
   -- its step finds every node that it names
   pub writerSide-finds : writeInHand st ≡ true → stepFinds st (storeOf (st .register) 0 .link) (storeOf (st .register) 0 .step) ≡ true
   writerSide-finds w = go (h .stores) (h .hand) (h .takes) (h .few)
     where
-      go : (l : List Store) → InHand st (seqOf x) T l → takesAll l ≤ st .register .free → x .made + length l ≤ mostStores → stepFinds st (storeOf (st .register) 0 .link) (storeOf (st .register) 0 .step) ≡ true
+      go : (l : List Store) → InHand st (seqOf x) T l → takesAll l ≤ st .register .free → x .made + length l ≤ mostStores
+          → stepFinds st (storeOf (st .register) 0 .link) (storeOf (st .register) 0 .step) ≡ true
       go [] hand tks fw = absurd (false≢true (rw (hand .write, write-count []) at w))
       go (s ∷ l) hand tks fw =
-          let a = t st x T safe s l hand (h .linked) (h .finds) (h .held) (h .unique) tks fw in
+          let a = t st x T safe h s l hand tks fw in
           subst (λ y. stepFinds st (y .link) (y .step) ≡ true) (sym (a .first)) (a .finds)

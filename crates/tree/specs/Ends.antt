@@ -11,7 +11,7 @@ use Rattle.sequential.specs.Delete.{blackOuter, blackSibling}
 use Rattle.tree.specs.Sorted.{parts}
 use Rattle.tree.specs.DeleteShape.{blackSibling-outer, blackSibling-inner}
 use Rattle.tree.specs.Delete.{pass-diag}
-use Rattle.tree.specs.Distinct.{_∈_}
+use Rattle.base.specs.Lists.{_∈_}
 use Rattle.tree.specs.Linked.{Node, Linked, cell, at, nodes}
 use Rattle.tree.specs.Erase.{erase, erase-at, erase-agree}
 use Rattle.tree.specs.Rotations.{diag₂, zig₃}

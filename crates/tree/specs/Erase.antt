@@ -14,7 +14,7 @@ use Rattle.tree.specs.Order.{tri-case}
 use Rattle.tree.specs.Sorted.{size}
 use Rattle.tree.specs.RedBlack.{RedBlack}
 use Rattle.tree.specs.Height.{height, height-1023, height-plug}
-use Rattle.tree.specs.Distinct.{_∈_, in-append}
+use Rattle.base.specs.Lists.{_∈_, in-append}
 use Rattle.tree.specs.Linked.{Node, Linked, nil, cell, at, find, path, nodes}
 use Rattle.tree.specs.Zipper.{Frame, hole, plug, Into}
 use Rattle.tree.specs.Descent as Descent

@@ -9,7 +9,6 @@ pub mod DeleteShape
 pub mod Delete
 pub mod Changes
 pub mod Height
-pub mod Distinct
 pub mod Linked
 pub mod Thin
 pub mod Zipper
@@ -26,3 +25,5 @@ pub mod Occurs
 pub mod Recolour
 pub mod Ways
 pub mod Phases
+pub mod Graft
+pub mod Tickets

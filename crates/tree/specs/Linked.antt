@@ -11,7 +11,7 @@ use Rattle.datatypes.specs.Side.{other}
 use Rattle.sequential.specs.Tree.{rel, pick}
 use Rattle.tree.specs.Order.{tri-case}
 use Rattle.tree.specs.Sorted.{pick-turned}
-use Rattle.tree.specs.Distinct.{_∈_, in-append}
+use Rattle.base.specs.Lists.{_∈_, in-append}
 
 pub record Node : Type 0 where
   pub num : ℕ

@@ -14,7 +14,7 @@ use Rattle.datatypes.specs.declared.Side.{Side}
 use Rattle.datatypes.specs.declared.Side.the-variants.{L, R}
 use Rattle.sequential.specs.Tree.{Colour}
 use Rattle.tree.specs.Sorted.{size}
-use Rattle.tree.specs.Distinct.{_∈_, in-append, Distinct, pigeonhole}
+use Rattle.base.specs.Lists.{_∈_, in-append, Distinct, pigeonhole}
 use Rattle.tree.specs.Linked.{Node, Linked, nil, cell, at, nodes}
 use Rattle.tree.specs.Zipper.{Frame, hole, plug}
 use Rattle.tree.specs.Erase.{erase}

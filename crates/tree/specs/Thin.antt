@@ -2,7 +2,7 @@
 use Prim.Native.Nat.{ℕ}
 use mathlib.Core.Logic.{_⊎_, inl, inr, ⊎-map, ⊎-elim}
 use mathlib.Core.List.{List, [], _∷_, _++_}
-use Rattle.tree.specs.Distinct.{_∈_}
+use Rattle.base.specs.Lists.{_∈_}
 
 -- ys has all of xs but some that leave (P), in their order, and perhaps more
 pub data Thin (P : ℕ → Type 0) : List ℕ → List ℕ → Type 0 where

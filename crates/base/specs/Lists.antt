@@ -1,11 +1,12 @@
--- Lists of numbers without repetition: from 1 to N there are at most N of them. Used for the nodes of a tree and the free queue.
+-- Lists of numbers: what is in one, one without repetition; from 1 to N there are at most N of the latter. For the nodes of a tree and the
+-- free queue.
 use Prim.Native.Nat.{ℕ, zero, suc, _+_, _≤_}
 use mathlib.Core.Path.{_≡_, refl, sym, _∙_}
 use mathlib.Core.Logic.{_≢_, _⊎_, inl, inr, ⊎-map, ⊎-elim, _↔_}
 use mathlib.Core.List.{List, [], _∷_, _++_}
 use native.Mathlib.Omega.{arith}
 use native.Mathlib.Decide.{ℕ-discrete}
-use lib.ListN.{length}
+use lib.ListN.{length, getD, replicate}
 
 -- membership by recursion: it computes, and matches by inl and inr
 infix 40 _∈_
@@ -20,6 +21,7 @@ in-append m (x ∷ xs) ys = (
   ⊎-elim (⊎-elim inl (λ h. inr (in-append m xs ys .1 (inl h)))) (λ h. inr (in-append m xs ys .1 (inr h))),
 )
 
+-- a list without repetition
 abbrev pub Distinct : List ℕ → Type 0
 Distinct [] = Unit {0}
 Distinct (x ∷ xs) = (¬ (x ∈ xs)) × Distinct xs
@@ -54,3 +56,14 @@ pigeonhole (suc N) xs d h =
     let few = pigeonhole N (w .others) (w .distinct) (λ n i. let a = h n (w .within n i) in let b = w .apart n i in (a .0, omega arith)) in
     let a = w .fewer in
     omega arith
+
+-- past its end a list has the default, and a list of defaults has it everywhere
+pub getD-past : {A : Type 0} (d : A) (l : List A) (i : ℕ) → length l ≤ i → getD l i d ≡ d
+getD-past d [] i h = refl
+getD-past d (x ∷ l) zero h = absurd (omega arith)
+getD-past d (x ∷ l) (suc i) h = getD-past d l i (omega arith)
+
+pub getD-same : {A : Type 0} (d : A) (n i : ℕ) → getD (replicate n d) i d ≡ d
+getD-same d zero i = refl
+getD-same d (suc n) zero = refl
+getD-same d (suc n) (suc i) = getD-same d n i

@@ -1,0 +1,103 @@
+-- No node is compared twice: the nodes seen so far and those still to come are distinct, through a store too. Asked is the way on the root's
+-- before the store (R2), not what the store does to it: so it outlives a publish and holds of awaited slots. For C-17 (counts) and C-11.
+use Prim.Native.Nat.{ℕ}
+use mathlib.Core.Path.{_≡_, refl, sym, ap, _∙_, subst}
+use mathlib.Core.Logic.{_≢_, _⊎_, inl, inr, ⊎-elim, _↔_}
+use mathlib.Core.List.{List, [], _∷_, _++_, append-assoc}
+use Rattle.base.specs.Lists.{_∈_, in-append, Distinct}
+use Rattle.datatypes.specs.declared.Side.{Side}
+use Rattle.spec.specs.Pool.{word, child, keyWord, standingWord, standingLinked}
+use Rattle.spec.specs.Search.{towards}
+use Rattle.tree.specs.Thin.{Thin, thin-in, thin-stays}
+use Rattle.tree.specs.Linked.{Linked, path, nodes, path-nodes}
+use Rattle.tree.specs.Graft.{graft, All, all-path, Keyed, Passes, apart, through, passes}
+use Rattle.heap.specs.Rep.{Rep, rep-unique}
+use Rattle.readers.specs.Thinner.{thin-cut, path-once, once-there}
+use Rattle.readers.specs.Graft.{rep-keyed}
+use Rattle.readers.specs.Lookups.{Follows, Unlinked, OnWay, Store, new, whole-after, unfolds-after, Anew, unfolds-leavesTree}
+use Rattle.readers.specs.Descends.{StepResult, met, on, turned}
+
+-- two lists in one
+pub distinct-append : (xs ys : List ℕ) → Distinct (xs ++ ys) ↔ (Distinct xs × Distinct ys × ((n : ℕ) → n ∈ xs → ¬ (n ∈ ys)))
+distinct-append [] ys = (λ h. (tt, h, λ n i. absurd i), λ h. h .1)
+distinct-append (x ∷ xs) ys =
+    let r = distinct-append xs ys in (
+      λ h. (let t = r .0 (h .1) in
+          ((λ i. h .0 (in-append x xs ys .1 (inl i)), t .0), t .1, λ n i j. ⊎-elim (λ e. h .0 (in-append x xs ys .1 (inr (subst (λ z. z ∈ ys) e j)))) (λ k. t .2 n k j) i)),
+      λ h. (λ i. ⊎-elim (h .0 .0) (λ j. h .2 x (inl refl) j) (in-append x xs ys .0 i), r .1 (h .0 .1, h .1, λ n i. h .2 n (inr i))),
+    )
+
+-- The old way zs passes d, as the root's own way ws does; the new ones, zs′ and ws′, go on from there in ys.
+module _ {P : ℕ → Type 0} (d : ℕ) (stays : ¬ (P d)) (xs rest pre rest′ ys : List ℕ) where
+  once-on : Thin P (xs ++ d ∷ rest) (pre ++ d ∷ rest′) → Distinct (xs ++ d ∷ rest) → Distinct (pre ++ d ∷ rest′) → Distinct (pre ++ d ∷ ys)
+      → ((n : ℕ) → n ∈ (xs ++ d ∷ rest) → P n → ¬ (n ∈ (pre ++ d ∷ ys))) → Distinct (xs ++ d ∷ ys)
+  once-on thin old root new out =
+      let a = distinct-append xs (d ∷ rest) .0 old in
+      let b = distinct-append pre (d ∷ ys) .0 new in
+      let once = once-there d pre rest′ root in
+      let before : Thin P xs pre = thin-cut thin d stays xs rest pre rest′ refl refl (once .0) (once .1) in
+      distinct-append xs (d ∷ ys) .1 (
+        a .0,
+        b .1,
+        λ n i j. ⊎-elim (λ e. a .2 n i (inl e))
+            (λ k. ⊎-elim (λ p. out n (in-append n xs (d ∷ rest) .1 (inl i)) p (in-append n pre (d ∷ ys) .1 (inr (inr k)))) (λ q. b .2 n q (inr k)) (thin-in before n i)) j,
+      )
+
+  once-through : (zs ws zs′ ws′ : List ℕ) → zs ≡ xs ++ d ∷ rest → ws ≡ pre ++ d ∷ rest′ → zs′ ≡ xs ++ d ∷ ys → ws′ ≡ pre ++ d ∷ ys → Thin P zs ws → Distinct zs → Distinct ws → Distinct ws′
+      → ((n : ℕ) → n ∈ zs → P n → ¬ (n ∈ ws′)) → Distinct zs′
+  once-through zs ws zs′ ws′ e f e′ f′ thin old root new out = rw e′ (once-on (rw (e, f) at thin) (rw e at old) (rw f at root) (rw f′ at new) (rw (e, f′) at out))
+
+-- A lookup. The link on the side s of node d, whose key is j, becomes b in both trees; what is linked no longer is not on the root's new way.
+module _ (d : ℕ) (s : Side) (j : ℕ) (b t T : Linked) (k : ℕ) (seen : List ℕ) (P : ℕ → Type 0) (stays : ¬ (P d)) (ht : Keyed d j t) (hT : Keyed d j T)
+    (follows : Follows P seen t T k) where
+  pub path-distinct : Distinct (seen ++ path t k) → Distinct (path T k) → Distinct (path (graft d s b T) k) → ((n : ℕ) → n ∈ (seen ++ path t k) → P n → ¬ (n ∈ path (graft d s b T) k))
+      → Distinct (seen ++ path (graft d s b t) k)
+  path-distinct old root new out = go (passes d s j b k t ht) (passes d s j b k T hT)
+    where
+      go : Passes d s j b t k → Passes d s j b T k → Distinct (seen ++ path (graft d s b t) k)
+      go (apart c f g) w = rw g old
+      go (through pre rest e g f n) (apart c f′ g′) =
+          absurd (c (thin-stays follows d stays (in-append d seen (path t k) .1 (inr (subst (λ l. d ∈ l) (sym e) (in-append d pre (d ∷ rest) .1 (inr (inl refl)))))), n))
+      go (through pre rest e g f n) (through pre′ rest′ e′ g′ f′ n′) =
+          once-through d stays (seen ++ pre) rest pre′ rest′ (path b k) (seen ++ path t k) (path T k) (seen ++ path (graft d s b t) k) (path (graft d s b T) k)
+          (ap (seen ++_) e ∙ sym (append-assoc seen pre (d ∷ rest))) e′ (ap (seen ++_) g ∙ sym (append-assoc seen pre (d ∷ path b k))) g′ follows old root new out
+
+-- The same of a node in a pool: whatever tree it unfolds to.
+abbrev pub SeenOnce : List ℕ → List ℕ → ℕ → ℕ → Type 0
+SeenOnce p seen n k = (t : Linked) → Rep p n t → Distinct (seen ++ path t k)
+
+-- nothing seen
+pub seen-none : (p : List ℕ) (n k : ℕ) → SeenOnce p [] n k
+seen-none p n k t r = path-once p t n k r
+
+-- a turn: the node has been compared, and its child is loaded
+pub seen-turn : (p seen : List ℕ) (n k : ℕ) (t : Linked) → n ≢ 0 → k ≢ word p n keyWord → Rep p n t → SeenOnce p seen n k → SeenOnce p (seen ++ n ∷ []) (child p (towards p k n) n) k
+seen-turn p seen n k t d e r h u i = go (turned p n k t d r)
+  where
+    go : StepResult p n k t → Distinct ((seen ++ n ∷ []) ++ path u k)
+    go (met a b) = absurd (e a)
+    go (on a w j b c) =
+        let same : w ≡ u = rep-unique p w u _ _ refl j i in
+        let old : Distinct (seen ++ n ∷ path u k) = subst (λ l. Distinct (seen ++ l)) (c ∙ ap (λ x. n ∷ path x k) same) (h t r) in
+        rw (append-assoc seen (n ∷ []) (path u k)) old
+
+-- A store: T′ is the whole tree after it, whose nodes stand linked.
+module _ {p q : List ℕ} {U : ℕ → Type 0} {d : ℕ} {s : Side} {b root : ℕ} {T T′ : Linked} (h : Store p q U d s b root T T′) where
+  pub seen-store : (n k : ℕ) (seen : List ℕ) → ((m : ℕ) → U m → Unlinked p m → Unlinked q m) → ((m : ℕ) → m ∈ seen → U m)
+      → ((m : ℕ) → m ∈ nodes T′ → word q m standingWord ≡ standingLinked) → (w : OnWay p root seen n k) → All U (w .tree) → SeenOnce p seen n k → SeenOnce q seen n k
+  seen-store n k seen gone usable linked w u old t′ r =
+      let t = w .tree in
+      let capacity : w .whole ≡ T = rep-unique p (w .whole) T root root refl (w .rooted) (h .before) in
+      let way : Follows (Unlinked p) seen t T k = rw capacity at (w .follows) in
+      let now : new h t ≡ t′ = rep-unique q (new h t) t′ n n refl (unfolds-after h n t u (w .unfolds)) r in
+      let member : (m : ℕ) → m ∈ (seen ++ path t k) → U m = λ m i. ⊎-elim (usable m) (all-path U t k m u) (in-append m seen (path t k) .0 i) in
+      let whole = whole-after h in
+      subst (λ x. Distinct (seen ++ path x k)) now
+      (path-distinct d s (word p d keyWord) (h .below) t T k seen (Unlinked p) (λ x. x (h .linked)) (rep-keyed p d t n (w .unfolds)) (rep-keyed p d T root (h .before)) way
+      (old t (w .unfolds)) (path-once p T root k (h .before)) (subst (λ x. Distinct (path x k)) (sym whole) (path-once q T′ root k (h .after)))
+      (λ m i x j. gone m (member m i) x (linked m (path-nodes T′ k m (subst (λ y. m ∈ path y k) whole j)))))
+
+-- a store of the root link changes no node's tree
+module _ {p q : List ℕ} {U : ℕ → Type 0} {root root′ : ℕ} {T T′ : Linked} (h : Anew p q U root root′ T T′) where
+  pub seen-anew : (n k : ℕ) (seen : List ℕ) (t : Linked) → Rep p n t → All U t → SeenOnce p seen n k → SeenOnce q seen n k
+  seen-anew n k seen t r u old t′ i = subst (λ x. Distinct (seen ++ path x k)) (rep-unique q t t′ n n refl (unfolds-leavesTree h t n u r) i) (old t r)

@@ -1,0 +1,90 @@
+-- A run may be cut where it rests: with no write in hand and no slot reading, what stands there is a sound start again. So `SoundStart` asks
+-- no more than every such moment has. For C-19 (an index given to another line) and C-22 (runs from equal starts).
+use Prim.Native.Nat.{ℕ, _<_}
+use mathlib.Core.Path.{_≡_, sym, ap, _∙_}
+use mathlib.Core.Logic.{_≢_}
+use mathlib.Core.Bool.{false, not, false≢true}
+use mathlib.Core.List.{List, [], _∷_}
+use native.Mathlib.Omega.{arith}
+use lib.Dec.{eqb}
+use lib.ListN.{length}
+use borrow.Author.Tests.{ne-eqb}
+use Rattle.datatypes.specs.declared.Store.{Store}
+use Rattle.sequential.specs.Tree as Seq
+use Rattle.sequential.specs.Delete.{changedBy}
+use Rattle.spec.specs.Numbers.{slots}
+use Rattle.spec.specs.Pool.{word, standingWord, holdersWord, standingRetired}
+use Rattle.spec.specs.Register.{State, noWrite}
+use Rattle.spec.specs.Calls.{Call, reading, writeInHand}
+use Rattle.spec.specs.PlainList.{Plain, acceptedWrites}
+use Rattle.tree.specs.Changes.{changedBy-proper}
+use Rattle.tree.specs.Linked.{Linked}
+use Rattle.tree.specs.Erase.{erase-find}
+use Rattle.heap.specs.Colours.{colours}
+use Rattle.heap.specs.Run.{phase-rep}
+use Rattle.heap.specs.Writes.{InHand, write-count}
+use Rattle.promise.specs.Run.{Start, indexAfter, plainAfter, ticketsAfter}
+use Rattle.readers.specs.Words.{stands-node}
+use Rattle.readers.specs.Reach.{leads-in, in-leads}
+use Rattle.readers.specs.Safe.{Safe}
+use Rattle.ranges.specs.Calls.{ranged-in}
+use Rattle.runs.specs.Sound.{Sound}
+use Rattle.runs.specs.Starts.{SoundStart}
+use Rattle.runs.specs.Rest.{some-slot, none-awaited}
+use Rattle.runs.specs.Theorem.{sound-at}
+use Rattle.runs.specs.Whole as Whole
+use Rattle.theorem.specs.WriterSide.{seqOf, WriterSide}
+use Rattle.theorem.specs.Rests.{resting}
+use Rattle.theorem.specs.Starts.{none-in-hand}
+use Rattle.theorem.specs.Theorem.{writer, completes, starts-sound, promise-from}
+
+no-write : (st : State) (x : Plain) (T : Linked) → WriterSide st x T → writeInHand st ≡ false → st .register .write ≡ noWrite
+no-write st x T h e = go (h .stores) (h .hand)
+  where
+    go : (l : List Store) → InHand st (seqOf x) T l → st .register .write ≡ noWrite
+    go [] i = i .write ∙ none-in-hand
+    go (a ∷ l) i =
+        absurd (let z : not (eqb (length (a ∷ l)) 0) ≡ false = rw (i .write, write-count (a ∷ l)) at e in false≢true (sym (rw (ne-eqb (length (a ∷ l)) 0 (omega arith)) at z)))
+
+-- a retired node has a holder, which is reading
+none-retired : (st : State) → Safe st → ((s : ℕ) → s < slots → reading st s ≡ false) → (n : ℕ) → word (st .pool) n standingWord ≢ standingRetired
+none-retired st h quiet n e =
+    let g = h .owned .good n (stands-node (st .pool) n standingWord (h .whole) (omega arith) (omega arith)) in
+    let s = some-slot (word (st .pool) n holdersWord) (g .mask) (g .holder e) in
+    false≢true (sym (quiet (s .0) (s .1)) ∙ g .reads e (s .0) (s .1) (s .2))
+
+module _ (S : Start) (h : SoundStart S) (cs : List Call) (j : ℕ) where
+  -- what stands after j calls
+  abbrev pub cutAt : Start
+  cutAt = record { size = S .size; index = indexAfter S cs j; tree = changedBy (S .tree) (acceptedWrites (plainAfter S cs j)); tickets = ticketsAfter S cs j }
+
+  pub sound-cut : writeInHand (indexAfter S cs j) ≡ false → ((s : ℕ) → s < slots → reading (indexAfter S cs j) s ≡ false) → SoundStart cutAt
+  sound-cut idle quiet =
+      let st = indexAfter S cs j in
+      let x = plainAfter S cs j in
+      let sound = sound-at WriterSide writer S (starts-sound S h) cs j in
+      let ranged = Whole.ranged WriterSide writer completes S (starts-sound S h) cs j in
+      let safe = sound .safe in
+      let T = sound .tree in
+      let k = sound .holds in
+      let rep = phase-rep (k .hand .phase) in
+      let same : seqOf x ≡ changedBy (S .tree) (acceptedWrites x) = ap (λ t. changedBy t (acceptedWrites x)) (Whole.started WriterSide writer completes S (starts-sound S h) cs j) in
+      let all = promise-from S h cs .demand2 in
+      record {
+        least = h .least;
+        most = h .most;
+        words = let a = safe .whole in let b = ranged .within .size in omega arith;
+        inRange = ranged-in (S .size) st ranged;
+        eight = safe .owned .eight;
+        quiet = quiet;
+        unawaited = none-awaited st safe (λ s u e. quiet s u);
+        idle = no-write st x T k idle;
+        stands = all .atRest j idle;
+        proper = changedBy-proper (S .tree) (acceptedWrites x) (h .proper);
+        linked = λ n. (λ e. in-leads (st .pool) T (st .register .root) n rep (k .linked n .0 e), λ l. k .linked n .1 (leads-in (st .pool) T (st .register .root) n rep l));
+        unretired = none-retired st safe quiet;
+        free = all .free j;
+        told = λ q. sym (k .finds q) ∙ sym (erase-find (colours (st .pool)) T q) ∙ ap (λ t. Seq.find t q) (resting st x T k idle .tree ∙ same);
+        once = k .unique;
+        held = k .held;
+      }
