@@ -1,4 +1,4 @@
--- The fresh pool word by word, by one law over node and word; and no slot of the fresh register reads.
+-- The fresh pool word by word, by one law over node and word.
 use mathlib.Core.Path.{_≡_, refl, sym, ap, _∙_}
 use mathlib.Core.List.{List, [], _++_}
 use mathlib.Core.Bool.{Bool, true, false, cond, not, _&&_}
@@ -9,9 +9,8 @@ use native.Mathlib.Decide.{decLt, ℕ-discrete}
 use borrow.Author.Tests.{lt-ltb, le-ltb, ne-eqb}
 use native.Mathlib.Omega.{arith}
 use Prim.Native.Nat.{ℕ, zero, suc, _+_, _*_, _/_, _%_, _<_}
-use Rattle.spec.specs.Numbers.{nodeWords, slots}
+use Rattle.spec.specs.Numbers.{nodeWords}
 use Rattle.spec.specs.Pool.{nextWord, freshNode, freshNodes, freshPool}
-use Rattle.spec.specs.Register.{noReader, readerOf, freshRegister}
 
 pub fresh-length : (k n : ℕ) → length (freshNodes k n) ≡ k * nodeWords
 unfolding freshNodes
@@ -84,13 +83,3 @@ filled p k e h =
     let b : j < k * nodeWords = rw e at l in
     let whole : j / nodeWords * nodeWords + j % nodeWords ≡ j = omega arith in
     h j l ∙ (sym (fresh-word k 1 (j / nodeWords) (j % nodeWords) (omega arith) (omega arith)) ∙ ap (λ x. getD (freshNodes k 1) x 0) whole))
-
--- every record of a row is that of a slot which doesn't read, and so is any past its end
-same-all : {A : Type 0} (n i : ℕ) (a : A) → getD (replicate n a) i a ≡ a
-same-all zero i a = refl
-same-all (suc n) zero a = refl
-same-all (suc n) (suc i) a = same-all n i a
-
-pub fresh-reader : (N s : ℕ) → readerOf (freshRegister N) s ≡ noReader
-unfolding freshRegister
-fresh-reader N s = same-all slots s noReader

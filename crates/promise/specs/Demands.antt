@@ -19,7 +19,7 @@ use Rattle.sequential.specs.Delete.{changedBy}
 use Rattle.base.specs.Lists.{_∈_, Distinct}
 use Rattle.spec.specs.Numbers.{slots, mostStores}
 use Rattle.spec.specs.Pool.{word, child, nodes, keyWord, recordWord, colourWord, standingWord, standingFree, blackColour, redColour}
-use Rattle.spec.specs.Register.{State, state, withReader, readerOf, storeOf, hasSlot}
+use Rattle.spec.specs.Register.{State, state, withReader, readerOf, storeOf, hasSlot, readingAt}
 use Rattle.spec.specs.Calls.{Answer, go, absent, found, more, done, wait, refused, Outcome, Call, writing, call, reading, writeInHand, readerStep}
 use Rattle.spec.specs.PlainList.{carriedOut, noticeOf, recordFor, acceptedWrites}
 use Rattle.spec.specs.FreeQueue.{Queue}
@@ -40,7 +40,7 @@ pub record LookupsRight (S : Start) (cs : List Call) : Type 0 where
 -- 'Holds': going from the root as a reader's turns do, with no other call between. It is the reader's own step: what it answers with the
 -- key k at node n (0 before any), made of the same pool and root again and again. Which slot's record it goes by does not matter: slot 0.
 abbrev pub turnAt : State → ℕ → ℕ → Outcome
-turnAt st k n = readerStep (state (st .pool) (withReader (st .register) 0 (record { reading = true; key = k; node = n }))) 0
+turnAt st k n = readerStep (state (st .pool) (withReader (st .register) 0 (readingAt k n))) 0
 
 -- from node n the turns for the key k end with the answer a
 pub data Going (st : State) (k : ℕ) : ℕ → Answer → Type 0 where

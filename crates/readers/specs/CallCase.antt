@@ -10,12 +10,12 @@ use lib.Dec.{eqb}
 use borrow.Author.Tests.{eqb-true, eqb-false, leb-false}
 use Rattle.spec.specs.Numbers.{slots}
 use Rattle.spec.specs.Pool.{word, child, keyWord, recordWord}
-use Rattle.spec.specs.Register.{State, state, readerOf, storeOf, withReader, withWrite, writeOf}
+use Rattle.spec.specs.Register.{State, state, readerOf, storeOf, withReader, withWrite, writeOf, begunReader, movedReader}
 use Rattle.spec.specs.Free.{endReading}
 use Rattle.spec.specs.Search.{towards}
 use Rattle.spec.specs.Turn.{stepFinds, stepMade}
 use Rattle.spec.specs.Calls.{ok, go, absent, wait, found, refused, Outcome, outcome, Test, _gives_, firstOf, unless, wrongLength, outOfRange}
-use Rattle.spec.specs.Calls.{beginTests, reading, writeInHand, placeOf, insertAt, deleteAt, insert, delete, stored, writerTurn, begin, loaded}
+use Rattle.spec.specs.Calls.{insertTests, deleteTests, waiting, firstFinds, writerTests, beginTests, reading, writeInHand, placeOf, insertAt, deleteAt, insert, delete, stored, writerTurn, begin, loaded}
 use Rattle.spec.specs.Calls.{readerStep, readerTests, tooDeep, isHeld, full, fewerFree, readerTurn, giveUp, Call, inserting, deleting, writing}
 use Rattle.spec.specs.Calls.{beginning, turning, givingUp, call}
 use Rattle.promise.specs.Run.{Reads}
@@ -31,49 +31,11 @@ pub record Passed (st : State) (s : ℕ) : Type 0 where
   pub low : s < slots
   pub reads : Reads st s
 
--- the tests of insert and delete, and of a writer's turn
-abbrev pub insertTests : State → ℕ → ℕ → List Test
-insertTests st k v =
-    wrongLength st gives 1
-    ∷ outOfRange st gives 2
-    ∷ writeInHand st gives 6
-    ∷ tooDeep (placeOf st k) gives 12
-    ∷ isHeld (placeOf st k) gives 8
-    ∷ full st gives 10
-    ∷ fewerFree st 3 gives 11
-    ∷ not (insertAt st k v (placeOf st k) .possible) gives 12
-    ∷ []
-
-abbrev pub deleteTests : State → ℕ → List Test
-deleteTests st k =
-    wrongLength st gives 1
-    ∷ outOfRange st gives 2
-    ∷ writeInHand st gives 6
-    ∷ tooDeep (placeOf st k) gives 12
-    ∷ not (isHeld (placeOf st k)) gives 9
-    ∷ fewerFree st 4 gives 11
-    ∷ not (deleteAt st (placeOf st k) .possible) gives 12
-    ∷ []
-
-abbrev pub waiting : State → Bool
-waiting st = not (eqb (st .register .awaited) 0)
-
-abbrev pub own : State → Bool
-own st = stepFinds st (storeOf (st .register) 0 .link) (storeOf (st .register) 0 .step)
-
-abbrev pub turnTests : State → List Test
-turnTests st =
-    wrongLength st gives 1
-    ∷ outOfRange st gives 2
-    ∷ not (writeInHand st) gives 7
-    ∷ (not (waiting st) && not (own st)) gives 12
-    ∷ []
-
 -- the tests of each call
 abbrev pub testsOf : State → Call → List Test
 testsOf st (inserting k v) = insertTests st k v
 testsOf st (deleting k) = deleteTests st k
-testsOf st writing = turnTests st
+testsOf st writing = writerTests st
 testsOf st (beginning s k) = beginTests st s
 testsOf st (turning s) = readerTests st s
 testsOf st (givingUp s) = readerTests st s
@@ -88,9 +50,9 @@ pub data CallCase (st : State) : Call → Outcome → Type 0 where
   stores : st .register .awaited ≡ 0 → writeInHand st ≡ true → stepFinds st (storeOf (st .register) 0 .link) (storeOf (st .register) 0 .step) ≡ true
       → CallCase st writing (stored (stepMade st (storeOf (st .register) 0 .link) (storeOf (st .register) 0 .step)))
   begins : (s k : ℕ) → s < slots → reading st s ≡ false
-      → CallCase st (beginning s k) (outcome ok (state (st .pool) (withReader (st .register) s (record { reading = true; key = k; node = 0 }))))
+      → CallCase st (beginning s k) (outcome ok (state (st .pool) (withReader (st .register) s (begunReader k))))
   loads : (s n : ℕ) → Passed st s → Loads st s n → n ≢ 0
-      → CallCase st (turning s) (outcome go (state (st .pool) (withReader (st .register) s (record { reading = true; key = readerOf (st .register) s .key; node = n }))))
+      → CallCase st (turning s) (outcome go (state (st .pool) (withReader (st .register) s (movedReader (readerOf (st .register) s) n))))
   misses : (s n : ℕ) → Passed st s → Loads st s n → n ≡ 0 → CallCase st (turning s) (outcome absent (endReading st s))
   finds : (s : ℕ) → Passed st s → readerOf (st .register) s .node ≢ 0 → readerOf (st .register) s .key ≡ word (st .pool) (readerOf (st .register) s .node) keyWord
       → CallCase st (turning s) (outcome (found (word (st .pool) (readerOf (st .register) s .node) recordWord)) (endReading st s))
@@ -122,10 +84,10 @@ pub not-false : (b : Bool) → not b ≡ false → b ≡ true
 not-false true e = refl
 not-false false e = sym e
 
-load-callCase : (st : State) (s n : ℕ) → Passed st s → Loads st s n → CallCase st (turning s) (loaded st s (readerOf (st .register) s .key) n)
+load-callCase : (st : State) (s n : ℕ) → Passed st s → Loads st s n → CallCase st (turning s) (loaded st s (readerOf (st .register) s) n)
 load-callCase st s n p l = elim (ℕ-discrete n 0) [
-  | yes e ↦ rw (load-none st s (readerOf (st .register) s .key) n e) (misses s n p l e)
-  | no d ↦ rw (load-some st s (readerOf (st .register) s .key) n d) (loads s n p l d)
+  | yes e ↦ rw (load-none st s (readerOf (st .register) s) n e) (misses s n p l e)
+  | no d ↦ rw (load-some st s (readerOf (st .register) s) n d) (loads s n p l d)
 ]
 
 step-callCase : (st : State) (s : ℕ) → Passed st s → CallCase st (turning s) (readerStep st s)
@@ -139,14 +101,14 @@ step-callCase st s p =
       ]
     ]
 
-turn-callCase : (st : State) → firstOf (turnTests st) ≡ 0 → CallCase st writing (cond (waiting st) (outcome wait st) (stored (stepMade st (storeOf (st .register) 0 .link) (storeOf (st .register) 0 .step))))
+turn-callCase : (st : State) → firstOf (writerTests st) ≡ 0 → CallCase st writing (cond (waiting st) (outcome wait st) (stored (stepMade st (storeOf (st .register) 0 .link) (storeOf (st .register) 0 .step))))
 turn-callCase st e =
-    let c = clear (turnTests st) (omega arith, (omega arith, (omega arith, (omega arith, tt)))) e in
+    let c = clear (writerTests st) (omega arith, (omega arith, (omega arith, (omega arith, tt)))) e in
     go (eqb (st .register .awaited) 0) refl (not-false (writeInHand st) (c .1 .1 .0)) (c .1 .1 .1 .0)
   where
-    go : (x : Bool) → eqb (st .register .awaited) 0 ≡ x → writeInHand st ≡ true → (not (not x) && not (own st)) ≡ false
+    go : (x : Bool) → eqb (st .register .awaited) 0 ≡ x → writeInHand st ≡ true → (not (not x) && not (firstFinds st)) ≡ false
         → CallCase st writing (cond (not x) (outcome wait st) (stored (stepMade st (storeOf (st .register) 0 .link) (storeOf (st .register) 0 .step))))
-    go true x w f = stores (eqb-true (st .register .awaited) 0 x) w (not-false (own st) f)
+    go true x w f = stores (eqb-true (st .register .awaited) 0 x) w (not-false (firstFinds st) f)
     go false x w f = waits (eqb-false (st .register .awaited) 0 x)
 
 passed : (st : State) (s : ℕ) → firstOf (readerTests st s) ≡ 0 → Passed st s
@@ -155,7 +117,7 @@ passed st s e =
     record { low = leb-false slots s (c .1 .1 .0); reads = not-false (reading st s) (c .1 .1 .1 .0) }
 
 begin-callCase : (st : State) (s k : ℕ) → firstOf (beginTests st s) ≡ 0
-    → CallCase st (beginning s k) (outcome ok (state (st .pool) (withReader (st .register) s (record { reading = true; key = k; node = 0 }))))
+    → CallCase st (beginning s k) (outcome ok (state (st .pool) (withReader (st .register) s (begunReader k))))
 begin-callCase st s k e =
     let c = clear (beginTests st s) (omega arith, (omega arith, (omega arith, (omega arith, tt)))) e in
     begins s k (leb-false slots s (c .1 .1 .0)) (c .1 .1 .1 .0)
@@ -165,6 +127,6 @@ unfolding insert delete writerTurn begin readerTurn giveUp
 callCase st (inserting k v) = tested st (inserting k v) (outcome ok (state (st .pool) (withWrite (st .register) (writeOf (insertAt st k v (placeOf st k) .stores))))) (plansInsert k v)
 callCase st (deleting k) = tested st (deleting k) (outcome ok (state (st .pool) (withWrite (st .register) (writeOf (deleteAt st (placeOf st k) .stores))))) (plansDelete k)
 callCase st writing = tested st writing (cond (waiting st) (outcome wait st) (stored (stepMade st (storeOf (st .register) 0 .link) (storeOf (st .register) 0 .step)))) (turn-callCase st)
-callCase st (beginning s k) = tested st (beginning s k) (outcome ok (state (st .pool) (withReader (st .register) s (record { reading = true; key = k; node = 0 })))) (begin-callCase st s k)
+callCase st (beginning s k) = tested st (beginning s k) (outcome ok (state (st .pool) (withReader (st .register) s (begunReader k)))) (begin-callCase st s k)
 callCase st (turning s) = tested st (turning s) (readerStep st s) (λ e. step-callCase st s (passed st s e))
 callCase st (givingUp s) = tested st (givingUp s) (outcome ok (endReading st s)) (λ e. leaves s (passed st s e))

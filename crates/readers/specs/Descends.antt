@@ -14,7 +14,7 @@ use Rattle.datatypes.specs.declared.Side.the-variants.{L}
 use Rattle.datatypes.specs.declared.Reader.{Reader}
 use Rattle.spec.specs.Numbers.{slots}
 use Rattle.spec.specs.Pool.{word, child, keyWord, recordWord}
-use Rattle.spec.specs.Register.{State, state, readerOf, withReader}
+use Rattle.spec.specs.Register.{State, state, readerOf, withReader, begunReader, movedReader, readingAt}
 use Rattle.spec.specs.Free.{endReading}
 use Rattle.spec.specs.Search.{towards}
 use Rattle.spec.specs.Calls.{go, absent, found, outcome, loaded, readerStep}
@@ -28,7 +28,7 @@ use Rattle.readers.specs.Lookups.{Unlinked, Finds, OnWay}
 
 -- What a reader's step is: before any node, at a node with the key, at another node.
 module _ (st : State) (s : ℕ) (x : Reader) (at : readerOf (st .register) s ≡ x) where
-  pub step-root : x .node ≡ 0 → readerStep st s ≡ loaded st s (x .key) (st .register .root)
+  pub step-root : x .node ≡ 0 → readerStep st s ≡ loaded st s x (st .register .root)
   unfolding readerStep
   step-root e = rw (at, e)
 
@@ -37,25 +37,25 @@ module _ (st : State) (s : ℕ) (x : Reader) (at : readerOf (st .register) s ≡
   step-found d e = rw (at, ne-eqb (x .node) 0 d, eq-eqb (x .key) (word (st .pool) (x .node) keyWord) e)
 
   pub step-child : x .node ≢ 0 → x .key ≢ word (st .pool) (x .node) keyWord
-      → readerStep st s ≡ loaded st s (x .key) (child (st .pool) (towards (st .pool) (x .key) (x .node)) (x .node))
+      → readerStep st s ≡ loaded st s x (child (st .pool) (towards (st .pool) (x .key) (x .node)) (x .node))
   unfolding readerStep
   step-child d e = rw (at, ne-eqb (x .node) 0 d, ne-eqb (x .key) (word (st .pool) (x .node) keyWord) e)
 
 -- what a loaded link answers
-pub load-none : (st : State) (s k n : ℕ) → n ≡ 0 → loaded st s k n ≡ outcome absent (endReading st s)
-load-none st s k n e = rw (eq-eqb n 0 e)
+pub load-none : (st : State) (s : ℕ) (x : Reader) (n : ℕ) → n ≡ 0 → loaded st s x n ≡ outcome absent (endReading st s)
+load-none st s x n e = rw (eq-eqb n 0 e)
 
-pub load-some : (st : State) (s k n : ℕ) → n ≢ 0 → loaded st s k n ≡ outcome go (state (st .pool) (withReader (st .register) s (record { reading = true; key = k; node = n })))
-load-some st s k n d = rw (ne-eqb n 0 d)
+pub load-some : (st : State) (s : ℕ) (x : Reader) (n : ℕ) → n ≢ 0 → loaded st s x n ≡ outcome go (state (st .pool) (withReader (st .register) s (movedReader x n)))
+load-some st s x n d = rw (ne-eqb n 0 d)
 
 -- At a node that unfolds to t: the key is there with its record, or the child loaded has what t has, and the way is one node shorter.
-pub data StepResult (p : List ℕ) (n k : ℕ) (t : Linked) : Type 0 where
-  met : k ≡ word p n keyWord → find t k ≡ some (word p n recordWord) → StepResult p n k t
-  on : k ≢ word p n keyWord → (u : Linked) → Rep p (child p (towards p k n) n) u → find u k ≡ find t k → path t k ≡ n ∷ path u k → StepResult p n k t
+pub data Compared (p : List ℕ) (n k : ℕ) (t : Linked) : Type 0 where
+  met : k ≡ word p n keyWord → find t k ≡ some (word p n recordWord) → Compared p n k t
+  on : k ≢ word p n keyWord → (u : Linked) → Rep p (child p (towards p k n) n) u → find u k ≡ find t k → path t k ≡ n ∷ path u k → Compared p n k t
 
-pub turned : (p : List ℕ) (n k : ℕ) (t : Linked) → n ≢ 0 → Rep p n t → StepResult p n k t
-turned p n k nil d h = absurd (d h)
-turned p n k (cell N l r) d h =
+pub compared : (p : List ℕ) (n k : ℕ) (t : Linked) → n ≢ 0 → Rep p n t → Compared p n k t
+compared p n k nil d h = absurd (d h)
+compared p n k (cell N l r) d h =
     let w = h .0 in
     let key : word p n keyWord ≡ N .key = rw (w .is) (w .key-is) in
     tri-case L k (N .key)
@@ -65,17 +65,17 @@ turned p n k (cell N l r) d h =
 
 -- R1 and R2 go on.
 pub turn-finds : (p : List ℕ) (A : Option ℕ → Type 0) (n k : ℕ) → n ≢ 0 → k ≢ word p n keyWord → Finds p A n k → Finds p A (child p (towards p k n) n) k
-turn-finds p A n k d e f = case (turned p n k (f .tree) d (f .unfolds))
+turn-finds p A n k d e f = case (compared p n k (f .tree) d (f .unfolds))
   where
-    case : StepResult p n k (f .tree) → Finds p A (child p (towards p k n) n) k
+    case : Compared p n k (f .tree) → Finds p A (child p (towards p k n) n) k
     case (met i j) = absurd (e i)
     case (on i u r a b) = record { tree = u; unfolds = r; answer = subst A (sym a) (f .answer) }
 
 pub turn-way : (p : List ℕ) (root : ℕ) (seen : List ℕ) (n k : ℕ) → n ≢ 0 → k ≢ word p n keyWord → OnWay p root seen n k
     → OnWay p root (seen ++ n ∷ []) (child p (towards p k n) n) k
-turn-way p root seen n k d e w = case (turned p n k (w .tree) d (w .unfolds))
+turn-way p root seen n k d e w = case (compared p n k (w .tree) d (w .unfolds))
   where
-    case : StepResult p n k (w .tree) → OnWay p root (seen ++ n ∷ []) (child p (towards p k n) n) k
+    case : Compared p n k (w .tree) → OnWay p root (seen ++ n ∷ []) (child p (towards p k n) n) k
     case (met i j) = absurd (e i)
     case (on i u r a b) = record {
       tree = u;
@@ -87,9 +87,9 @@ turn-way p root seen n k d e w = case (turned p n k (w .tree) d (w .unfolds))
 
 -- The answer is right: one of those possible so far.
 pub turn-found : (p : List ℕ) (A : Option ℕ → Type 0) (n k : ℕ) → n ≢ 0 → k ≡ word p n keyWord → Finds p A n k → A (some (word p n recordWord))
-turn-found p A n k d e f = case (turned p n k (f .tree) d (f .unfolds))
+turn-found p A n k d e f = case (compared p n k (f .tree) d (f .unfolds))
   where
-    case : StepResult p n k (f .tree) → A (some (word p n recordWord))
+    case : Compared p n k (f .tree) → A (some (word p n recordWord))
     case (met i j) = subst A j (f .answer)
     case (on i u r a b) = absurd (i e)
 
@@ -103,22 +103,22 @@ turn-absent p A k n e f = case (f .tree) (f .unfolds) (f .answer)
 -- Turn after turn on one state.
 module _ (st : State) (k : ℕ) (eight : length (st .register .readers) ≡ slots) where
   abbrev posed : ℕ → State
-  posed n = state (st .pool) (withReader (st .register) 0 (record { reading = true; key = k; node = n }))
+  posed n = state (st .pool) (withReader (st .register) 0 (readingAt k n))
 
-  there : (n : ℕ) → readerOf (posed n .register) 0 ≡ record { reading = true; key = k; node = n }
-  there n = reader-same (st .register) 0 (record { reading = true; key = k; node = n }) (rw eight (omega arith))
+  there : (n : ℕ) → readerOf (posed n .register) 0 ≡ readingAt k n
+  there n = reader-same (st .register) 0 (readingAt k n) (rw eight (omega arith))
 
-  again : (n c : ℕ) → readerOf (withReader (posed n .register) 0 (record { reading = true; key = k; node = c })) 0 ≡ record { reading = true; key = k; node = c }
+  again : (n c : ℕ) → readerOf (withReader (posed n .register) 0 (readingAt k c)) 0 ≡ readingAt k c
   unfolding withReader
-  again n c = reader-same (posed n .register) 0 (record { reading = true; key = k; node = c })
-      (rw (length-set (st .register .readers) 0 (record { reading = true; key = k; node = n }), eight) (omega arith))
+  again n c = reader-same (posed n .register) 0 (readingAt k c)
+      (rw (length-set (st .register .readers) 0 (readingAt k n), eight) (omega arith))
 
   -- a link is loaded that unfolds to t
-  going-load : (n c : ℕ) (t : Linked) → turnAt st k n ≡ loaded (posed n) 0 k c → Rep (st .pool) c t → ((c ≢ 0) → Going st k c (answerOf (find t k))) → Going st k n (answerOf (find t k))
-  going-load n c nil e r next = ends n absent (ap (λ o. o .answer) (e ∙ load-none (posed n) 0 k c r))
+  going-load : (n c : ℕ) (t : Linked) → turnAt st k n ≡ loaded (posed n) 0 (readingAt k n) c → Rep (st .pool) c t → ((c ≢ 0) → Going st k c (answerOf (find t k))) → Going st k n (answerOf (find t k))
+  going-load n c nil e r next = ends n absent (ap (λ o. o .answer) (e ∙ load-none (posed n) 0 (readingAt k n) c r))
   going-load n c (cell N l r) e h next =
       let d : c ≢ 0 = (let i = h .0 .is in let j = h .0 .within .low in omega arith) in
-      let o = e ∙ load-some (posed n) 0 k c d in
+      let o = e ∙ load-some (posed n) 0 (readingAt k n) c d in
       let there : readerOf (turnAt st k n .after .register) 0 .node ≡ c = ap (λ x. readerOf (x .after .register) 0 .node) o ∙ ap (λ x. x .node) (again n c) in
       goes n _ (ap (λ x. x .answer) o) (subst (λ m. Going st k m (answerOf (find (cell N l r) k))) (sym there) (next d))
 
@@ -129,13 +129,13 @@ module _ (st : State) (k : ℕ) (eight : length (st .register .readers) ≡ slot
       let w = h .0 in
       let key : word p n keyWord ≡ N .key = rw (w .is) (w .key-is) in
       let val : word p n recordWord ≡ N .val = rw (w .is) (w .val-is) in
-      let step : k ≢ word p n keyWord → turnAt st k n ≡ loaded (posed n) 0 k (child p (towards p k n) n) = λ e. step-child (posed n) 0 (record { reading = true; key = k; node = n }) (there n) d e in
+      let step : k ≢ word p n keyWord → turnAt st k n ≡ loaded (posed n) 0 (readingAt k n) (child p (towards p k n) n) = λ e. step-child (posed n) 0 (readingAt k n) (there n) d e in
       let left : ltb k (word p n keyWord) ≡ true → Rep p (child p (towards p k n) n) l = λ e. rw (e, w .is) (h .1) in
       let right : ltb k (word p n keyWord) ≡ false → Rep p (child p (towards p k n) n) r = λ e. rw (e, w .is) (h .2) in
       tri-case L k (N .key)
       (λ o e. rw e (going-load n (child p (towards p k n) n) l (step (omega arith)) (left (lt-ltb k (word p n keyWord) (omega arith)))
       (going l (child p (towards p k n) n) (left (lt-ltb k (word p n keyWord) (omega arith))))))
-      (λ o e. rw e (ends n (found (N .val)) (ap (λ x. x .answer) (step-found (posed n) 0 (record { reading = true; key = k; node = n }) (there n) d (omega arith)) ∙ ap found val)))
+      (λ o e. rw e (ends n (found (N .val)) (ap (λ x. x .answer) (step-found (posed n) 0 (readingAt k n) (there n) d (omega arith)) ∙ ap found val)))
       (λ o e. rw e (going-load n (child p (towards p k n) n) r (step (omega arith)) (right (le-ltb k (word p n keyWord) (omega arith)))
       (going r (child p (towards p k n) n) (right (le-ltb k (word p n keyWord) (omega arith))))))
 
@@ -143,4 +143,4 @@ module _ (st : State) (k : ℕ) (eight : length (st .register .readers) ≡ slot
   pub going-root : (T : Linked) → Rep (st .pool) (st .register .root) T → Going st k 0 (answerOf (find T k))
   unfolding withReader
   going-root T h =
-      going-load 0 (st .register .root) T (step-root (posed 0) 0 (record { reading = true; key = k; node = 0 }) (there 0) refl) h (λ d. going T (st .register .root) h d)
+      going-load 0 (st .register .root) T (step-root (posed 0) 0 (begunReader k) (there 0) refl) h (λ d. going T (st .register .root) h d)

@@ -15,7 +15,7 @@ use Rattle.heap.specs.Rep.{Rep, rep-unique}
 use Rattle.readers.specs.Thinner.{thin-cut, path-once, once-there}
 use Rattle.readers.specs.Graft.{rep-keyed}
 use Rattle.readers.specs.Lookups.{Follows, Unlinked, OnWay, Store, new, whole-after, unfolds-after, Anew, unfolds-leavesTree}
-use Rattle.readers.specs.Descends.{StepResult, met, on, turned}
+use Rattle.readers.specs.Descends.{Compared, met, on, compared}
 
 -- two lists in one
 pub distinct-append : (xs ys : List ℕ) → Distinct (xs ++ ys) ↔ (Distinct xs × Distinct ys × ((n : ℕ) → n ∈ xs → ¬ (n ∈ ys)))
@@ -72,9 +72,9 @@ seen-none p n k t r = path-once p t n k r
 
 -- a turn: the node has been compared, and its child is loaded
 pub seen-turn : (p seen : List ℕ) (n k : ℕ) (t : Linked) → n ≢ 0 → k ≢ word p n keyWord → Rep p n t → SeenOnce p seen n k → SeenOnce p (seen ++ n ∷ []) (child p (towards p k n) n) k
-seen-turn p seen n k t d e r h u i = go (turned p n k t d r)
+seen-turn p seen n k t d e r h u i = go (compared p n k t d r)
   where
-    go : StepResult p n k t → Distinct ((seen ++ n ∷ []) ++ path u k)
+    go : Compared p n k t → Distinct ((seen ++ n ∷ []) ++ path u k)
     go (met a b) = absurd (e a)
     go (on a w j b c) =
         let same : w ≡ u = rep-unique p w u _ _ refl j i in

@@ -11,7 +11,7 @@ use lib.ListN.{length, getD}
 use Rattle.datatypes.specs.declared.Write.{Write}
 use Rattle.spec.specs.Numbers.{slots}
 use Rattle.spec.specs.Pool.{word, child, keyWord, recordWord}
-use Rattle.spec.specs.Register.{State, state, noReader, readerOf, withReader, withWrite}
+use Rattle.spec.specs.Register.{State, state, noReader, readerOf, withReader, withWrite, begunReader}
 use Rattle.spec.specs.Free.{endReading}
 use Rattle.spec.specs.Search.{towards}
 use Rattle.spec.specs.Calls.{Answer, ok, go, absent, wait, found, more, done, refused, Outcome, firstOf, reading, Call, inserting, deleting, writing, beginning, turning, givingUp}
@@ -79,13 +79,13 @@ nil-none p a nil k h e = refl
 nil-none p a (cell N l r) k h e = let i = h .0 .is in let j = h .0 .within .low in absurd (omega arith)
 
 begun-stand : (st : State) (A : Option ℕ → Type 0) (s k t j : ℕ) → t ≡ s → j ≡ k → t < length (st .register .readers)
-    → StandAt (state (st .pool) (withReader (st .register) t (record { reading = true; key = j; node = 0 }))) A s k
+    → StandAt (state (st .pool) (withReader (st .register) t (begunReader j))) A s k
 begun-stand st A s k t j e f u =
-    subst (λ m. StandAt (state (st .pool) (withReader (st .register) t (record { reading = true; key = j; node = 0 }))) A m k) e
-    (subst (λ m. StandAt (state (st .pool) (withReader (st .register) t (record { reading = true; key = j; node = 0 }))) A t m) f
-    (subst (λ y. Stand (st .pool) (withReader (st .register) t (record { reading = true; key = j; node = 0 }) .root)
-    (withReader (st .register) t (record { reading = true; key = j; node = 0 }) .awaited) y A t j)
-    (sym (reader-same (st .register) t (record { reading = true; key = j; node = 0 }) u)) (stand-begin _ _ _ A t j)))
+    subst (λ m. StandAt (state (st .pool) (withReader (st .register) t (begunReader j))) A m k) e
+    (subst (λ m. StandAt (state (st .pool) (withReader (st .register) t (begunReader j))) A t m) f
+    (subst (λ y. Stand (st .pool) (withReader (st .register) t (begunReader j) .root)
+    (withReader (st .register) t (begunReader j) .awaited) y A t j)
+    (sym (reader-same (st .register) t (begunReader j) u)) (stand-begin _ _ _ A t j)))
 
 -- an accepted begin
 pub begun-right : (st : State) (c : Call) (o : Outcome) (A : Option ℕ → Type 0) (s k : ℕ) → CallCase st c o → Safe st → BeginsBy c (o .answer) s k → (s < slots) × StandAt (o .after) A s k

@@ -15,7 +15,7 @@ use Rattle.tree.specs.Changes.{proper-leaf}
 use Rattle.promise.specs.Run.{justSetUp}
 use Rattle.promise.specs.Demands.{Leads}
 use Rattle.laws.specs.Words.{word-at, word-none}
-use Rattle.laws.specs.Fresh.{freshWord, fresh-length, fresh-at}
+use Rattle.laws.specs.Fresh.{freshWord, fresh-length, fresh-word}
 use Rattle.spec.specs.FreeQueue.{Chain, lastOf}
 use Rattle.readers.specs.Words.{node-in, node-high}
 use Rattle.readers.specs.QueueExact.{QueueExact}
@@ -54,14 +54,16 @@ module _ (N : ℕ) (lo : leastNodes ≤ N) where
   abbrev pub p : List ℕ
   p = freshPool N
 
-  size : length p ≡ N * 8
+  size : length p ≡ N * nodeWords
   unfolding freshPool
   size = fresh-length N 1
 
   -- word f of node n
-  fresh-word : (n f : ℕ) → 1 ≤ n → n ≤ N → f < nodeWords → word p n f ≡ freshWord N 1 (place n f)
+  node-word : (n f : ℕ) → 1 ≤ n → n ≤ N → f < nodeWords → word p n f ≡ freshWord N 1 (n - 1) f
   unfolding freshPool
-  fresh-word n f a b u = word-at p n f a ∙ fresh-at N 1 (place n f) (omega arith)
+  node-word n f a b u =
+      let e : place n f ≡ (n - 1) * nodeWords + f = omega arith in
+      word-at p n f a ∙ rw e (fresh-word N 1 (n - 1) f (omega arith) u)
 
   past-last : (n f : ℕ) → N < n → word p n f ≡ 0
   past-last n f u = word-at p n f (omega arith) ∙ getD-past 0 p (place n f) (let z = size in omega arith)
@@ -70,23 +72,16 @@ module _ (N : ℕ) (lo : leastNodes ≤ N) where
   word-low n f u = elim (ℕ-discrete n 0) [
     | yes e ↦ rw (e, word-none p f)
     | no d ↦ elim (decLe n N) [
-      | yes v ↦ (let e : place n f % nodeWords ≡ f = omega arith in fresh-word n f (omega arith) v (omega arith) ∙ rw (e, ne-eqb f nextWord (omega arith)))
+      | yes v ↦ node-word n f (omega arith) v (omega arith) ∙ rw (ne-eqb f nextWord (omega arith))
       | no v ↦ past-last n f (omega arith)
     ]
   ]
 
-  next-at : (n : ℕ) → 1 ≤ n → (place n nextWord % nodeWords ≡ nextWord) × (place n nextWord / nodeWords ≡ n - 1)
-  next-at n a = (omega arith, omega arith)
-
   word-next : (n : ℕ) → 1 ≤ n → n < N → word p n nextWord ≡ n + 1
-  word-next n a b =
-      let e = next-at n a in
-      fresh-word n nextWord a (omega arith) (omega arith) ∙ rw (e .0, e .1, lt-ltb (n - 1 + 1) N (omega arith)) (omega arith)
+  word-next n a b = node-word n nextWord a (omega arith) (omega arith) ∙ rw (lt-ltb (suc (n - 1)) N (omega arith)) (omega arith)
 
   word-last : word p N nextWord ≡ 0
-  word-last =
-      let e = next-at N (omega arith) in
-      fresh-word N nextWord (omega arith) (omega arith) (omega arith) ∙ rw (e .0, e .1, le-ltb (N - 1 + 1) N (omega arith))
+  word-last = node-word N nextWord (omega arith) (omega arith) (omega arith) ∙ rw (le-ltb (suc (N - 1)) N (omega arith))
 
   chain-run : (k n : ℕ) → 1 ≤ n → n + k ≡ N → Chain p n (run (suc k) n)
   chain-run zero n a e = (refl, node-in p n a (let z = size in omega arith), (let i : n ≡ N = omega arith in rw i word-last))

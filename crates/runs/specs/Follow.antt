@@ -11,7 +11,7 @@ use Rattle.datatypes.specs.declared.Reader.{Reader}
 use Rattle.datatypes.specs.declared.Write.{Write}
 use Rattle.spec.specs.Numbers.{slots}
 use Rattle.spec.specs.Pool.{standingLinked}
-use Rattle.spec.specs.Register.{State, state, noReader, readerOf, storeOf, withReader, withAwaited, withWrite, hasSlot, dropSlot}
+use Rattle.spec.specs.Register.{State, state, noReader, readerOf, storeOf, withReader, withAwaited, withWrite, hasSlot, dropSlot, movedReader, readingAt}
 use Rattle.spec.specs.Free.{endReading}
 use Rattle.spec.specs.Turn.{stepMade}
 use Rattle.spec.specs.Calls.{Answer, ok, go, absent, found, Outcome, reading, Call, beginning, turning, givingUp}
@@ -119,19 +119,19 @@ module _ (W : State → Plain → Linked → Type 0) (writer : Writer W) where
   -- a load, its own or another slot's
   stand-loads : (st : State) (x : Plain) (h : Sound W writer st x) (A A′ : Option ℕ → Type 0) (s k : ℕ) → s < slots → ((y : Option ℕ) → A y → A′ y) → A (recordFor k (x .tickets))
       → StandAt st A s k → (t n : ℕ) → Passed st t → Loads st t n → n ≢ 0 → Dec (t ≡ s)
-      → StandAt (state (st .pool) (withReader (st .register) t (record { reading = true; key = readerOf (st .register) t .key; node = n }))) A′ s k
+      → StandAt (state (st .pool) (withReader (st .register) t (readingAt (readerOf (st .register) t .key) n))) A′ s k
   stand-loads st x h A A′ s k u more was g t n p l d (no i) = stand-other st A′ s t k _ i (stand-more _ _ _ _ A A′ s k more g)
   stand-loads st x h A A′ s k u more was g t n p l d (yes i) =
-      subst (λ m. StandAt (state (st .pool) (withReader (st .register) m (record { reading = true; key = readerOf (st .register) m .key; node = n }))) A′ s k) (sym i)
+      subst (λ m. StandAt (state (st .pool) (withReader (st .register) m (readingAt (readerOf (st .register) m .key) n))) A′ s k) (sym i)
       (stand-own st A′ s k _ u (h .safe) (stand-more _ _ _ _ A A′ s k more (own (subst (λ m. Loads st m n) i l))))
     where
-      own : Loads st s n → Stand (st .pool) (st .register .root) (st .register .awaited) (record { reading = true; key = readerOf (st .register) s .key; node = n }) A s k
+      own : Loads st s n → Stand (st .pool) (st .register .root) (st .register .awaited) (movedReader (readerOf (st .register) s) n) A s k
       own (atRoot a e) =
-          subst (λ m. Stand (st .pool) (st .register .root) (st .register .awaited) (record { reading = true; key = readerOf (st .register) s .key; node = m }) A s k) (sym e)
+          subst (λ m. Stand (st .pool) (st .register .root) (st .register .awaited) (movedReader (readerOf (st .register) s) m) A s k) (sym e)
           (stand-root (st .pool) (st .register .root) (st .register .awaited) A s k (readerOf (st .register) s .key) (h .tree) (g .key) (writer .unfolds st x (h .tree) (h .holds))
           (rw (writer .finds st x (h .tree) (h .holds) k) was))
       own (atNode a b e) =
-          subst (λ m. Stand (st .pool) (st .register .root) (st .register .awaited) (record { reading = true; key = readerOf (st .register) s .key; node = m }) A s k) (sym e)
+          subst (λ m. Stand (st .pool) (st .register .root) (st .register .awaited) (movedReader (readerOf (st .register) s) m) A s k) (sym e)
           (stand-child (st .pool) (st .register .root) (st .register .awaited) (readerOf (st .register) s) A s k a b (h .safe .at s u (g .reads) a) (λ i. d (e ∙ i)) g)
 
   pub stand-next : (st : State) (x : Plain) (c : Call) (o : Outcome) → CallCase st c o → (h : Sound W writer st x) → (A A′ : Option ℕ → Type 0) (s k : ℕ) → s < slots → ((y : Option ℕ) → A y → A′ y)

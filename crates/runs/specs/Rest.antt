@@ -27,8 +27,9 @@ use Rattle.tree.specs.Linked.{Linked}
 use Rattle.promise.specs.Run.{Reads, after}
 use Rattle.promise.specs.Demands.{Stands}
 use Rattle.readers.specs.Words.{Whole}
-use Rattle.readers.specs.CallCase.{CallCase, refuses, plansInsert, plansDelete, waits, stores, begins, loads, misses, finds, leaves, testsOf, insertTests}
-use Rattle.readers.specs.CallCase.{deleteTests, turnTests, own, waiting, Clear, not-false}
+use Rattle.spec.specs.Calls.{insertTests, deleteTests, writerTests, firstFinds, waiting}
+use Rattle.readers.specs.CallCase.{CallCase, refuses, plansInsert, plansDelete, waits, stores, begins, loads, misses, finds, leaves, testsOf}
+use Rattle.readers.specs.CallCase.{Clear, not-false}
 use Rattle.readers.specs.Safe.{Safe}
 use Rattle.runs.specs.Sound.{store-carriedOut}
 use Rattle.runs.specs.Answers.{toldOf}
@@ -144,7 +145,7 @@ less (suc n) (t ∷ ts) = less n ts
 pub not-one : (st : State) (c : Call) → wrongLength st ≡ false → firstOf (testsOf st c) ≢ 1
 not-one st (inserting k v) r = avoided 1 (insertTests st k v) (omega arith) (inr r, λ _. others-avoid 1 (less 1 (insertTests st k v)) (omega arith))
 not-one st (deleting k) r = avoided 1 (deleteTests st k) (omega arith) (inr r, λ _. others-avoid 1 (less 1 (deleteTests st k)) (omega arith))
-not-one st writing r = avoided 1 (turnTests st) (omega arith) (inr r, λ _. others-avoid 1 (less 1 (turnTests st)) (omega arith))
+not-one st writing r = avoided 1 (writerTests st) (omega arith) (inr r, λ _. others-avoid 1 (less 1 (writerTests st)) (omega arith))
 not-one st (beginning s k) r = avoided 1 (beginTests st s) (omega arith) (inr r, λ _. others-avoid 1 (less 1 (beginTests st s)) (omega arith))
 not-one st (turning s) r = avoided 1 (readerTests st s) (omega arith) (inr r, λ _. others-avoid 1 (less 1 (readerTests st s)) (omega arith))
 not-one st (givingUp s) r = avoided 1 (readerTests st s) (omega arith) (inr r, λ _. others-avoid 1 (less 1 (readerTests st s)) (omega arith))
@@ -152,7 +153,7 @@ not-one st (givingUp s) r = avoided 1 (readerTests st s) (omega arith) (inr r, �
 pub not-two : (st : State) (c : Call) → outOfRange st ≡ false → firstOf (testsOf st c) ≢ 2
 not-two st (inserting k v) r = avoided 2 (insertTests st k v) (omega arith) (inl (omega arith), λ _. (inr r, λ _. others-avoid 2 (less 2 (insertTests st k v)) (omega arith)))
 not-two st (deleting k) r = avoided 2 (deleteTests st k) (omega arith) (inl (omega arith), λ _. (inr r, λ _. others-avoid 2 (less 2 (deleteTests st k)) (omega arith)))
-not-two st writing r = avoided 2 (turnTests st) (omega arith) (inl (omega arith), λ _. (inr r, λ _. others-avoid 2 (less 2 (turnTests st)) (omega arith)))
+not-two st writing r = avoided 2 (writerTests st) (omega arith) (inl (omega arith), λ _. (inr r, λ _. others-avoid 2 (less 2 (writerTests st)) (omega arith)))
 not-two st (beginning s k) r = avoided 2 (beginTests st s) (omega arith) (inl (omega arith), λ _. (inr r, λ _. others-avoid 2 (less 2 (beginTests st s)) (omega arith)))
 not-two st (turning s) r = avoided 2 (readerTests st s) (omega arith) (inl (omega arith), λ _. (inr r, λ _. others-avoid 2 (less 2 (readerTests st s)) (omega arith)))
 not-two st (givingUp s) r = avoided 2 (readerTests st s) (omega arith) (inl (omega arith), λ _. (inr r, λ _. others-avoid 2 (less 2 (readerTests st s)) (omega arith)))
@@ -208,10 +209,10 @@ not-twelve W w st x T h g (deleting k) =
       ),
     )
 not-twelve W w st x T h g writing =
-    avoided 12 (turnTests st) (omega arith) (inl (omega arith), λ _. (inl (omega arith), λ _. (inl (omega arith), λ n. (inr (go (eqb (st .register .awaited) 0) refl (not-false _ n)), λ _. tt))))
+    avoided 12 (writerTests st) (omega arith) (inl (omega arith), λ _. (inl (omega arith), λ _. (inl (omega arith), λ n. (inr (go (eqb (st .register .awaited) 0) refl (not-false _ n)), λ _. tt))))
   where
-    go : (b : Bool) → eqb (st .register .awaited) 0 ≡ b → writeInHand st ≡ true → (not (not b) && not (own st)) ≡ false
-    go true e n = not-true (own st) (w .stepGoes st x T h g (eqb-true (st .register .awaited) 0 e) n)
+    go : (b : Bool) → eqb (st .register .awaited) 0 ≡ b → writeInHand st ≡ true → (not (not b) && not (firstFinds st)) ≡ false
+    go true e n = not-true (firstFinds st) (w .stepGoes st x T h g (eqb-true (st .register .awaited) 0 e) n)
     go false e n = refl
 not-twelve W w st x T h g (beginning s k) = avoided 12 (beginTests st s) (omega arith) (inl (omega arith), λ _. (inl (omega arith), λ _. (inl (omega arith), λ _. (inl (omega arith), λ _. tt))))
 not-twelve W w st x T h g (turning s) = avoided 12 (readerTests st s) (omega arith) (inl (omega arith), λ _. (inl (omega arith), λ _. (inl (omega arith), λ _. (inl (omega arith), λ _. tt))))
@@ -233,8 +234,8 @@ none-awaited st h f =
     go s u false e = e
 
 -- a turn that passes its tests, no slot being awaited, makes a store
-pub turn-clear : (st : State) → wrongLength st ≡ false → outOfRange st ≡ false → writeInHand st ≡ true → own st ≡ true → firstOf (turnTests st) ≡ 0
-turn-clear st a b w f = all-clear (turnTests st) (a, (b, (not-true (writeInHand st) w, (and-false (not (waiting st)) (not (own st)) (not-true (own st) f), tt))))
+pub turn-clear : (st : State) → wrongLength st ≡ false → outOfRange st ≡ false → writeInHand st ≡ true → firstFinds st ≡ true → firstOf (writerTests st) ≡ 0
+turn-clear st a b w f = all-clear (writerTests st) (a, (b, (not-true (writeInHand st) w, (and-false (not (waiting st)) (not (firstFinds st)) (not-true (firstFinds st) f), tt))))
 
 pub turn-goes : (st : State) (c : Call) (o : Outcome) → CallCase st c o → firstOf (testsOf st c) ≡ 0 → st .register .awaited ≡ 0 → noticeOf (o .answer) ≡ carriedOut
 turn-goes st c o (refuses d x) e z = absurd (x e)

@@ -14,7 +14,7 @@ use Rattle.datatypes.specs.declared.Link.the-variants.{Root, Left, Right}
 use Rattle.datatypes.specs.declared.Reader.{Reader}
 use Rattle.spec.specs.Numbers.{slots}
 use Rattle.spec.specs.Pool.{word, child, keyWord, standingWord, standingFree, standingLinked}
-use Rattle.spec.specs.Register.{State, hasSlot}
+use Rattle.spec.specs.Register.{State, hasSlot, begunReader, readingAt}
 use Rattle.spec.specs.Search.{towards}
 use Rattle.laws.specs.Words.{word-none}
 use Rattle.promise.specs.Run.{Reads}
@@ -57,12 +57,12 @@ seen-nothing : (p : List ℕ) (s n k : ℕ) → Seen p s n k []
 seen-nothing p s n k = record { kept = λ m i. absurd i; none = λ _. refl; once = seen-none p n k }
 
 -- a slot begins
-pub stand-begin : (p : List ℕ) (root awaited : ℕ) (A : Option ℕ → Type 0) (s k : ℕ) → Stand p root awaited (record { reading = true; key = k; node = 0 }) A s k
+pub stand-begin : (p : List ℕ) (root awaited : ℕ) (A : Option ℕ → Type 0) (s k : ℕ) → Stand p root awaited (begunReader k) A s k
 stand-begin p root awaited A s k = record { reads = refl; key = refl; finds = λ d. absurd (d refl); seen = []; has = seen-nothing p s 0 k; way = λ d. absurd (d refl) }
 
 -- it loads the root
 pub stand-root : (p : List ℕ) (root awaited : ℕ) (A : Option ℕ → Type 0) (s k j : ℕ) (T : Linked) → j ≡ k → Rep p root T → A (find T k)
-    → Stand p root awaited (record { reading = true; key = j; node = root }) A s k
+    → Stand p root awaited (readingAt j root) A s k
 stand-root p root awaited A s k j T e r a = record {
   reads = refl;
   key = e;
@@ -75,7 +75,7 @@ stand-root p root awaited A s k j T e r a = record {
 -- it loads the child
 pub stand-child : (p : List ℕ) (root awaited : ℕ) (x : Reader) (A : Option ℕ → Type 0) (s k : ℕ) → x .node ≢ 0 → x .key ≢ word p (x .node) keyWord → Kept p s (x .node)
     → child p (towards p (x .key) (x .node)) (x .node) ≢ 0
-    → Stand p root awaited x A s k → Stand p root awaited (record { reading = true; key = x .key; node = child p (towards p (x .key) (x .node)) (x .node) }) A s k
+    → Stand p root awaited x A s k → Stand p root awaited (readingAt (x .key) (child p (towards p (x .key) (x .node)) (x .node))) A s k
 stand-child p root awaited x A s k d e kp c h =
     let i = h .key in
     let e′ : k ≢ word p (x .node) keyWord = λ z. e (i ∙ z) in

@@ -23,7 +23,7 @@ use Rattle.readers.specs.Reach.{HasStanding}
 use Rattle.readers.specs.Lookups.{Unlinked}
 use Rattle.readers.specs.Stored.{OwnerLinked}
 use Rattle.readers.specs.Turns.{Turn}
-use Rattle.readers.specs.CallCase.{insertTests, deleteTests}
+use Rattle.spec.specs.Calls.{insertTests, deleteTests}
 use Rattle.readers.specs.Safe.{Safe}
 
 -- What a reader's call leaves alone: keys, records, links, colours, which nodes are linked, and of the register root, keys held and the write

@@ -46,7 +46,8 @@ use Rattle.heap.specs.Shift.{listStore, heldAfter}
 use Rattle.heap.specs.Plans.{Rest, Placed, empty-at, held-at, placed}
 use Rattle.heap.specs.Writes.{InHand}
 use Rattle.heap.specs.Accept.{accepted-in-hand, searched, heldOf, delete-possible}
-use Rattle.readers.specs.CallCase.{clear, deleteTests, not-false}
+use Rattle.spec.specs.Calls.{deleteTests}
+use Rattle.readers.specs.CallCase.{clear, not-false}
 use Rattle.readers.specs.Safe.{Safe}
 use Rattle.runs.specs.Writer.{planned}
 use Rattle.theorem.specs.Tickets.{without-same, without-other, unique-without, without-some}

@@ -44,7 +44,8 @@ use Rattle.tree.specs.Erase.{erase, erase-find}
 use Rattle.heap.specs.Colours.{colours}
 use Rattle.heap.specs.Writes.{InHand, Finished, in-hand-rest, in-hand-kept, write-count}
 use Rattle.heap.specs.Accept.{accepted-in-hand, searched, heldOf, insert-possible}
-use Rattle.readers.specs.CallCase.{clear, insertTests}
+use Rattle.spec.specs.Calls.{insertTests}
+use Rattle.readers.specs.CallCase.{clear}
 use Rattle.readers.specs.Safe.{Safe}
 use Rattle.runs.specs.Writer.{LeavesTree, planned}
 use Rattle.theorem.specs.Tickets.{without-same, without-other, unique-without, without-none}
