@@ -1,9 +1,9 @@
 -- Acceptance of a write at rest: the search finds the key's place, the plan is possible (no 12), and the accepted write is in hand. The fresh
 -- index is at rest with the empty tree.
-use Prim.Native.Nat.{ℕ, zero, suc, _+_, _*_, _≤_}
+use Prim.Native.Nat.{ℕ, _≤_}
 use mathlib.Core.Path.{_≡_, refl, sym, _∙_}
 use mathlib.Core.Bool.{Bool, true, false}
-use mathlib.Core.List.{List, [], _∷_, _++_}
+use mathlib.Core.List.{List, [], _∷_}
 use mathlib.Core.Option.{Option, none, some}
 use lib.ListN.{length}
 use native.Mathlib.Omega.{arith}
@@ -18,15 +18,13 @@ use Rattle.datatypes.specs.declared.Place.{Place}
 use Rattle.datatypes.specs.declared.Store.{Store}
 use Rattle.datatypes.specs.Side.{other, linkAt}
 use Rattle.spec.specs.Numbers.{mostStores}
-use Rattle.spec.specs.Pool.{freshNodes, freshPool}
-use Rattle.spec.specs.Register.{State, writeOf, freshRegister, fresh}
+use Rattle.spec.specs.Register.{State, writeOf}
 use Rattle.spec.specs.Plan.{Plan, turnStores, endingStores}
 use Rattle.spec.specs.Calls.{acceptedPlan, placeOf, insertAt, deleteAt, isHeld, tooDeep}
 use Rattle.sequential.specs.Tree.{Colour, red, black, Tree, colourOf}
 use Rattle.sequential.specs.Insert as SeqInsert
 use Rattle.sequential.specs.Delete as SeqDelete
-use Rattle.tree.specs.Changes.{proper-leaf}
-use Rattle.tree.specs.Linked.{copy, Linked, nil, find}
+use Rattle.tree.specs.Linked.{Linked, find}
 use Rattle.tree.specs.Zipper.{Frame, hole}
 use Rattle.tree.specs.Erase.{erase, eraseWay}
 use Rattle.tree.specs.InsertFixup as InsertFixup
@@ -36,7 +34,9 @@ use Rattle.heap.specs.Sites.{linkTo}
 use Rattle.heap.specs.Colours.{colours}
 use Rattle.heap.specs.Fixups.{formOf, numOf, pairsUp, insertFixupEnding, framesUp, tip, deleteFixupEnding}
 use Rattle.heap.specs.DeleteFixupRun.{deleteFixupOf}
-use Rattle.heap.specs.Phase.{Follow, forInsert, onBlackSibling, onRedSibling, followStores, removalEnding, standIn, Phases, at-rest, diag-0, diag-1, zig-0, zig-1, zig-2, insert-0, unlink-0, adopt-0, replace-0, publish-0, detach-0}
+use Rattle.heap.specs.Places.{wayToC, copiedWay}
+use Rattle.heap.specs.Phase.{Follow, forInsert, onBlackSibling, onRedSibling, followStores, removalEnding, Phases, at-rest, diag-0, diag-1, zig-0, zig-1}
+use Rattle.heap.specs.Phase.{zig-2, insert-0, unlink-0, adopt-0, replace-0, publish-0, detach-0}
 use Rattle.heap.specs.Plans.{Rest, Placed, empty-at, held-at, placed, Planned, insert-planned}
 use Rattle.heap.specs.DeletePlans.{delete-planned}
 use Rattle.heap.specs.Writes.{InHand, with-root, with-write}
@@ -72,17 +72,17 @@ lost-room black f c fs = removal-room (deleteFixupOf f c fs .end) (tip f c (dele
 
 pub phase-room : {p : List ℕ} {root : ℕ} {f : ℕ → Colour} {G : Tree} {T : Linked} {l : List Store} → Phases p root f G T l → length l ≤ mostStores
 phase-room (at-rest T h s e) = omega arith
-phase-room (diag-0 w fs s B C o x r h i g n e) = let a = follow-room w s (B .num) in omega arith
-phase-room (diag-1 w fs s B C n o x r h i z c g d e) = let a = follow-room w s (B .num) in omega arith
-phase-room (zig-0 w fs s A B C b x y r h i g e) = omega arith
-phase-room (zig-1 w fs s A B C m b x y r h i z c g e) = omega arith
-phase-room (zig-2 w fs s A B C m n b x y r h i z u d c k g e) = omega arith
-phase-room {f = f} (insert-0 k v fs h s i e) = let a = forInsert-room (InsertFixup.insertFixup (eraseWay f fs) .end) (pairsUp (InsertFixup.insertFixup (eraseWay f fs) .levels) fs) in omega arith
-phase-room {f = f} (unlink-0 fs s B x h i g e) = let a = lost-room (f (B .num)) f (colourOf (erase f x)) fs in omega arith
-phase-room {f = f} (adopt-0 fs B C l y h i g d e) = let a = lost-room (f (C .num)) f (colourOf (erase f y)) (hole R (standIn B C) l ∷ fs) in omega arith
-phase-room {f = f} (replace-0 fs B C l y h i g d e) = let a = lost-room (f (C .num)) f (colourOf (erase f y)) (hole R (standIn B C) l ∷ fs) in omega arith
-phase-room {f = f} (publish-0 fs gs B C l y al h i g d e) = let a = lost-room (f (C .num)) f (colourOf (erase f y)) (gs ++ (hole R (standIn B C) l ∷ fs)) in omega arith
-phase-room {f = f} (detach-0 fs gs B C n l y al sh h t i k z c g e) = let a = lost-room (f (C .num)) f (colourOf (erase f y)) (gs ++ (hole R (copy C n) l ∷ fs)) in omega arith
+phase-room (diag-0 w d h i) = let a = follow-room w (d .side) (d .B .num) in omega arith
+phase-room (diag-1 w d n h i c) = let a = follow-room w (d .side) (d .B .num) in omega arith
+phase-room (zig-0 w d h i) = omega arith
+phase-room (zig-1 w d m h i c) = omega arith
+phase-room (zig-2 w d m n h i c e u) = omega arith
+phase-room {f = f} (insert-0 k v way h i) = let a = forInsert-room (InsertFixup.insertFixup (eraseWay f way) .end) (pairsUp (InsertFixup.insertFixup (eraseWay f way) .levels) way) in omega arith
+phase-room {f = f} (unlink-0 d h i) = let a = lost-room (f (d .B .num)) f (colourOf (erase f (d .only))) (d .way) in omega arith
+phase-room {f = f} (adopt-0 d h i) = let a = lost-room (f (d .C .num)) f (colourOf (erase f (d .right))) (wayToC d []) in omega arith
+phase-room {f = f} (replace-0 d h i) = let a = lost-room (f (d .C .num)) f (colourOf (erase f (d .right))) (wayToC d []) in omega arith
+phase-room {f = f} (publish-0 d down h i) = let a = lost-room (f (d .C .num)) f (colourOf (erase f (d .right))) (wayToC d down) in omega arith
+phase-room {f = f} (detach-0 d down n h i) = let a = lost-room (f (d .C .num)) f (colourOf (erase f (d .right))) (copiedWay d down n) in omega arith
 
 -- an accepted write is in hand
 pub accepted-in-hand : (st : State) (G : Tree) (T : Linked) (w : Plan) → Rest st T → Planned st G T w → InHand (acceptedPlan st w .after) G T (w .stores)
@@ -130,18 +130,3 @@ delete-possible st T k v h n = go (placed st T k h)
     go : {x : Place} → Placed T k x → Planned st (SeqDelete.delete (erase (colours (st .pool)) T) k) T (deleteAt st x)
     go (held-at fs N l r e i q m) = rw (sym e, q) (delete-planned st fs N l r (rw e h))
     go (empty-at fs e i q) = let z : _≡_ {A = Option ℕ} none (some v) = sym q ∙ n in let y : _≡_ {A = ℕ} 0 1 = cc in absurd (omega arith)
-
--- The fresh index.
-fresh-length : (k n : ℕ) → length (freshNodes k n) ≡ k * 8
-unfolding freshNodes
-fresh-length zero n = refl
-fresh-length (suc zero) n = refl
-fresh-length (suc (suc k)) n = let a = fresh-length (suc k) (n + 1) in omega arith
-
-pub fresh-rest : (capacity : ℕ) → capacity ≤ 1023 → Rest (fresh capacity) nil
-unfolding fresh freshRegister freshPool
-fresh-rest capacity h = record {
-  rep = refl;
-  sound = record { once = λ i. omega arith; proper = proper-leaf };
-  small = let a = fresh-length capacity 1 in omega arith;
-}

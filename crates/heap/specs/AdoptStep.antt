@@ -9,24 +9,21 @@ use Rattle.datatypes.specs.declared.Link.the-variants.{Left}
 use Rattle.datatypes.specs.declared.Step.the-variants.{Adopt, Replace}
 use Rattle.spec.specs.Pool.{child}
 use Rattle.spec.specs.Register.{State, setLink}
-use Rattle.spec.specs.Plan.{store, endingStores}
+use Rattle.spec.specs.Plan.{store}
 use Rattle.spec.specs.Turn.{made, adoptStore, stepFinds}
-use Rattle.sequential.specs.Tree.{Colour, Tree, colourOf}
-use Rattle.sequential.specs.Delete.{lose, delete}
-use Rattle.tree.specs.Changes.{Proper}
+use Rattle.sequential.specs.Tree.{Colour, Tree}
 use Rattle.tree.specs.Linked.{Node, Linked, nil, cell, at, nodes}
 use Rattle.tree.specs.LinkedOrder.{ordered-bare}
 use Rattle.tree.specs.Zipper.{Frame, hole, plug}
-use Rattle.tree.specs.Erase.{erase, eraseWay}
 use Rattle.tree.specs.Occurs.{one, one-same, occ, occ-at, occWay, occ-plug}
-use Rattle.tree.specs.Stores.{form₀, form₁}
 use Rattle.heap.specs.Sites.{linkTo, site-up}
 use Rattle.heap.specs.Colours.{colours, colours-link}
 use Rattle.heap.specs.Moves.{At}
 use Rattle.heap.specs.Lowers.{is-node, Top, top-of, near-down, far-down, below-is}
 use Rattle.heap.specs.Raises.{Raised, raised-link}
 use Rattle.heap.specs.Parts.{unchanged, copied}
-use Rattle.heap.specs.Phase.{removalEnding, standIn, Sound, replace-0}
+use Rattle.heap.specs.Places.{Double, doubleTop, doubleTree, adopted, wayToC}
+use Rattle.heap.specs.Phase.{replace-0, DoublePlan, lostStores}
 use Rattle.heap.specs.Shift.{by-adopt, Next}
 use Rattle.heap.specs.RemovalFixup.{rep-num}
 
@@ -38,9 +35,10 @@ form-count fs B C l x y i =
     let c = occ-at L C x y i in
     omega arith
 
-module _ (st : State) (G : Tree) (fs : List Frame) (B C : Node) (l y : Linked) (h : At st fs (form₀ L B C l y)) (good : Sound (st .pool) (plug fs (form₀ L B C l y))) (proper : Proper G)
-    (deletes : G ≡ delete (erase (colours (st .pool)) (plug fs (form₀ L B C l y))) (B .key))
-    (goal : G ≡ lose (colours (st .pool) (C .num)) (eraseWay (colours (st .pool)) (hole R (standIn B C) l ∷ fs)) (erase (colours (st .pool)) y)) where
+module _ (st : State) (G : Tree) (d : Double) (h : At st (d .way) (doubleTop d [])) (plan : DoublePlan (colours (st .pool)) G d []) where
+  open Double d using (way as fs, B, C, left as l, right as y)
+  open DoublePlan plan using (sound as good)
+
   abbrev f : ℕ → Colour
   f = colours (st .pool)
 
@@ -68,17 +66,16 @@ module _ (st : State) (G : Tree) (fs : List Frame) (B C : Node) (l y : Linked) (
       raised-link st (hole L C y ∷ hole R B l ∷ fs) nil l n (omega arith, omega arith, omega arith)
       (near-down st (hole R B l ∷ fs) L C nil y (far-down st fs L B l (at L C nil y) h)) (capacity .near)
 
-  pub adopt-0-next : Next st G (plug fs (form₀ L B C l y)) (adoptStore st (linkTo fs)) Adopt
-      (store (linkTo fs) Replace ∷ endingStores (removalEnding (f (C .num)) f (colourOf (erase f y)) (hole R (standIn B C) l ∷ fs)))
+  pub adopt-0-next : Next st G (doubleTree d []) (adoptStore st (linkTo fs)) (store (linkTo fs) Adopt) (store (linkTo fs) Replace ∷ lostStores f C y (wayToC d []))
   adopt-0-next =
       let after = setLink st (Left (C .num)) n in
       let e : colours (after .pool) ≡ f = fun-ext (colours-link st (Left (C .num)) n) in
       let site = site-up (after .pool) (after .register .root) fs R B (cell C l y) l (site-up (after .pool) (after .register .root) (hole R B l ∷ fs) L C l y (raised .site)) in
       rw adopt-is record {
-        tree = plug fs (form₁ L B C l y);
+        tree = plug fs (adopted d);
         gone = [];
-        shift = rw (rep-num (st .pool) n l (capacity .near)) (by-adopt fs B C l y (ordered-bare f _ (plug fs (form₀ L B C l y)) (good .proper .ordered)) (good .once));
-        phase = rw e (replace-0 fs B C l y site good proper deletes goal);
+        shift = rw (rep-num (st .pool) n l (capacity .near)) (by-adopt fs B C l y (ordered-bare f _ (doubleTree d []) (good .proper .ordered)) (good .once));
+        phase = rw e (replace-0 d site plan);
         parts = copied st st _ (Left (C .num)) n [] unchanged refl;
         size = raised .size;
         held = raised .held;

@@ -18,7 +18,7 @@ use Rattle.tree.specs.Linked.{Linked, nil, cell, nodes}
 use Rattle.tree.specs.Zipper.{Frame, hole}
 use Rattle.tree.specs.Erase.{erase, eraseWay, erase-agree}
 use Rattle.tree.specs.Occurs.{one-same, occ, in-occ, occWay}
-use Rattle.heap.specs.Rep.{Rep, Alike, alike-set, not-below}
+use Rattle.heap.specs.Rep.{Rep, Alike, alike-set, not-below, upToLinks, upToColour}
 
 abbrev pub hueOf : Bool → Colour
 hueOf true = red
@@ -50,7 +50,7 @@ pub colours-is : (p : List ℕ) (n c : ℕ) → word p n colourWord ≡ c → co
 unfolding colours
 colours-is p n c e = ap hue e
 
-pub colours-alike : {p q : List ℕ} → Alike 5 p q → (n : ℕ) → colours q n ≡ colours p n
+pub colours-alike : {p q : List ℕ} → Alike upToColour p q → (n : ℕ) → colours q n ≡ colours p n
 colours-alike {p} {q} a n = colours-word p q n (a .words n colourWord (omega arith))
 
 pub colours-none : (p : List ℕ) → colours p 0 ≡ black
@@ -67,8 +67,8 @@ colours-link st (Left m) v n = colours-set (st .pool) m leftWord v n (omega arit
 colours-link st (Right m) v n = colours-set (st .pool) m rightWord v n (omega arith)
 
 -- a painted node
-pub paint-alike : (p : List ℕ) (n c : ℕ) → Alike 4 p (paint p n c)
-paint-alike p n c = alike-set 4 p n colourWord c (omega arith) (omega arith)
+pub paint-alike : (p : List ℕ) (n c : ℕ) → Alike upToLinks p (paint p n c)
+paint-alike p n c = alike-set upToLinks p n colourWord c (omega arith) (omega arith)
 
 pub paint-none : (p : List ℕ) (c : ℕ) → paint p 0 c ≡ p
 paint-none p c = set-none p colourWord c
@@ -94,14 +94,8 @@ way-occ f g (hole s N y ∷ fs) h =
 apart : (d n : ℕ) (xs : List ℕ) → occ d xs ≡ 0 → 0 < occ n xs → d ≢ n
 apart d n xs z h e = let x : occ d xs ≡ occ n xs = rw e in omega arith
 
-apart-way : (d n : ℕ) (fs : List Frame) → occWay d fs ≡ 0 → 0 < occWay n fs → d ≢ n
-apart-way d n fs z h e = let x : occWay d fs ≡ occWay n fs = rw e in omega arith
-
 pub erase-paint : (p : List ℕ) (n c : ℕ) (t : Linked) → occ n (nodes t) ≡ 0 → erase (colours (paint p n c)) t ≡ erase (colours p) t
 erase-paint p n c t o = erase-occ (colours p) (colours (paint p n c)) t (λ m i. paint-other p n c m (apart n m (nodes t) o i))
-
-pub way-paint : (p : List ℕ) (n c : ℕ) (fs : List Frame) → occWay n fs ≡ 0 → eraseWay (colours (paint p n c)) fs ≡ eraseWay (colours p) fs
-way-paint p n c fs o = way-occ (colours p) (colours (paint p n c)) fs (λ m i. paint-other p n c m (apart-way n m fs o i))
 
 -- the top of a tree painted
 pub erase-top : (p : List ℕ) (a c : ℕ) (t : Linked) → Rep p a t → erase (colours (paint p a c)) t ≡ Seq.paint (hue c) (erase (colours p) t)

@@ -27,7 +27,8 @@ use Rattle.tree.specs.DeleteFixup.{DeleteFixup, Nephew, noNephew, nephew, Delet
 use Rattle.heap.specs.Rep.{Rep}
 use Rattle.heap.specs.Sites.{linkTo, links}
 use Rattle.heap.specs.Colours.{redly, colours, red-is, red-tree}
-use Rattle.heap.specs.Fixups.{side-at, Sides, formOf, childOf, rep-child, erase-child, there-tree, nephew-cases, framesUp, tip, numOf, nephewEnding, deleteFixupEnding, Stop, stop-root, stop-red, stop-turn, stop-pass}
+use Rattle.heap.specs.Fixups.{side-at, Sides, formOf, childOf, rep-child, erase-child, there-tree, nephew-cases, framesUp, tip, numOf}
+use Rattle.heap.specs.Fixups.{nephewEnding, deleteFixupEnding, Stop, stop-root, stop-red, stop-turn, stop-pass}
 
 -- the tree's climb on a way
 abbrev pub deleteFixupOf : (ℕ → Colour) → Colour → List Frame → DeleteFixup
@@ -79,7 +80,7 @@ deleteFixup-case (deleteFixup-turn b n e l) = case-turn b n e l
 deleteFixup-case (deleteFixup-level n e l r) = case-level n e l r
 
 pub record Run (p : List ℕ) (m x : ℕ) (c : Colour) (fs : List Frame) : Type 0 where
-  pub is : deleteFixup p m x (links fs) ≡ fixupResult (m + deleteFixupOf (colours p) c fs .levels) (deleteFixupEnding (deleteFixupOf (colours p) c fs .end) (tip (colours p) c (deleteFixupOf (colours p) c fs .levels) fs) (framesUp (deleteFixupOf (colours p) c fs .levels) fs))
+  pub is : (let r = deleteFixupOf (colours p) c fs in deleteFixup p m x (links fs) ≡ fixupResult (m + r .levels) (deleteFixupEnding (r .end) (tip (colours p) c (r .levels) fs) (framesUp (r .levels) fs)))
   pub stop : Stop (colours p) (tip (colours p) c (deleteFixupOf (colours p) c fs .levels) fs) (framesUp (deleteFixupOf (colours p) c fs .levels) fs) (deleteFixupOf (colours p) c fs .end)
   pub room : deleteFixupOf (colours p) c fs .levels ≤ length fs
 

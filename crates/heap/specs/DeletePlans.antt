@@ -2,7 +2,7 @@
 use Prim.Native.Nat.{ℕ, _+_, _≤_}
 use mathlib.Core.Path.{_≡_, refl, ap, _∙_, subst}
 use mathlib.Core.Logic.{_≢_}
-use mathlib.Core.Bool.{Bool, true, false, cond, _&&_}
+use mathlib.Core.Bool.{true, false, cond, and-false}
 use mathlib.Core.List.{List, [], _∷_, _++_}
 use lib.ListN.{length, length-append}
 use lib.Dec.{eqb}
@@ -12,6 +12,7 @@ use Rattle.datatypes.specs.declared.Side.{Side}
 use Rattle.datatypes.specs.declared.Side.the-variants.{L, R}
 use Rattle.datatypes.specs.declared.Step.the-variants.{Adopt, Replace, Publish, Detach}
 use Rattle.datatypes.specs.Side.{other, linkAt}
+use Rattle.spec.specs.Numbers.{pathBound}
 use Rattle.spec.specs.Pool.{child, isRed}
 use Rattle.spec.specs.Register.{State}
 use Rattle.spec.specs.Search.{pathTo}
@@ -19,7 +20,7 @@ use Rattle.spec.specs.Plan.{plan, store, missing, fixupAfterRemoval, twoChildre
 use Rattle.sequential.specs.Tree.{Colour, black, colourOf}
 use Rattle.sequential.specs.Delete as SeqDelete
 use Rattle.sequential.specs.Delete.{lose, deletion}
-use Rattle.tree.specs.Changes.{Proper, changed-proper}
+use Rattle.tree.specs.Changes.{changed-proper}
 use Rattle.tree.specs.Linked.{Node, Linked, nil, cell, at, NotNil}
 use Rattle.tree.specs.LinkedOrder.{ordered-bare, into-top}
 use Rattle.tree.specs.Zipper.{Frame, hole, plug, plug-append, Into, Along}
@@ -27,7 +28,6 @@ use Rattle.tree.specs.Erase.{erase, eraseWay, erase-at, erase-plug}
 use Rattle.tree.specs.Forms.{delete-first, delete-other}
 use Rattle.tree.specs.Ways.{first-deleteFixup, other-deleteFixup}
 use Rattle.tree.specs.DeleteFixup.{DeleteFixups}
-use Rattle.tree.specs.Successor.{third₀}
 use Rattle.heap.specs.Rep.{Rep}
 use Rattle.heap.specs.Sites.{linkTo, links}
 use Rattle.heap.specs.Colours.{redly, colours, red-tree}
@@ -35,19 +35,16 @@ use Rattle.heap.specs.Paths.{path-to, successor-path}
 use Rattle.heap.specs.Fixups.{Sides, way-sides}
 use Rattle.heap.specs.Moves.{At}
 use Rattle.heap.specs.Lowers.{Top, top-of, far-down}
-use Rattle.heap.specs.Phase.{removalEnding, standIn, unlink-0, adopt-0, publish-0}
+use Rattle.heap.specs.Places.{Double, standIn, doubleTop, doubleTree, wayToC}
+use Rattle.heap.specs.Phase.{removalEnding, unlink-0, adopt-0, publish-0, DoublePlan}
 use Rattle.heap.specs.Inserts.{way-short, once-way}
 use Rattle.heap.specs.UnlinkStep.{only-is}
 use Rattle.heap.specs.RemovalFixup.{removal-there}
 use Rattle.heap.specs.Rename.{site-append, way-append}
 use Rattle.heap.specs.Plans.{Rest, rest-at, Planned, removal-ending}
 
-and-no : (b : Bool) → (b && false) ≡ false
-and-no true = refl
-and-no false = refl
-
 two-no : (p : List ℕ) (s : Side) (b : ℕ) → child p (other s) b ≡ 0 → twoChildren p b ≡ false
-two-no p L b e = rw (eq-eqb (child p R b) 0 e, and-no)
+two-no p L b e = rw (eq-eqb (child p R b) 0 e, and-false)
 two-no p R b e = rw (eq-eqb (child p L b) 0 e)
 
 two-yes : (p : List ℕ) (b : ℕ) → child p L b ≢ 0 → child p R b ≢ 0 → twoChildren p b ≡ true
@@ -85,7 +82,7 @@ module _ (st : State) (fs : List Frame) (s : Side) (B : Node) (x : Linked) (h : 
       let ending = removal-ending p (B .num) (child p s (B .num)) c fs is-red sides deleteFixups in
       rw (capacity .words .key-is, path, two-no p s (B .num) (capacity .far), only-is p s (B .num) (capacity .far), ending) record {
         possible = rw (rw ending at gone);
-        phase = unlink-0 fs s B x site (h .sound) (changed-proper (erase f T) (deletion (B .key)) (h .sound .proper)) goal;
+        phase = unlink-0 (record { way = fs; side = s; B = B; only = x }) site (record { sound = h .sound; proper = changed-proper (erase f T) (deletion (B .key)) (h .sound .proper); goal = goal });
       }
 
 -- the node of a way counts in a path only by its number
@@ -115,18 +112,20 @@ plug-there [] t n = n
 plug-there (hole L N y ∷ gs) t n = plug-there gs (cell N t y) tt
 plug-there (hole R N y ∷ gs) t n = plug-there gs (cell N y t) tt
 
-module _ (st : State) (fs : List Frame) (B : Node) (l : Linked) (gs : List Frame) (C : Node) (y : Linked) (along : Along L gs) (left : NotNil l) (h : Rest st (plug fs (third₀ L B C 0 l y gs))) where
+module _ (st : State) (d : Double) (gs : List Frame) (along : Along L gs) (there-left : NotNil (d .left)) (h : Rest st (doubleTree d gs)) where
+  open Double d using (way as fs, B, C, left as l, right as y)
+
   abbrev f2 : ℕ → Colour
   f2 = colours (st .pool)
 
   abbrev T2 : Linked
-  T2 = plug fs (third₀ L B C 0 l y gs)
+  T2 = doubleTree d gs
 
   abbrev old : List Frame
-  old = gs ++ (hole R (standIn B C) l ∷ fs)
+  old = wayToC d gs
 
-  site : At st fs (third₀ L B C 0 l y gs)
-  site = rest-at h fs (third₀ L B C 0 l y gs) refl
+  site : At st fs (doubleTop d gs)
+  site = rest-at h fs (doubleTop d gs) refl
 
   capacity : Top st fs L B l (plug gs (at L C nil y))
   capacity = top-of st fs L B l (plug gs (at L C nil y)) site
@@ -137,7 +136,7 @@ module _ (st : State) (fs : List Frame) (B : Node) (l : Linked) (gs : List Frame
   topC : Top st (gs ++ (hole R B l ∷ fs)) L C nil y
   topC = top-of st (gs ++ (hole R B l ∷ fs)) L C nil y siteC
 
-  short : length gs + length fs + 2 ≤ 64
+  short : length gs + length fs + 2 ≤ pathBound
   short =
       let W1 = gs ++ (hole R B l ∷ fs) in
       let e : plug W1 (cell C nil y) ≡ T2 = plug-append gs (hole R B l ∷ fs) (cell C nil y) in
@@ -149,7 +148,7 @@ module _ (st : State) (fs : List Frame) (B : Node) (l : Linked) (gs : List Frame
   into = into-top fs L B l (plug gs (at L C nil y)) (ordered-bare f2 _ T2 (h .sound .proper .ordered))
 
   path : pathTo (st .pool) (st .register .root) (B .key) (linkTo fs) ≡ links fs
-  path = let a = short in path-to (st .pool) (st .register .root) (B .key) fs into (once-way fs (third₀ L B C 0 l y gs) (h .sound .once)) (omega arith) (site .way)
+  path = let a = short in path-to (st .pool) (st .register .root) (B .key) fs into (once-way fs (doubleTop d gs) (h .sound .once)) (omega arith) (site .way)
 
   successor : successorPath (st .pool) (B .num) (links fs) ≡ links (gs ++ (hole R B l ∷ fs))
   successor = successor-path (st .pool) (st .register .root) gs fs B C l y along short siteC
@@ -164,13 +163,13 @@ module _ (st : State) (fs : List Frame) (B : Node) (l : Linked) (gs : List Frame
   deleteFixups e =
       rw (way-append f2 gs (hole R (standIn B C) l ∷ fs))
       (other-deleteFixup (eraseWay f2 fs) (eraseWay f2 gs) (f2 (B .num)) (B .key) (B .val) (erase f2 l) (C .key) (C .val) (erase f2 y) (colourOf (erase f2 y))
-      (rw (erase-plug f2 fs (third₀ L B C 0 l y gs), erase-plug f2 gs (cell C nil y), e) at (h .sound .proper .redblack)))
+      (rw (erase-plug f2 fs (doubleTop d gs), erase-plug f2 gs (cell C nil y), e) at (h .sound .proper .redblack)))
 
   goal : SeqDelete.delete (erase f2 T2) (B .key) ≡ lose (f2 (C .num)) (eraseWay f2 old) (erase f2 y)
-  goal = delete-other f2 fs gs B C l y into along left ∙ rw (way-append f2 gs (hole R (standIn B C) l ∷ fs))
+  goal = delete-other f2 fs gs B C l y into along there-left ∙ rw (way-append f2 gs (hole R (standIn B C) l ∷ fs))
 
-  good : Proper (SeqDelete.delete (erase f2 T2) (B .key))
-  good = changed-proper (erase f2 T2) (deletion (B .key)) (h .sound .proper)
+  double-plan : DoublePlan f2 (SeqDelete.delete (erase f2 T2) (B .key)) d gs
+  double-plan = record { along = along; sound = h .sound; proper = changed-proper (erase f2 T2) (deletion (B .key)) (h .sound .proper); deletes = refl; goal = goal }
 
   ending : fixupAfterRemoval (st .pool) (C .num) (child (st .pool) R (C .num)) (links old) .ending ≡ removalEnding (f2 (C .num)) f2 (colourOf (erase f2 y)) old
   ending = removal-ending (st .pool) (C .num) (child (st .pool) R (C .num)) (colourOf (erase f2 y)) old is-red sides deleteFixups
@@ -185,33 +184,35 @@ module _ (st : State) (fs : List Frame) (B : Node) (l : Linked) (gs : List Frame
       (plan (store (linkTo fs) (Publish (C .num)) ∷ store (linkTo fs) (Detach (B .key)) ∷ []) (removalEnding (f2 (C .num)) f2 (colourOf (erase f2 y)) old))
   unfolding deletePlan
   two-plan =
-      let two = two-yes (st .pool) (B .num) (there (st .pool) _ l left (capacity .near)) (there (st .pool) _ (plug gs (cell C nil y)) (plug-there gs (cell C nil y) tt) (capacity .far)) in
+      let two = two-yes (st .pool) (B .num) (there (st .pool) _ l there-left (capacity .near)) (there (st .pool) _ (plug gs (cell C nil y)) (plug-there gs (cell C nil y) tt) (capacity .far)) in
       rw (capacity .words .key-is, path, two, successor, topC .is) (rw (links-stand gs B C l fs, ending, capacity .words .key-is))
 
 -- the second form: C is B's right child
-pub delete-second : (st : State) (fs : List Frame) (B : Node) (l : Linked) (C : Node) (y : Linked) → NotNil l → Rest st (plug fs (cell B l (cell C nil y)))
-    → Planned st (SeqDelete.delete (erase (colours (st .pool)) (plug fs (cell B l (cell C nil y)))) (B .key)) (plug fs (cell B l (cell C nil y))) (deletePlan st (linkTo fs) (B .num))
-delete-second st fs B l C y left h =
-    let t = topC st fs B l [] C y tt left h in
-    let low : child (st .pool) L (child (st .pool) R (B .num)) ≡ 0 = rw (capacity st fs B l [] C y tt left h .far .0 .is) (t .near) in
-    rw (two-plan st fs B l [] C y tt left h, eq-eqb (child (st .pool) L (child (st .pool) R (B .num))) 0 low) record {
-      possible = rw (gone st fs B l [] C y tt left h);
-      phase = adopt-0 fs B C l y (site st fs B l [] C y tt left h) (h .sound) (good st fs B l [] C y tt left h) refl (goal st fs B l [] C y tt left h);
+abbrev DoublePlanned : State → Double → List Frame → Type 0
+DoublePlanned st d gs = NotNil (d .left) → Rest st (doubleTree d gs)
+    → Planned st (SeqDelete.delete (erase (colours (st .pool)) (doubleTree d gs)) (d .B .key)) (doubleTree d gs) (deletePlan st (linkTo (d .way)) (d .B .num))
+
+pub delete-second : (st : State) (d : Double) → DoublePlanned st d []
+delete-second st d left h =
+    let b = d .B .num in
+    let low : child (st .pool) L (child (st .pool) R b) ≡ 0 = rw (capacity st d [] tt left h .far .0 .is) (topC st d [] tt left h .near) in
+    rw (two-plan st d [] tt left h, eq-eqb (child (st .pool) L (child (st .pool) R b)) 0 low) record {
+      possible = rw (gone st d [] tt left h);
+      phase = adopt-0 d (site st d [] tt left h) (double-plan st d [] tt left h);
     }
 
 -- the third
-pub delete-third : (st : State) (fs : List Frame) (B : Node) (l : Linked) (N : Node) (u : Linked) (gs : List Frame) (C : Node) (y : Linked) → Along L (hole L N u ∷ gs) → NotNil l
-    → Rest st (plug fs (third₀ L B C 0 l y (hole L N u ∷ gs)))
-    → Planned st (SeqDelete.delete (erase (colours (st .pool)) (plug fs (third₀ L B C 0 l y (hole L N u ∷ gs)))) (B .key)) (plug fs (third₀ L B C 0 l y (hole L N u ∷ gs))) (deletePlan st (linkTo fs) (B .num))
-delete-third st fs B l N u gs C y along left h =
+pub delete-third : (st : State) (d : Double) (N : Node) (u : Linked) (gs : List Frame) → Along L (hole L N u ∷ gs) → DoublePlanned st d (hole L N u ∷ gs)
+delete-third st d N u gs along left h =
     let hs = hole L N u ∷ gs in
     let p = st .pool in
-    let o = outer gs N (cell C nil y) u (along .1) tt in
-    let rep : Rep p (child p R (B .num)) (cell (o .capacity) (o .left) (o .right)) = subst (λ t. Rep p (child p R (B .num)) t) (o .is) (capacity st fs B l hs C y along left h .far) in
-    let low : child p L (child p R (B .num)) ≢ 0 = rw (rep .0 .is) (there p _ (o .left) (o .left-there) (rep .1)) in
-    rw (two-plan st fs B l hs C y along left h, ne-eqb (child p L (child p R (B .num))) 0 low) record {
-      possible = rw (gone st fs B l hs C y along left h);
-      phase = publish-0 fs hs B C l y along (site st fs B l hs C y along left h) (h .sound) (good st fs B l hs C y along left h) refl (goal st fs B l hs C y along left h);
+    let b = d .B .num in
+    let o = outer gs N (cell (d .C) nil (d .right)) u (along .1) tt in
+    let rep : Rep p (child p R b) (cell (o .capacity) (o .left) (o .right)) = subst (λ t. Rep p (child p R b) t) (o .is) (capacity st d hs along left h .far) in
+    let low : child p L (child p R b) ≢ 0 = rw (rep .0 .is) (there p _ (o .left) (o .left-there) (rep .1)) in
+    rw (two-plan st d hs along left h, ne-eqb (child p L (child p R b)) 0 low) record {
+      possible = rw (gone st d hs along left h);
+      phase = publish-0 d hs (site st d hs along left h) (double-plan st d hs along left h);
     }
 
 -- a tree that is there has a least node, at the end of a way that turns left
@@ -234,18 +235,23 @@ delete-planned st fs B nil r h = delete-one st fs R B r h
 delete-planned st fs B (cell M x y) nil h = delete-one st fs L B (cell M x y) h
 delete-planned st fs B (cell M x y) (cell N u v) h = go (m .way) (m .node) (m .right) (m .along) (m .is)
   where
-    l : Linked
-    l = cell M x y
-
     m : Least (cell N u v)
     m = least (cell N u v) [] tt tt
 
+    place : Node → Linked → Double
+    place C w = record { way = fs; B = B; C = C; left = cell M x y; right = w }
+
+    T : Linked → Linked
+    T t = plug fs (cell B (cell M x y) t)
+
+    DeletePlanned : Linked → Type 0
+    DeletePlanned t = Planned st (SeqDelete.delete (erase (colours (st .pool)) (T t)) (B .key)) (T t) (deletePlan st (linkTo fs) (B .num))
+
     Goal : Linked → Type 0
-    Goal t = Rest st (plug fs (cell B (cell M x y) t))
-        → Planned st (SeqDelete.delete (erase (colours (st .pool)) (plug fs (cell B (cell M x y) t))) (B .key)) (plug fs (cell B (cell M x y) t)) (deletePlan st (linkTo fs) (B .num))
+    Goal t = Rest st (T t) → DeletePlanned t
 
     go : (gs : List Frame) (C : Node) (w : Linked) → Along L gs → plug gs (cell C nil w) ≡ cell N u v
-        → Planned st (SeqDelete.delete (erase (colours (st .pool)) (plug fs (cell B (cell M x y) (cell N u v)))) (B .key)) (plug fs (cell B (cell M x y) (cell N u v))) (deletePlan st (linkTo fs) (B .num))
-    go [] C w a e = subst Goal e (delete-second st fs B (cell M x y) C w tt) h
-    go (hole L P q ∷ gs) C w a e = subst Goal e (delete-third st fs B (cell M x y) P q gs C w a tt) h
+        → DeletePlanned (cell N u v)
+    go [] C w a e = subst Goal e (delete-second st (place C w) tt) h
+    go (hole L P q ∷ gs) C w a e = subst Goal e (delete-third st (place C w) P q gs a tt) h
     go (hole R P q ∷ gs) C w a e = let d = a .0 in let z : _≡_ {A = ℕ} 0 1 = cc in absurd (omega arith)

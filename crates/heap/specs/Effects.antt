@@ -3,9 +3,8 @@
 use Prim.Native.Nat.{ℕ}
 use mathlib.Core.Path.{refl}
 use mathlib.Core.Logic.{inl, inr}
-use mathlib.Core.Bool.{Bool, true, false}
+use mathlib.Core.Bool.{Bool, false}
 use mathlib.Core.List.{List}
-use mathlib.Core.Option.{Option, none, some}
 use Rattle.datatypes.specs.declared.Side.{Side}
 use Rattle.datatypes.specs.declared.Side.the-variants.{L}
 use Rattle.datatypes.specs.declared.Link.{Link}
@@ -13,13 +12,14 @@ use Rattle.tree.specs.Order.{Ord}
 use Rattle.tree.specs.Sorted.{Ordered}
 use Rattle.base.specs.Lists.{_∈_}
 use Rattle.tree.specs.Linked.{Node, Linked, nil, cell, at, path}
-use Rattle.tree.specs.LinkedOrder.{bare, ordered-within, into-top}
+use Rattle.tree.specs.LinkedOrder.{bare, ordered-within}
 use Rattle.tree.specs.Thin.{Thin}
-use Rattle.tree.specs.Zipper.{Frame, plug, Same, SameBut, same-lift, sameBut-lift, thin-lift}
-use Rattle.tree.specs.Rotations.{diag₀, diag₁, diag₂, zig₀, zig₁, zig₂, zig₃, diag-order, zig-order, diag-lower-find, diag-raise-find, zig-lower-A-find, zig-lower-C-find, zig-raise-find, diag-lower-path, diag-raise-path, zig-lower-A-path, zig-lower-C-path, zig-raise-path}
-use Rattle.tree.specs.Stores.{form₀, form₁, form₂, form-order, unlink-order, insert-find, insert-path, unlink-find, unlink-path, adopt-find, adopt-path, replace-find, replace-path}
-use Rattle.tree.specs.Successor.{third₀, third₁, third₂, third-order, Awaited, publish-find, publish-path, detach-find, detach-path}
-use Rattle.heap.specs.Shift.{Shift, by-insert, by-diag-lower, by-diag-raise, by-zig-A, by-zig-C, by-zig-raise, by-unlink, by-adopt, by-replace, by-publish, by-detach}
+use Rattle.tree.specs.Zipper.{Frame, plug, Same, same-lift, thin-lift, Thins}
+use Rattle.tree.specs.Rotations.{diag₀, diag₁, diag₂, zig₀, zig₁, zig₂, zig₃, diag-order, zig-order, diag-lower-find, diag-raise-find}
+use Rattle.tree.specs.Rotations.{zig-lower-A-find, zig-lower-C-find, zig-raise-find, diag-lower-path, diag-raise-path, zig-lower-A-path, zig-lower-C-path, zig-raise-path}
+use Rattle.tree.specs.Stores.{form₀, form₁, form₂, form-order, insert-path, unlink-path, adopt-find, adopt-path, replace-path}
+use Rattle.tree.specs.Successor.{third₀, third₁, third₂, third-order, detach-find, detach-path}
+use Rattle.heap.specs.Shift.{Shift, by-insert, by-diag-lower, by-diag-raise, by-zig-A, by-zig-C, by-zig-raise, by-unlink, by-adopt, by-replace, by-detach}
 
 diag-ord : (fs : List Frame) (s : Side) (B C : Node) (n : ℕ) (o x r : Linked) → Ordered (bare (plug fs (diag₀ s B C n o x r))) → Ord s (B .key) (C .key)
 diag-ord fs s B C n o x r h = diag-order s B C n o x r (ordered-within fs (diag₀ s B C n o x r) h)
@@ -28,7 +28,7 @@ zig-ord : (fs : List Frame) (s : Side) (A B C : Node) (m n : ℕ) (a x y r : Lin
 zig-ord fs s A B C m n a x y r h = zig-order s A B C m n a x y r (ordered-within fs (zig₀ s A B C m n a x y r) h)
 
 -- S1: every store but the list stores leaves each lookup's answer
-pub shift-same : {T U : Linked} {l : Link} {b : ℕ} {new gone : List ℕ} → Shift T U l b new gone false → Same T U
+pub shift-same : {T U : Linked} {l : Link} {b : ℕ} {new gone : List ℕ} {a : Bool} → Shift T U l b new gone false a → Same T U
 shift-same (by-diag-lower fs s B C n o x r h i z) = same-lift fs (diag₀ s B C n o x r) (diag₁ s B C n o x r) (diag-lower-find s B C n o x r)
 shift-same (by-diag-raise fs s B C n o x r h i z) = same-lift fs (diag₁ s B C n o x r) (diag₂ s B C n o x r) (diag-raise-find s B C n o x r (diag-ord fs s B C n o x r h))
 shift-same (by-zig-A fs s A B C m a x y r h i z) =
@@ -45,50 +45,23 @@ shift-same (by-adopt fs B C l y h i) =
 shift-same (by-detach fs gs B C n l y a h i z) =
     same-lift fs (third₁ L B C n l y gs) (third₂ L B C n l y gs) (detach-find L B C n l y gs (third-order L B C n l y gs (ordered-within fs (third₀ L B C n l y gs) h) .right))
 
--- a list store changes the answer at one key
-pub shift-but : {T U : Linked} {l : Link} {b : ℕ} {new gone : List ℕ} → Shift T U l b new gone true → (k : ℕ) × (o : Option ℕ) × SameBut k o T U
-shift-but (by-insert fs Z i z) = (Z .key, some (Z .val), sameBut-lift fs i (insert-find Z))
-shift-but (by-unlink fs s B x h i) = (B .key, none, sameBut-lift fs (into-top fs s B x nil h) (unlink-find s B x (unlink-order s B x (ordered-within fs (at s B x nil) h))))
-shift-but (by-replace fs B C l y h i) =
-    let e = form-order L B C l y (ordered-within fs (form₀ L B C l y) h) in
-    (B .key, none, sameBut-lift fs (into-top fs L B l (at L C nil y) h) (replace-find L B C l y (e .0) (e .1)))
-shift-but (by-publish fs gs B C n l y a h i z) =
-    (B .key, none, sameBut-lift fs (into-top fs L B l (plug gs (at L C nil y)) h) (publish-find L B C n l y gs (third-order L B C n l y gs (ordered-within fs (third₀ L B C n l y gs) h)) a))
-
--- S2: but for the keys that a publish awaits, the nodes of a path that do not leave stay in their order
-abbrev pub Waits : {T U : Linked} {l : Link} {b : ℕ} {new gone : List ℕ} {v : Bool} → Shift T U l b new gone v → ℕ → Type 0
-Waits (by-insert fs Z i z) q = ⊥
-Waits (by-diag-lower fs s B C n o x r h i z) q = ⊥
-Waits (by-diag-raise fs s B C n o x r h i z) q = ⊥
-Waits (by-zig-A fs s A B C m a x y r h i z) q = ⊥
-Waits (by-zig-C fs s A B C m n a x y r h i z k d) q = ⊥
-Waits (by-zig-raise fs s A B C m n a x y r h i z k d) q = ⊥
-Waits (by-unlink fs s B x h i) q = ⊥
-Waits (by-adopt fs B C l y h i) q = ⊥
-Waits (by-replace fs B C l y h i) q = ⊥
-Waits (by-publish fs gs B C n l y a h i z) q = Awaited L B C n l y gs q
-Waits (by-detach fs gs B C n l y a h i z) q = ⊥
-
-pub shift-thin : (P : ℕ → Type 0) {T U : Linked} {l : Link} {b : ℕ} {new gone : List ℕ} {v : Bool} (sh : Shift T U l b new gone v) → ((i : ℕ) → i ∈ gone → P i)
-    → (q : ℕ) → ¬ (Waits sh q) → Thin P (path T q) (path U q)
-shift-thin P (by-insert fs Z i z) g q w = thin-lift fs nil (cell Z nil nil) q (insert-path Z P q)
-shift-thin P (by-diag-lower fs s B C n o x r h i z) g q w = thin-lift fs (diag₀ s B C n o x r) (diag₁ s B C n o x r) q (diag-lower-path s B C n o x r P q)
-shift-thin P (by-diag-raise fs s B C n o x r h i z) g q w =
+-- S2: unless readers are awaited, the nodes of a path that do not leave stay in their order
+pub shift-thin : (P : ℕ → Type 0) {T U : Linked} {l : Link} {b : ℕ} {new gone : List ℕ} {v : Bool} → Shift T U l b new gone v false → ((i : ℕ) → i ∈ gone → P i) → Thins P T U
+shift-thin P (by-insert fs Z i z) g q = thin-lift fs nil (cell Z nil nil) q (insert-path Z P q)
+shift-thin P (by-diag-lower fs s B C n o x r h i z) g q = thin-lift fs (diag₀ s B C n o x r) (diag₁ s B C n o x r) q (diag-lower-path s B C n o x r P q)
+shift-thin P (by-diag-raise fs s B C n o x r h i z) g q =
     thin-lift fs (diag₁ s B C n o x r) (diag₂ s B C n o x r) q (diag-raise-path s B C n o x r (diag-ord fs s B C n o x r h) P (g (C .num) (inl refl)) q)
-shift-thin P (by-zig-A fs s A B C m a x y r h i z) g q w =
+shift-thin P (by-zig-A fs s A B C m a x y r h i z) g q =
     let e = zig-ord fs s A B C m 0 a x y r h in
     thin-lift fs (zig₀ s A B C m 0 a x y r) (zig₁ s A B C m 0 a x y r) q (zig-lower-A-path s A B C m 0 a x y r (e .0) (e .1) P q)
-shift-thin P (by-zig-C fs s A B C m n a x y r h i z k d) g q w =
+shift-thin P (by-zig-C fs s A B C m n a x y r h i z k d) g q =
     let e = zig-ord fs s A B C m n a x y r h in
     thin-lift fs (zig₁ s A B C m n a x y r) (zig₂ s A B C m n a x y r) q (zig-lower-C-path s A B C m n a x y r (e .0) (e .1) P q)
-shift-thin P (by-zig-raise fs s A B C m n a x y r h i z k d) g q w =
+shift-thin P (by-zig-raise fs s A B C m n a x y r h i z k d) g q =
     let e = zig-ord fs s A B C m n a x y r h in
     thin-lift fs (zig₂ s A B C m n a x y r) (zig₃ s A B C m n a x y r) q (zig-raise-path s A B C m n a x y r (e .0) (e .1) P (g (A .num) (inl refl)) (g (C .num) (inr (inl refl))) q)
-shift-thin P (by-unlink fs s B x h i) g q w = thin-lift fs (at s B x nil) x q (unlink-path s B x P (g (B .num) (inl refl)) q)
-shift-thin P (by-adopt fs B C l y h i) g q w = thin-lift fs (form₀ L B C l y) (form₁ L B C l y) q (adopt-path L B C l y P q)
-shift-thin P (by-replace fs B C l y h i) g q w =
+shift-thin P (by-unlink fs s B x h i) g q = thin-lift fs (at s B x nil) x q (unlink-path s B x P (g (B .num) (inl refl)) q)
+shift-thin P (by-adopt fs B C l y h i) g q = thin-lift fs (form₀ L B C l y) (form₁ L B C l y) q (adopt-path L B C l y P q)
+shift-thin P (by-replace fs B C l y h i) g q =
     thin-lift fs (form₁ L B C l y) (form₂ L B C l y) q (replace-path L B C l y (form-order L B C l y (ordered-within fs (form₀ L B C l y) h) .1) P (g (B .num) (inl refl)) q)
-shift-thin P (by-publish fs gs B C n l y a h i z) g q w =
-    thin-lift fs (third₀ L B C n l y gs) (third₁ L B C n l y gs) q
-    (publish-path L B C n l y gs (third-order L B C n l y gs (ordered-within fs (third₀ L B C n l y gs) h)) a P (g (B .num) (inl refl)) q w)
-shift-thin P (by-detach fs gs B C n l y a h i z) g q w = thin-lift fs (third₁ L B C n l y gs) (third₂ L B C n l y gs) q (detach-path L B C n l y gs P (g (C .num) (inl refl)) q)
+shift-thin P (by-detach fs gs B C n l y a h i z) g q = thin-lift fs (third₁ L B C n l y gs) (third₂ L B C n l y gs) q (detach-path L B C n l y gs P (g (C .num) (inl refl)) q)

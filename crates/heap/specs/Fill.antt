@@ -15,14 +15,14 @@ use Rattle.datatypes.specs.declared.Register.{Register}
 use Rattle.datatypes.specs.Side.{other}
 use Rattle.base.specs.Walk.{cond-both}
 use Rattle.spec.specs.Numbers.{nodeWords}
-use Rattle.spec.specs.Pool.{word, setWord, child, keyWord, recordWord, linkWord, colourWord, standingWord, holdersWord, nextWord, standingFree, standingRetired}
+use Rattle.spec.specs.Pool.{word, setWord, child, keyWord, recordWord, colourWord, standingWord, holdersWord, nextWord, standingFree, standingRetired}
 use Rattle.spec.specs.Register.{State, withQueue, readingSlots}
 use Rattle.spec.specs.Free.{queueEmpty, takeFree, fillNode, takeNode, freeNode, retire, retireTwo}
 use Rattle.spec.specs.FreeQueue.{InPool}
 use Rattle.laws.specs.Words.{length-setWord, word-set}
 use Rattle.tree.specs.Linked.{Linked, at, nodes}
 use Rattle.tree.specs.Occurs.{occ}
-use Rattle.heap.specs.Rep.{Rep, rep-at, Agree, rep-agree, Alike, alike-trans, alike-set}
+use Rattle.heap.specs.Rep.{Rep, rep-at, Agree, rep-agree, Alike, alike-trans, alike-set, upToColour}
 use Rattle.heap.specs.Colours.{hue, colours, colours-word, colours-is}
 
 -- q is p with node n filled
@@ -34,10 +34,6 @@ pub record Filled (p q : List ℕ) (n k v : ℕ) (s : Side) (x y c : ℕ) : Type
   pub near-is : child q s n ≡ x
   pub far-is : child q (other s) n ≡ y
   pub colour-is : colours q n ≡ hue c
-
-link-fits : (s : Side) → linkWord s < nodeWords
-link-fits L = omega arith
-link-fits R = omega arith
 
 pub fill-node : (p : List ℕ) (n k v : ℕ) (s : Side) (x y c : ℕ) → InPool p n → Filled p (fillNode p n k v s x y c) n k v s x y c
 unfolding fillNode
@@ -122,7 +118,7 @@ take-register st k v s x y c = record { root = refl; held = refl; readers = refl
 
 -- Retiring and freeing.
 pub record Quiet (st after : State) : Type 0 where
-  pub words : Alike 5 (st .pool) (after .pool)
+  pub words : Alike upToColour (st .pool) (after .pool)
   pub fields : Queued (st .register) (after .register)
 
 pub quiet-trans : {a b c : State} → Quiet a b → Quiet b c → Quiet a c
@@ -135,10 +131,11 @@ free-quiet st n =
     let a = setWord p n standingWord standingFree in
     let b = setWord a n holdersWord 0 in
     let d = setWord b (st .register .last) nextWord n in
-    let one = alike-trans (alike-set 5 p n standingWord standingFree (omega arith) (omega arith)) (alike-set 5 a n holdersWord 0 (omega arith) (omega arith)) in
-    let two : Alike 5 p (cond (queueEmpty st) b d) = cond-both (λ q. Alike 5 p q) (queueEmpty st) one (alike-trans one (alike-set 5 b (st .register .last) nextWord n (omega arith) (omega arith))) in
+    let one = alike-trans (alike-set upToColour p n standingWord standingFree (omega arith) (omega arith)) (alike-set upToColour a n holdersWord 0 (omega arith) (omega arith)) in
+    let queued = alike-trans one (alike-set upToColour b (st .register .last) nextWord n (omega arith) (omega arith)) in
+    let two : Alike upToColour p (cond (queueEmpty st) b d) = cond-both (λ q. Alike upToColour p q) (queueEmpty st) one queued in
     record {
-      words = alike-trans two (alike-set 5 (cond (queueEmpty st) b d) n nextWord 0 (omega arith) (omega arith));
+      words = alike-trans two (alike-set upToColour (cond (queueEmpty st) b d) n nextWord 0 (omega arith) (omega arith));
       fields = record { root = refl; held = refl; readers = refl; awaited = refl; write = refl };
     }
 
@@ -148,7 +145,8 @@ retire-quiet st n =
     let p = st .pool in
     let a = setWord p n standingWord standingRetired in
     cond-both (λ x. Quiet st x) (eqb (readingSlots (st .register)) 0) (free-quiet st n) record {
-      words = alike-trans (alike-set 5 p n standingWord standingRetired (omega arith) (omega arith)) (alike-set 5 a n holdersWord (readingSlots (st .register)) (omega arith) (omega arith));
+      words = alike-trans (alike-set upToColour p n standingWord standingRetired (omega arith) (omega arith))
+          (alike-set upToColour a n holdersWord (readingSlots (st .register)) (omega arith) (omega arith));
       fields = queued-refl (st .register);
     }
 

@@ -18,7 +18,7 @@ use Rattle.datatypes.specs.declared.Purpose.the-variants.{ForInsert, RedSibling
 use Rattle.datatypes.specs.declared.Ending.{Ending}
 use Rattle.datatypes.specs.declared.Ending.the-variants.{Balanced, Blacken, Rotate, RotateTwice, Missing}
 use Rattle.datatypes.specs.Side.{other, sameSide, linkAt, sideOf, owner-at}
-use Rattle.spec.specs.Pool.{child, isRed}
+use Rattle.spec.specs.Pool.{child, isRed, leftWord, rightWord}
 use Rattle.spec.specs.Plan.{fixupResult, rotation, insertFixup, redChild, blackSibling}
 use Rattle.spec.specs.FreeQueue.{InPool}
 use Rattle.laws.specs.Words.{word-none}
@@ -31,7 +31,7 @@ use Rattle.tree.specs.Erase.{erase, eraseWay}
 use Rattle.tree.specs.InsertFixup as InsertFixup
 use Rattle.tree.specs.InsertFixup.{InsertFixupEnd, balanced, rotate, rootRed}
 use Rattle.tree.specs.DeleteFixup.{Nephew, noNephew, nephew, DeleteFixupEnd, darken, blackSiblingOf, passed, nephewOf}
-use Rattle.heap.specs.Rep.{Rep, Alike, rep-alike}
+use Rattle.heap.specs.Rep.{Rep, Alike, rep-alike, upToLinks}
 use Rattle.heap.specs.Sites.{linkTo, links, Way}
 use Rattle.heap.specs.Colours.{redly, colours, red-is, red-tree}
 
@@ -48,15 +48,15 @@ pub way-sides : (p : List ℕ) (root : ℕ) (fs : List Frame) → Way p root fs 
 way-sides p root [] w = tt
 way-sides p root (hole s N y ∷ fs) w = (w .0 .within, w .1, way-sides p root fs (w .2))
 
-pub sides-alike : {p q : List ℕ} → Alike 4 p q → (fs : List Frame) → Sides p fs → Sides q fs
+pub sides-alike : {p q : List ℕ} → Alike upToLinks p q → (fs : List Frame) → Sides p fs → Sides q fs
 sides-alike a [] w = tt
 sides-alike {p} {q} a (hole s N y ∷ fs) w =
     let e : child q (other s) (N .num) ≡ child p (other s) (N .num) = kept s in
     (record { low = w .0 .low; high = rw (a .size) (w .0 .high) }, rw e (rep-alike a y _ (w .1)), sides-alike a fs (w .2))
   where
     kept : (s : Side) → child q (other s) (N .num) ≡ child p (other s) (N .num)
-    kept L = a .words (N .num) 3 (omega arith)
-    kept R = a .words (N .num) 2 (omega arith)
+    kept L = a .words (N .num) rightWord (omega arith)
+    kept R = a .words (N .num) leftWord (omega arith)
 
 -- Insert's climb.
 abbrev pub pairsUp : ℕ → List Frame → List Frame
@@ -119,8 +119,8 @@ childOf L (cell N l r) = l
 childOf R (cell N l r) = r
 
 pub rep-child : (p : List ℕ) (s : Side) (w : ℕ) (y : Linked) → Rep p w y → Rep p (child p s w) (childOf s y)
-rep-child p L w nil h = rw h (word-none p 2)
-rep-child p R w nil h = rw h (word-none p 3)
+rep-child p L w nil h = rw h (word-none p leftWord)
+rep-child p R w nil h = rw h (word-none p rightWord)
 rep-child p L w (cell N l r) h = let i = h .0 .is in rw i (h .1)
 rep-child p R w (cell N l r) h = let i = h .0 .is in rw i (h .2)
 

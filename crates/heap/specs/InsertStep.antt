@@ -14,7 +14,7 @@ use Rattle.datatypes.specs.declared.Step.the-variants.{Insert}
 use Rattle.spec.specs.Pool.{redColour, blackColour}
 use Rattle.spec.specs.Register.{State, state, setLink, withHeld}
 use Rattle.spec.specs.Free.{takeNode}
-use Rattle.spec.specs.Plan.{endingStores, paintInsertFixup}
+use Rattle.spec.specs.Plan.{endingStores, paintInsertFixup, store}
 use Rattle.spec.specs.Turn.{made, oneMore, blackRoot, endInsert, insertStore, stepFinds}
 use Rattle.sequential.specs.Tree as Seq
 use Rattle.sequential.specs.Tree.{Colour, red, black, Tree, node, leaf}
@@ -24,9 +24,10 @@ use Rattle.tree.specs.Sorted.{NotLeaf}
 use Rattle.tree.specs.Changes.{Proper, changed-proper}
 use Rattle.tree.specs.Linked.{Node, Linked, nil, cell, at, nodes}
 use Rattle.tree.specs.LinkedOrder.{ordered-bare}
-use Rattle.tree.specs.Zipper.{Frame, hole, plug, Into, find-into, sameBut-lift}
+use Rattle.tree.specs.Zipper.{Frame, hole, plug, find-into, sameBut-lift}
 use Rattle.tree.specs.Stores.{insert-find}
 use Rattle.tree.specs.Erase.{erase, eraseWay, erase-plug, erase-find}
+use Rattle.tree.specs.Height.{mostHeight}
 use Rattle.tree.specs.Forms.{insert-linked}
 use Rattle.tree.specs.Ways.{insert-insertFixup}
 use Rattle.tree.specs.Occurs.{occWay, occ-plug, turnover-plug, insert-turnover}
@@ -43,7 +44,7 @@ use Rattle.heap.specs.Lowers.{not-empty}
 use Rattle.heap.specs.ColourWork.{colours-trans, colours-insertFixup, colours-insert}
 use Rattle.heap.specs.Parts.{filled, same-queue, queue-trans, held-queue, parts-of}
 use Rattle.heap.specs.Tolds.{Told, told-insert}
-use Rattle.heap.specs.Phase.{insertEnding, Sound, Lined, Phase, at-rest}
+use Rattle.heap.specs.Phase.{insertEnding, InsertPlan, Lined, Phase, at-rest}
 use Rattle.heap.specs.Shift.{by-insert, Next, once-turnover}
 use Rattle.heap.specs.Inserts.{Small, way-short, once-way, insert-fixup, Stops, stops-balanced, stops-turn, insertFixup-stops, stops-there, turn-phase}
 
@@ -109,8 +110,9 @@ module _ (after : State) (G : Tree) (T : Linked) (once : Once T) (good : Proper 
       rw (sym same) (turn-phase (after .pool) (after .register .root) G u s (turns b z) there h lined good goal)
   insertFixup-phase U rootRed u s there same h lined goal = absurd (no-root s)
 
-module _ (st : State) (G : Tree) (k v : ℕ) (fs : List Frame) (h : At st fs nil) (good : Sound (st .pool) (plug fs nil)) (into : Into k fs)
-    (goal : G ≡ SeqInsert.insert (erase (colours (st .pool)) (plug fs nil)) k v) (small : Small (st .pool)) (fresh : Fresh st (plug fs nil)) where
+module _ (st : State) (G : Tree) (k v : ℕ) (fs : List Frame) (h : At st fs nil) (plan : InsertPlan (colours (st .pool)) G k v fs) (small : Small (st .pool)) (fresh : Fresh st (plug fs nil)) where
+  open InsertPlan plan using (sound as good, into, goal)
+
   abbrev f : ℕ → Colour
   f = colours (st .pool)
 
@@ -129,7 +131,7 @@ module _ (st : State) (G : Tree) (k v : ℕ) (fs : List Frame) (h : At st fs nil
   abbrev coloured : State
   coloured = state (paintInsertFixup levels (links fs) (linked .pool)) (oneMore linked .register)
 
-  short : length fs ≤ 20
+  short : length fs ≤ mostHeight
   short = let a = way-short (st .pool) (st .register .root) fs nil small h good in omega arith
 
   insert-is : insertStore st (linkTo fs) k v ≡ made (endInsert (insertEnding f fs) coloured) (linkTo fs) n
@@ -171,21 +173,25 @@ module _ (st : State) (G : Tree) (k v : ℕ) (fs : List Frame) (h : At st fs nil
       = goal ∙ insert-linked f fs k v into ∙ ap (Seq.paint black) (fixup-insertFixup (eraseWay f fs) (node red k v leaf leaf)) ∙ rw (way, sub) in
       let once : Once T = once-turnover [] n (plug fs nil) T (turnover-plug fs [] (n ∷ []) nil (cell Z nil nil) (insert-turnover Z)) (good .once) (fresh .new) in
       let ordered = writes-whole fs nil (cell Z nil nil) into (insert-writes Z) .ordered (ordered-bare f _ (plug fs nil) (good .proper .ordered)) in
-      let told : Told G T = told-insert G (erase f (plug fs nil)) k v (plug fs nil) T goal (good .proper .ordered) (erase-find f (plug fs nil)) (find-into fs nil k into) (sameBut-lift fs into (insert-find Z)) in
+      let told : Told G T = told-insert G (erase f (plug fs nil)) k v (plug fs nil) T goal (good .proper .ordered) (erase-find f (plug fs nil))
+      (find-into fs nil k into) (sameBut-lift fs into (insert-find Z)) in
       let lined : Lined G (plug U u) = rw same (record { once = once; ordered = ordered; told = told }) in
       let proper : Proper G = rw goal (changed-proper (erase f (plug fs nil)) (insertion k v) (good .proper)) in
       insertFixup-phase coloured G T once proper U (InsertFixup.insertFixup (eraseWay f fs) .end) u stops (risen-there gg levels fs (cell Z nil nil) tt) same
       (site-of (coloured .pool) (coloured .register .root) U u (rw same (of-site (coloured .pool) (coloured .register .root) fs (cell Z nil nil) site))) lined is
 
-  pub insert-0-next : Next st G (plug fs nil) (insertStore st (linkTo fs) k v) (Insert k v) (endingStores (insertEnding f fs))
-  insert-0-next = let a : Fields (st .register) (endInsert (insertEnding f fs) coloured .register)
-      = fields-trans (in-tree .fields) (fields-trans (held-fields (linked .register) _) (same-fields (end-register (insertEnding f fs) coloured))) in rw insert-is record {
+  pub insert-0-next : Next st G (plug fs nil) (insertStore st (linkTo fs) k v) (store (linkTo fs) (Insert k v)) (endingStores (insertEnding f fs))
+  insert-0-next =
+      let a : Fields (st .register) (endInsert (insertEnding f fs) coloured .register)
+      = fields-trans (in-tree .fields) (fields-trans (held-fields (linked .register) _) (same-fields (end-register (insertEnding f fs) coloured))) in
+      rw insert-is record {
         tree = plug fs (cell Z nil nil);
         gone = [];
         shift = by-insert fs Z into (fresh .new);
         phase = phase-after;
         parts = parts-of st (takeNode st k v L 0 0 redColour) (endInsert (insertEnding f fs) coloured) _ (linkTo fs) n (n ∷ []) [] (filled k v L 0 0 redColour)
-            (colours-trans (colours-insertFixup levels (links fs) (linked .pool)) (colours-insert (insertEnding f fs) coloured)) (queue-trans (held-queue (linked .register) _) (same-queue (end-register (insertEnding f fs) coloured))) refl;
+            (colours-trans (colours-insertFixup levels (links fs) (linked .pool)) (colours-insert (insertEnding f fs) coloured))
+            (queue-trans (held-queue (linked .register) _) (same-queue (end-register (insertEnding f fs) coloured))) refl;
         size = end-size (insertEnding f fs) coloured ∙ tint .tinted .links-kept .size ∙ in-tree .size;
         held = ap (λ r. r .held) (end-register (insertEnding f fs) coloured) ∙ held-is (linked .register) _ ∙ rw (in-tree .size, in-tree .held);
         fields = record { readers = a .readers; awaited = a .awaited; write = a .write };

@@ -1,6 +1,6 @@
 -- The store of an insert: the climb that its turn makes is the planned one, its colours are the tree's, and the phase after it is rest or
 -- the rotation that the climb ended with.
-use Prim.Native.Nat.{ℕ, _+_, _≤_}
+use Prim.Native.Nat.{ℕ, _+_, _≤_, _*_}
 use mathlib.Core.Path.{_≡_, refl, sym, ap, _∙_}
 use mathlib.Core.Logic.{inl, inr, ⊎-elim}
 use mathlib.Core.Bool.{Bool, true, false}
@@ -10,7 +10,7 @@ use native.Mathlib.Omega.{arith}
 use native.Mathlib.Nat.{zero-add}
 use Rattle.datatypes.specs.declared.Side.{Side}
 use Rattle.datatypes.specs.Side.{other, sameSide, owner-at}
-use Rattle.spec.specs.Numbers.{pathBound}
+use Rattle.spec.specs.Numbers.{nodeWords, mostNodes, pathBound}
 use Rattle.spec.specs.Register.{State}
 use Rattle.spec.specs.Plan.{fixupResult, endingStores, missing, insertFixup, fixupAfterInsert}
 use Rattle.spec.specs.FreeQueue.{InPool}
@@ -19,7 +19,7 @@ use Rattle.sequential.specs.Tree.{Colour, red, black, Tree, mk, colourOf}
 use Rattle.tree.specs.Sorted.{NotLeaf, colour-case, Seen, outer, inner, seen}
 use Rattle.tree.specs.Changes.{Proper}
 use Rattle.tree.specs.RedBlack.{RedBlack}
-use Rattle.tree.specs.Height.{height, height-1023}
+use Rattle.tree.specs.Height.{height, height-1023, mostHeight}
 use Rattle.base.specs.Lists.{_∈_, in-append}
 use Rattle.tree.specs.Linked.{Node, Linked, nil, cell, at, nodes, at-other}
 use Rattle.tree.specs.Zipper.{Frame, hole, plug, Into}
@@ -36,26 +36,26 @@ use Rattle.heap.specs.Moves.{Once}
 use Rattle.heap.specs.Phase.{forInsert, insertEnding, Sound, Lined, Phase, diag-0, zig-0}
 use Rattle.heap.specs.RaiseSteps.{split}
 
--- at most 1,023 nodes
+-- a pool of the largest N or fewer nodes
 abbrev pub Small : List ℕ → Type 0
-Small p = length p ≤ 8184
+Small p = length p ≤ mostNodes * nodeWords
 
 pub rep-range : (p : List ℕ) (a : ℕ) (t : Linked) (n : ℕ) → Rep p a t → n ∈ nodes t → InPool p n
 rep-range p a nil n h i = absurd i
 rep-range p a (cell N l r) n h (inl e) = rw e (h .0 .within)
 rep-range p a (cell N l r) n h (inr i) = ⊎-elim (λ j. rep-range p _ l n (h .1) j) (λ j. rep-range p _ r n (h .2) j) (in-append n (nodes l) (nodes r) .0 i)
 
--- so a way of a sound tree of the pool's nodes has at most 20 nodes
+-- so a way of a sound tree of the pool's nodes has at most mostHeight nodes
 pub way-bound : (p : List ℕ) (f : ℕ → Colour) (fs : List Frame) (t : Linked) → Small p → Once (plug fs t) → RedBlack (erase f (plug fs t)) → ((n : ℕ) → n ∈ nodes (plug fs t) → InPool p n)
-    → length fs + height (erase f t) ≤ 20
+    → length fs + height (erase f t) ≤ mostHeight
 way-bound p f fs t small once good within =
     let T = plug fs t in
-    let n = size-bound f T 1023 (occ-distinct (nodes T) once) (λ n i. let w = within n i in let a = w .low in let b = w .high in (omega arith, omega arith)) in
+    let n = size-bound f T mostNodes (occ-distinct (nodes T) once) (λ n i. let w = within n i in let a = w .low in let b = w .high in (omega arith, omega arith)) in
     let a = height-1023 (erase f T) good n in
     let b = depth f fs t in
     omega arith
 
-pub way-short : (p : List ℕ) (root : ℕ) (fs : List Frame) (t : Linked) → Small p → Site p root fs t → Sound p (plug fs t) → length fs + height (erase (colours p) t) ≤ 20
+pub way-short : (p : List ℕ) (root : ℕ) (fs : List Frame) (t : Linked) → Small p → Site p root fs t → Sound p (plug fs t) → length fs + height (erase (colours p) t) ≤ mostHeight
 way-short p root fs t small h good =
     way-bound p (colours p) fs t small (good .once) (good .proper .redblack) (λ n i. rep-range p root (plug fs t) n (of-site p root fs t h) i)
 
@@ -120,7 +120,8 @@ module _ (q : List ℕ) (root : ℕ) (G : Tree) where
   turn-outer : (z : Side) (P Q : Node) (y a : Linked) (fs : List Frame) (u : Linked) → Turning (hole z P y ∷ hole z Q a ∷ fs) (rotate true z) u
   turn-outer z P Q y a fs u h lined good goal =
       let i = site-of q root fs (at z Q (at z P u y) a) (of-site q root (hole z P y ∷ hole z Q a ∷ fs) u h) in
-      diag-0 forInsert fs z P Q u y a i lined good tt (goal ∙ rw (erase-at g z P u y))
+      diag-0 forInsert (record { way = fs; side = z; B = P; C = Q; outer = u; inner = y; far = a }) i
+      (record { lined = lined; proper = good; needs = tt; goal = goal ∙ rw (erase-at g z P u y) })
 
   turn-inner : (z : Side) (P Q : Node) (y a : Linked) (fs : List Frame) (u : Linked) → NotLeaf (erase g u) → Turning (hole (other z) P y ∷ hole z Q a ∷ fs) (rotate false z) u
   turn-inner z P Q y a fs u there = split (Turning (hole (other z) P y ∷ hole z Q a ∷ fs) (rotate false z)) z go g u there
@@ -132,7 +133,8 @@ module _ (q : List ℕ) (root : ℕ) (G : Tree) where
           let i : Site q root fs (at z Q (at z P y (at z N l r)) a) = site-of q root fs _ (rw same at (of-site q root (hole (other z) P y ∷ hole z Q a ∷ fs) (at z N l r) h)) in
           let c : mk (other z) (g (P .num)) (P .key) (P .val) (erase g (at z N l r)) (erase g y) ≡ erase g (at z P y (at z N l r))
           = sym (erase-at g (other z) P (at z N l r) y) ∙ ap (erase g) e in
-          rw same (zig-0 true fs z P N Q y l r a i (rw same at lined) good (goal ∙ rw c))
+          rw same (zig-0 true (record { way = fs; side = z; A = P; B = N; C = Q; outer = y; innerA = l; innerC = r; far = a }) i
+          (record { lined = rw same at lined; proper = good; goal = goal ∙ rw c }))
 
   pub turn-phase : {U : List Frame} {e : InsertFixupEnd} (u : Linked) → Stops U e → ¬ (e ≡ balanced) → NotLeaf (erase g u) → Turning U e u
   turn-phase u stops-balanced n there = absurd (n refl)

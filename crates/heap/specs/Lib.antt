@@ -7,6 +7,7 @@ pub mod Fixups
 pub mod DeleteFixupRun
 pub mod Paints
 pub mod Moves
+pub mod Places
 pub mod Lowers
 pub mod Raises
 pub mod ZigRaises
@@ -37,4 +38,3 @@ pub mod Accept
 pub mod Effects
 pub mod Nodes
 pub mod Settle
-pub mod Run

@@ -1,7 +1,7 @@
 -- The stores of the rotations that take a copy: diag lower, zig lower A, zig lower C. Each with the tree at its place, the colours, the
 -- register's fields, and that it finds its nodes.
 use Prim.Native.Nat.{ℕ, _+_, _≤_}
-use mathlib.Core.Path.{_≡_, refl}
+use mathlib.Core.Path.{_≡_, refl, ap, _∙_}
 use mathlib.Core.Bool.{true, false}
 use mathlib.Core.List.{List, _∷_}
 use lib.Dec.{eqb}
@@ -18,10 +18,10 @@ use Rattle.spec.specs.Turn.{made, copyColour, diagLower, zigLowerA, zigLowerC, 
 use Rattle.tree.specs.Linked.{Node, copy, Linked, at, nodes, at-other}
 use Rattle.tree.specs.Zipper.{Frame, hole, plug}
 use Rattle.tree.specs.Occurs.{one, one-same, occ, occ-at, occWay, occ-plug}
-use Rattle.tree.specs.Rotations.{diag₁, zig₁, zig₂}
 use Rattle.heap.specs.Rep.{Words, Rep, rep-at}
 use Rattle.heap.specs.Sites.{linkTo, site-down, site-up}
 use Rattle.heap.specs.Moves.{At, Fresh, Once, new-apart, Linked-in, link-in}
+use Rattle.heap.specs.Places.{Diag, diagTop, diagTree, diagWayB, diagLow, Zig, zigTop, zigTree, zigWayB, withInners, zigLowA, zigLowC}
 
 pub is-node : (n : ℕ) → 1 ≤ n → isNode n ≡ true
 is-node n h = rw (ne-eqb n 0 (omega arith))
@@ -66,174 +66,203 @@ far-up : {st after : State} {c : ℕ} (fs : List Frame) (s : Side) (N : Node) (x
 far-up {st} {after} {c} fs s N x y h = rw (at-other s N x y) at (near-up {st = st} {after = after} {c = c} fs (other s) N y x h)
 
 -- How often a node stands in the tree around a rotation.
-pub diag-count : (fs : List Frame) (s : Side) (B C : Node) (o x r : Linked) (i : ℕ)
-    → occ i (nodes (plug fs (at s C (at s B o x) r))) ≡ one i (C .num) + (one i (B .num) + occ i (nodes o) + occ i (nodes x)) + occ i (nodes r) + occWay i fs
-diag-count fs s B C o x r i = simp (occ-plug, occ-at) (omega arith)
+module _ (d : Diag) where
+  open Diag d using (way as fs, side as s, B, C, outer as o, inner as x, far as r)
 
-pub zig-count : (fs : List Frame) (s : Side) (A B C : Node) (a x y r : Linked) (i : ℕ)
-    → occ i (nodes (plug fs (at s C (at s A a (at s B x y)) r)))
-    ≡ one i (C .num) + (one i (A .num) + occ i (nodes a) + (one i (B .num) + occ i (nodes x) + occ i (nodes y))) + occ i (nodes r) + occWay i fs
-zig-count fs s A B C a x y r i = simp (occ-plug, occ-at) (omega arith)
+  pub diag-count : (i : ℕ) → occ i (nodes (diagTree d)) ≡ one i (C .num) + (one i (B .num) + occ i (nodes o) + occ i (nodes x)) + occ i (nodes r) + occWay i fs
+  diag-count i = simp (occ-plug, occ-at) (omega arith)
+
+module _ (d : Zig) where
+  open Zig d using (way as fs, side as s, A, B, C, outer as a, innerA as x, innerC as y, far as r)
+
+  pub zig-count : (i : ℕ) → occ i (nodes (zigTree d))
+      ≡ one i (C .num) + (one i (A .num) + occ i (nodes a) + (one i (B .num) + occ i (nodes x) + occ i (nodes y))) + occ i (nodes r) + occWay i fs
+  zig-count i = simp (occ-plug, occ-at) (omega arith)
+
+-- The nodes at the place of a rotation.
+module _ (st : State) (d : Diag) where
+  open Diag d using (way as fs, side as s, B, C, outer as o, inner as x, far as r)
+
+  pub record DiagNodes : Type 0 where
+    pub topC : Top st fs s C (at s B o x) r
+    pub is-B : child (st .pool) s (C .num) ≡ B .num
+    pub placeB : At st (diagWayB d) (at s B o x)
+    pub topB : Top st (diagWayB d) s B o x
+
+  pub diag-nodes : At st fs (diagTop d) → DiagNodes
+  diag-nodes h =
+      let t = top-of st fs s C (at s B o x) r h in
+      let b = near-down st fs s C (at s B o x) r h in
+      record { topC = t; is-B = below-is st s s (C .num) B o x (t .near); placeB = b; topB = top-of st (diagWayB d) s B o x b }
+
+module _ (st : State) (d : Zig) where
+  open Zig d using (way as fs, side as s, A, B, C, outer as a, innerA as x, innerC as y, far as r)
+
+  pub record ZigNodes : Type 0 where
+    pub topC : Top st fs s C (at s A a (at s B x y)) r
+    pub is-A : child (st .pool) s (C .num) ≡ A .num
+    pub topA : Top st (hole s C r ∷ fs) s A a (at s B x y)
+    pub is-B : child (st .pool) (other s) (A .num) ≡ B .num
+    pub placeB : At st (zigWayB d) (at s B x y)
+    pub topB : Top st (zigWayB d) s B x y
+
+  pub zig-nodes : At st fs (zigTop d) → ZigNodes
+  zig-nodes h =
+      let t = top-of st fs s C (at s A a (at s B x y)) r h in
+      let ha = near-down st fs s C (at s A a (at s B x y)) r h in
+      let ta = top-of st (hole s C r ∷ fs) s A a (at s B x y) ha in
+      let hb = far-down st (hole s C r ∷ fs) s A a (at s B x y) ha in
+      record {
+        topC = t;
+        is-A = below-is st s s (C .num) A a (at s B x y) (t .near);
+        topA = ta;
+        is-B = below-is st (other s) s (A .num) B x y (ta .far);
+        placeB = hb;
+        topB = top-of st (zigWayB d) s B x y hb;
+      }
 
 -- diag lower
-module _ (st : State) (fs : List Frame) (s : Side) (purpose : Purpose) (B C : Node) (o x r : Linked)
-    (h : At st fs (at s C (at s B o x) r)) (once : Once (plug fs (at s C (at s B o x) r))) (fresh : Fresh st (plug fs (at s C (at s B o x) r))) where
+module _ (st : State) (purpose : Purpose) (d : Diag) (h : At st (d .way) (diagTop d)) (once : Once (diagTree d)) (fresh : Fresh st (diagTree d)) where
+  open Diag d using (way as fs, side as s, B, C, outer as o, inner as x, far as r)
+
   abbrev n : ℕ
   n = st .register .first
 
-  pub diag-lower-is : diagLower st (linkTo fs) s purpose
-      ≡ made (setLink (takeNode st (C .key) (C .val) s (child (st .pool) (other s) (B .num)) (child (st .pool) (other s) (C .num)) (copyColour purpose)) (linkAt (other s) (B .num)) n) (linkAt (other s) (B .num)) n
-  unfolding diagLower
-  diag-lower-is =
-      let t = top-of st fs s C (at s B o x) r h in
-      let b = below-is st s s (C .num) B o x (t .near) in
-      rw (t .is, b, t .words .key-is, t .words .val-is)
+  diag-at : DiagNodes st d
+  diag-at = diag-nodes st d h
 
-  pub diag-lower : Linked-in st (diagLower st (linkTo fs) s purpose .after) fs (diag₁ s B C n o x r) (copyColour purpose)
+  -- C's copy takes the far children of B and of C
+  abbrev diagCopied : State
+  diagCopied = takeNode st (C .key) (C .val) s (child (st .pool) (other s) (B .num)) (child (st .pool) (other s) (C .num)) (copyColour purpose)
+
+  pub diag-lower-is : diagLower st (linkTo fs) s purpose ≡ made (setLink diagCopied (linkAt (other s) (B .num)) n) (linkAt (other s) (B .num)) n
+  unfolding diagLower
+  diag-lower-is = rw (diag-at .topC .is, diag-at .is-B, diag-at .topC .words .key-is, diag-at .topC .words .val-is)
+
+  pub diag-lower : Linked-in st (diagLower st (linkTo fs) s purpose .after) fs (diagLow d n) (copyColour purpose)
   diag-lower =
-      let t = top-of st fs s C (at s B o x) r h in
-      let hb = near-down st fs s C (at s B o x) r h in
-      let tb = top-of st (hole s C r ∷ fs) s B o x hb in
-      let hx = far-down st (hole s C r ∷ fs) s B o x hb in
-      let gs = hole (other s) B o ∷ hole s C r ∷ fs in
-      let whole : plug gs x ≡ plug fs (at s C (at s B o x) r) = rw (at-other s B o x) in
-      let count = diag-count fs s B C o x r in
-      let cb = count (B .num) in
-      let cn = count n in
+      let gs = hole (other s) B o ∷ diagWayB d in
+      let whole : plug gs x ≡ diagTree d = ap (λ t. plug fs (at s C t r)) (at-other s B o x) in
+      let hx = far-down st (diagWayB d) s B o x (diag-at .placeB) in
+      let cb = diag-count d (B .num) in
+      let cn = diag-count d n in
       let ob = once (B .num) in
       let nn = fresh .new in
       let sb = one-same (B .num) in
-      let bn = new-apart (B .num) n (nodes (plug fs (at s C (at s B o x) r))) (fresh .new) (omega arith) in
+      let bn = new-apart (B .num) n (nodes (diagTree d)) (fresh .new) (omega arith) in
       let ca = occ-at s (copy C n) x r (B .num) in
       rw diag-lower-is
       (near-up fs s C (at s B o (at s (copy C n) x r)) r
-      (far-up (hole s C r ∷ fs) s B o (at s (copy C n) x r)
-      (link-in st gs x (C .key) (C .val) s (child (st .pool) (other s) (B .num)) (child (st .pool) (other s) (C .num)) (copyColour purpose) x r (rw whole fresh) hx (tb .far) (t .far) (omega arith) (omega arith)
+      (far-up (diagWayB d) s B o (at s (copy C n) x r)
+      (link-in st gs x (C .key) (C .val) s _ _ (copyColour purpose) x r (rw whole fresh) hx (diag-at .topB .far) (diag-at .topC .far) (omega arith) (omega arith)
       (omega arith, omega arith, omega arith))))
 
   pub diag-lower-finds : stepFinds st (linkTo fs) (DiagLower s purpose) ≡ true
   unfolding stepFinds
-  diag-lower-finds =
-      let t = top-of st fs s C (at s B o x) r h in
-      let b = below-is st s s (C .num) B o x (t .near) in
-      let tb = top-of st (hole s C r ∷ fs) s B o x (near-down st fs s C (at s B o x) r h) in
-      rw (t .is, b, is-node (B .num) (tb .words .within .low), not-empty st _ fresh)
+  diag-lower-finds = rw (diag-at .topC .is, diag-at .is-B, is-node (B .num) (diag-at .topB .words .within .low), not-empty st _ fresh)
 
   pub diag-lower-stores : (diagLower st (linkTo fs) s purpose .link ≡ linkAt (other s) (B .num)) × (diagLower st (linkTo fs) s purpose .node ≡ n)
   diag-lower-stores = rw diag-lower-is (refl, refl)
 
 -- zig lower A
-module _ (st : State) (fs : List Frame) (s : Side) (purpose : Purpose) (A B C : Node) (a x y r : Linked)
-    (h : At st fs (at s C (at s A a (at s B x y)) r)) (once : Once (plug fs (at s C (at s A a (at s B x y)) r))) (fresh : Fresh st (plug fs (at s C (at s A a (at s B x y)) r))) where
+module _ (st : State) (purpose : Purpose) (d : Zig) (h : At st (d .way) (zigTop d)) (once : Once (zigTree d)) (fresh : Fresh st (zigTree d)) where
+  open Zig d using (way as fs, side as s, A, B, C, outer as a, innerA as x, innerC as y, far as r)
+
   abbrev m : ℕ
   m = st .register .first
 
-  pub zig-lower-A-is : zigLowerA st (linkTo fs) s purpose
-      ≡ made (setLink (takeNode st (A .key) (A .val) s (child (st .pool) s (A .num)) (child (st .pool) s (B .num)) (copyColour purpose)) (linkAt s (B .num)) m) (linkAt s (B .num)) m
-  unfolding zigLowerA
-  zig-lower-A-is =
-      let t = top-of st fs s C (at s A a (at s B x y)) r h in
-      let ia = below-is st s s (C .num) A a (at s B x y) (t .near) in
-      let ta = top-of st (hole s C r ∷ fs) s A a (at s B x y) (near-down st fs s C (at s A a (at s B x y)) r h) in
-      let ib = below-is st (other s) s (A .num) B x y (ta .far) in
-      rw (t .is, ia, ib, ta .words .key-is, ta .words .val-is)
+  zig-at : ZigNodes st d
+  zig-at = zig-nodes st d h
 
-  pub zig-lower-A : Linked-in st (zigLowerA st (linkTo fs) s purpose .after) fs (zig₁ s A B C m 0 a x y r) (copyColour purpose)
+  -- A's copy takes the near children of A and of B
+  abbrev copiedA : State
+  copiedA = takeNode st (A .key) (A .val) s (child (st .pool) s (A .num)) (child (st .pool) s (B .num)) (copyColour purpose)
+
+  pub zig-lower-A-is : zigLowerA st (linkTo fs) s purpose ≡ made (setLink copiedA (linkAt s (B .num)) m) (linkAt s (B .num)) m
+  unfolding zigLowerA
+  zig-lower-A-is = rw (zig-at .topC .is, zig-at .is-A, zig-at .is-B, zig-at .topA .words .key-is, zig-at .topA .words .val-is)
+
+  pub zig-lower-A : Linked-in st (zigLowerA st (linkTo fs) s purpose .after) fs (zigLowA d m) (copyColour purpose)
   zig-lower-A =
-      let ha = near-down st fs s C (at s A a (at s B x y)) r h in
-      let ta = top-of st (hole s C r ∷ fs) s A a (at s B x y) ha in
-      let hb = far-down st (hole s C r ∷ fs) s A a (at s B x y) ha in
-      let tb = top-of st (hole (other s) A a ∷ hole s C r ∷ fs) s B x y hb in
-      let hx = near-down st (hole (other s) A a ∷ hole s C r ∷ fs) s B x y hb in
-      let gs = hole s B y ∷ hole (other s) A a ∷ hole s C r ∷ fs in
-      let whole : plug gs x ≡ plug fs (at s C (at s A a (at s B x y)) r) = rw (at-other s A a (at s B x y)) in
-      let count = zig-count fs s A B C a x y r in
-      let cb = count (B .num) in
-      let cm = count m in
+      let gs = hole s B y ∷ zigWayB d in
+      let whole : plug gs x ≡ zigTree d = ap (λ t. plug fs (at s C t r)) (at-other s A a (at s B x y)) in
+      let hx = near-down st (zigWayB d) s B x y (zig-at .placeB) in
+      let cb = zig-count d (B .num) in
+      let cm = zig-count d m in
       let ob = once (B .num) in
       let nn = fresh .new in
       let sb = one-same (B .num) in
-      let bn = new-apart (B .num) m (nodes (plug fs (at s C (at s A a (at s B x y)) r))) (fresh .new) (omega arith) in
+      let bn = new-apart (B .num) m (nodes (zigTree d)) (fresh .new) (omega arith) in
       let ca = occ-at s (copy A m) a x (B .num) in
       rw zig-lower-A-is
       (near-up fs s C (at s A a (at s B (at s (copy A m) a x) y)) r
       (far-up (hole s C r ∷ fs) s A a (at s B (at s (copy A m) a x) y)
-      (near-up (hole (other s) A a ∷ hole s C r ∷ fs) s B (at s (copy A m) a x) y
-      (link-in st gs x (A .key) (A .val) s (child (st .pool) s (A .num)) (child (st .pool) s (B .num)) (copyColour purpose) a x (rw whole fresh) hx (ta .near) (tb .near) (omega arith) (omega arith)
+      (near-up (zigWayB d) s B (at s (copy A m) a x) y
+      (link-in st gs x (A .key) (A .val) s _ _ (copyColour purpose) a x (rw whole fresh) hx (zig-at .topA .near) (zig-at .topB .near) (omega arith) (omega arith)
       (omega arith, omega arith, omega arith)))))
 
   pub zig-lower-A-finds : stepFinds st (linkTo fs) (ZigLowerA s purpose) ≡ true
   unfolding stepFinds
-  zig-lower-A-finds =
-      let t = top-of st fs s C (at s A a (at s B x y)) r h in
-      let ia = below-is st s s (C .num) A a (at s B x y) (t .near) in
-      let ha = near-down st fs s C (at s A a (at s B x y)) r h in
-      let ta = top-of st (hole s C r ∷ fs) s A a (at s B x y) ha in
-      let ib = below-is st (other s) s (A .num) B x y (ta .far) in
-      let tb = top-of st (hole (other s) A a ∷ hole s C r ∷ fs) s B x y (far-down st (hole s C r ∷ fs) s A a (at s B x y) ha) in
-      rw (t .is, ia, ib, is-node (B .num) (tb .words .within .low), not-empty st _ fresh)
+  zig-lower-A-finds = rw (zig-at .topC .is, zig-at .is-A, zig-at .is-B, is-node (B .num) (zig-at .topB .words .within .low), not-empty st _ fresh)
 
   pub zig-lower-A-stores : (zigLowerA st (linkTo fs) s purpose .link ≡ linkAt s (B .num)) × (zigLowerA st (linkTo fs) s purpose .node ≡ m)
   zig-lower-A-stores = rw zig-lower-A-is (refl, refl)
 
 -- zig lower C: A's copy, m, is there already; the tree before had neither copy
-module _ (st : State) (fs : List Frame) (s : Side) (purpose : Purpose) (A B C : Node) (m : ℕ) (a x y r : Linked)
-    (h : At st fs (zig₁ s A B C m 0 a x y r)) (once : Once (plug fs (at s C (at s A a (at s B x y)) r)))
-    (old : occ m (nodes (plug fs (at s C (at s A a (at s B x y)) r))) ≡ 0) (fresh : Fresh st (plug fs (zig₁ s A B C m 0 a x y r))) where
+module _ (st : State) (purpose : Purpose) (d : Zig) (m : ℕ) (h : At st (d .way) (zigLowA d m)) (once : Once (zigTree d)) (old : occ m (nodes (zigTree d)) ≡ 0)
+    (fresh : Fresh st (plug (d .way) (zigLowA d m))) where
+  open Zig d using (way as fs, side as s, A, B, C, outer as a, innerA as x, innerC as y, far as r)
+
   abbrev k : ℕ
   k = st .register .first
 
-  abbrev low : Linked
-  low = at s (copy A m) a x
+  abbrev lowA : Linked
+  lowA = at s (copy A m) a x
 
-  pub zig-lower-C-is : zigLowerC st (linkTo fs) s purpose
-      ≡ made (setLink (takeNode st (C .key) (C .val) s (child (st .pool) (other s) (B .num)) (child (st .pool) (other s) (C .num)) (copyColour purpose)) (linkAt (other s) (B .num)) k) (linkAt (other s) (B .num)) k
+  abbrev lowC : Linked
+  lowC = at s (copy C k) y r
+
+  -- the place as it stands now
+  abbrev now : Zig
+  now = withInners d lowA y
+
+  now-at : ZigNodes st now
+  now-at = zig-nodes st now h
+
+  -- C's copy takes the far children of B and of C
+  abbrev copiedC : State
+  copiedC = takeNode st (C .key) (C .val) s (child (st .pool) (other s) (B .num)) (child (st .pool) (other s) (C .num)) (copyColour purpose)
+
+  pub zig-lower-C-is : zigLowerC st (linkTo fs) s purpose ≡ made (setLink copiedC (linkAt (other s) (B .num)) k) (linkAt (other s) (B .num)) k
   unfolding zigLowerC
-  zig-lower-C-is =
-      let t = top-of st fs s C (at s A a (at s B low y)) r h in
-      let ia = below-is st s s (C .num) A a (at s B low y) (t .near) in
-      let ta = top-of st (hole s C r ∷ fs) s A a (at s B low y) (near-down st fs s C (at s A a (at s B low y)) r h) in
-      let ib = below-is st (other s) s (A .num) B low y (ta .far) in
-      rw (t .is, ia, ib, t .words .key-is, t .words .val-is)
+  zig-lower-C-is = rw (now-at .topC .is, now-at .is-A, now-at .is-B, now-at .topC .words .key-is, now-at .topC .words .val-is)
 
-  pub zig-lower-C : Linked-in st (zigLowerC st (linkTo fs) s purpose .after) fs (zig₂ s A B C m k a x y r) (copyColour purpose)
+  pub zig-lower-C : Linked-in st (zigLowerC st (linkTo fs) s purpose .after) fs (zigLowC d m k) (copyColour purpose)
   zig-lower-C =
-      let t = top-of st fs s C (at s A a (at s B low y)) r h in
-      let ha = near-down st fs s C (at s A a (at s B low y)) r h in
-      let hb = far-down st (hole s C r ∷ fs) s A a (at s B low y) ha in
-      let tb = top-of st (hole (other s) A a ∷ hole s C r ∷ fs) s B low y hb in
-      let hy = far-down st (hole (other s) A a ∷ hole s C r ∷ fs) s B low y hb in
-      let gs = hole (other s) B low ∷ hole (other s) A a ∷ hole s C r ∷ fs in
-      let whole : plug gs y ≡ plug fs (at s C (at s A a (at s B low y)) r) = rw (at-other s B low y, at-other s A a (at s B low y)) in
-      let count = zig-count fs s A B C a x y r in
-      let cb = count (B .num) in
+      let gs = hole (other s) B lowA ∷ zigWayB d in
+      let whole : plug gs y ≡ plug fs (zigLowA d m)
+      = ap (λ t. plug fs (at s C (at (other s) A t a) r)) (at-other s B lowA y) ∙ ap (λ t. plug fs (at s C t r)) (at-other s A a (at s B lowA y)) in
+      let hy = far-down st (zigWayB d) s B lowA y (now-at .placeB) in
+      let cb = zig-count d (B .num) in
       let ob = once (B .num) in
       let sb = one-same (B .num) in
-      let bm = new-apart (B .num) m (nodes (plug fs (at s C (at s A a (at s B x y)) r))) old (omega arith) in
-      let count1 = zig-count fs s A B C a low y r in
-      let db = count1 (B .num) in
-      let dk = count1 k in
+      let bm = new-apart (B .num) m (nodes (zigTree d)) old (omega arith) in
+      let db = zig-count now (B .num) in
+      let dk = zig-count now k in
       let nn = fresh .new in
       let lb = occ-at s (copy A m) a x (B .num) in
-      let bn = new-apart (B .num) k (nodes (plug fs (zig₁ s A B C m 0 a x y r))) (fresh .new) (omega arith) in
+      let bn = new-apart (B .num) k (nodes (plug fs (zigLowA d m))) (fresh .new) (omega arith) in
       let ca = occ-at s (copy C k) y r (B .num) in
       rw zig-lower-C-is
-      (near-up fs s C (at s A a (at s B low (at s (copy C k) y r))) r
-      (far-up (hole s C r ∷ fs) s A a (at s B low (at s (copy C k) y r))
-      (far-up (hole (other s) A a ∷ hole s C r ∷ fs) s B low (at s (copy C k) y r)
-      (link-in st gs y (C .key) (C .val) s (child (st .pool) (other s) (B .num)) (child (st .pool) (other s) (C .num)) (copyColour purpose) y r (rw whole fresh) hy (tb .far) (t .far) (omega arith) (omega arith)
+      (near-up fs s C (at s A a (at s B lowA lowC)) r
+      (far-up (hole s C r ∷ fs) s A a (at s B lowA lowC)
+      (far-up (zigWayB d) s B lowA lowC
+      (link-in st gs y (C .key) (C .val) s _ _ (copyColour purpose) y r (rw whole fresh) hy (now-at .topB .far) (now-at .topC .far) (omega arith) (omega arith)
       (omega arith, omega arith, omega arith)))))
 
   pub zig-lower-C-finds : stepFinds st (linkTo fs) (ZigLowerC s purpose) ≡ true
   unfolding stepFinds
-  zig-lower-C-finds =
-      let t = top-of st fs s C (at s A a (at s B low y)) r h in
-      let ia = below-is st s s (C .num) A a (at s B low y) (t .near) in
-      let ha = near-down st fs s C (at s A a (at s B low y)) r h in
-      let ta = top-of st (hole s C r ∷ fs) s A a (at s B low y) ha in
-      let ib = below-is st (other s) s (A .num) B low y (ta .far) in
-      let tb = top-of st (hole (other s) A a ∷ hole s C r ∷ fs) s B low y (far-down st (hole s C r ∷ fs) s A a (at s B low y) ha) in
-      rw (t .is, ia, ib, is-node (B .num) (tb .words .within .low), not-empty st _ fresh)
+  zig-lower-C-finds = rw (now-at .topC .is, now-at .is-A, now-at .is-B, is-node (B .num) (now-at .topB .words .within .low), not-empty st _ fresh)
 
   pub zig-lower-C-stores : (zigLowerC st (linkTo fs) s purpose .link ≡ linkAt (other s) (B .num)) × (zigLowerC st (linkTo fs) s purpose .node ≡ k)
   zig-lower-C-stores = rw zig-lower-C-is (refl, refl)

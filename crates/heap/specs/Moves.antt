@@ -21,11 +21,10 @@ use Rattle.sequential.specs.Tree.{black}
 use Rattle.tree.specs.Linked.{Linked, at, nodes}
 use Rattle.tree.specs.Zipper.{Frame, hole, plug}
 use Rattle.tree.specs.Erase.{erase}
-use Rattle.tree.specs.Occurs.{one, one-same, one-other, one-case, occ, in-occ, occWay, occ-plug}
-use Rattle.tree.specs.Ends.{Stays}
-use Rattle.heap.specs.Rep.{Rep, Alike, alike-less}
+use Rattle.tree.specs.Occurs.{one, one-same, one-other, one-case, occ, occWay, occ-plug}
+use Rattle.heap.specs.Rep.{Rep, Alike, alike-less, upToLinks}
 use Rattle.heap.specs.Sites.{linkTo, Site, of-site, site-agree, site-alike, Clear, site-store}
-use Rattle.heap.specs.Colours.{hue, colours, colours-alike, colours-link, paint-alike, paint-other, erase-occ, erase-top}
+use Rattle.heap.specs.Colours.{hue, colours, colours-alike, colours-link, paint-alike, erase-occ, erase-top}
 use Rattle.heap.specs.Fill.{Filled, fill-node, filled-agree, filled-colours, filled-rep, take-pool, take-register, Queued, Quiet}
 
 -- in a state the way leads to the tree
@@ -113,7 +112,8 @@ link-in st gs t k v s x y c X Y fresh h rx ry ox oy clear =
     let base = takeNode st k v s x y c in
     let fill = taken-filled st k v s x y c (fresh .within) in
     let reg = take-register st k v s x y c in
-    let kept : At base gs t = rw (reg .root) (site-agree (st .pool) (base .pool) (st .register .root) (fill .size) gs t (λ m i. filled-agree fill m (apart n m (nodes (plug gs t)) (fresh .new) i)) h) in
+    let kept : At base gs t = rw (reg .root)
+    (site-agree (st .pool) (base .pool) (st .register .root) (fill .size) gs t (λ m i. filled-agree fill m (apart n m (nodes (plug gs t)) (fresh .new) i)) h) in
     record {
       site = site-store base gs t (at s (record { num = n; key = k; val = v }) X Y) n clear kept (filled-rep fill X Y (fresh .within) ox oy rx ry);
       new-colour = colours-link base (linkTo gs) n n ∙ fill .colour-is;
@@ -124,21 +124,17 @@ link-in st gs t k v s x y c X Y fresh h rx ry ox oy clear =
     }
 
 -- Painting and retiring keep the place.
-pub at-alike : (st after : State) → Alike 4 (st .pool) (after .pool) → after .register .root ≡ st .register .root → (fs : List Frame) (t : Linked) → At st fs t → At after fs t
+pub at-alike : (st after : State) → Alike upToLinks (st .pool) (after .pool) → after .register .root ≡ st .register .root → (fs : List Frame) (t : Linked) → At st fs t → At after fs t
 at-alike st after a e fs t h = rw e (site-alike a (st .register .root) fs t h)
 
 pub at-quiet : {st after : State} → Quiet st after → (fs : List Frame) (t : Linked) → At st fs t → At after fs t
-at-quiet {st} {after} q fs t h = at-alike st after (alike-less 4 (omega arith) (q .words)) (q .fields .root) fs t h
+at-quiet {st} {after} q fs t h = at-alike st after (alike-less upToLinks (omega arith) (q .words)) (q .fields .root) fs t h
 
 pub quiet-erase : {st after : State} → Quiet st after → (t : Linked) → erase (colours (after .pool)) t ≡ erase (colours (st .pool)) t
 quiet-erase {st} {after} q t = erase-occ (colours (st .pool)) (colours (after .pool)) t (λ n _. colours-alike (q .words) n)
 
 pub at-painted : (st : State) (n c : ℕ) (fs : List Frame) (t : Linked) → At st fs t → At (painted st n c) fs t
 at-painted st n c fs t h = site-alike (paint-alike (st .pool) n c) (st .register .root) fs t h
-
--- a tree and a way that the painted node is not in
-pub stays-paint : (p : List ℕ) (n c : ℕ) (t : Linked) → occ n (nodes t) ≡ 0 → Stays (colours p) (colours (paint p n c)) t
-stays-paint p n c t o m i = paint-other p n c m (apart n m (nodes t) o (in-occ m (nodes t) i))
 
 -- the root painted black
 pub black-root : (st : State) (fs : List Frame) (t : Linked) → At st fs t → erase (colours (blackRoot st .pool)) (plug fs t) ≡ Seq.paint black (erase (colours (st .pool)) (plug fs t))

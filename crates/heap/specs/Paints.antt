@@ -17,11 +17,12 @@ use Rattle.tree.specs.Occurs.{one, one-same, occ, occWay}
 use Rattle.tree.specs.Recolour.{InsertFixupTo, DeleteFixupTo}
 use Rattle.tree.specs.InsertFixup as InsertFixup
 use Rattle.tree.specs.DeleteFixup as DeleteFixup
-use Rattle.heap.specs.Rep.{Rep, Alike, alike-refl, alike-trans, rep-alike}
+use Rattle.heap.specs.Rep.{Rep, Alike, alike-refl, alike-trans, rep-alike, upToLinks}
 use Rattle.heap.specs.Sites.{links}
 use Rattle.heap.specs.Colours.{colours, paint-alike, paint-none, paint-other, paint-same, erase-occ, way-occ, erase-paint, erase-top}
 use Rattle.heap.specs.Paths.{OnceWay}
 use Rattle.heap.specs.Fixups.{side-at, Sides, sides-alike, pairsUp, framesUp}
+use Rattle.heap.specs.Moves.{one-swap, apart-one}
 
 -- painting the top of a tree changes no colour outside it
 pub top-outside : (p : List ℕ) (w c : ℕ) (y : Linked) (n : ℕ) → Rep p w y → occ n (nodes y) ≡ 0 → colours (paint p w c) n ≡ colours p n
@@ -31,7 +32,7 @@ top-outside p w c (cell N l r) n h o =
 
 -- q is p with other colours at nodes of the way
 pub record ColoursChange (p q : List ℕ) (fs : List Frame) : Type 0 where
-  pub links-kept : Alike 4 p q
+  pub links-kept : Alike upToLinks p q
   pub outside : (n : ℕ) → occWay n fs ≡ 0 → colours q n ≡ colours p n
 
 -- Delete.
@@ -55,7 +56,7 @@ pub record Sunk (m : ℕ) (p q : List ℕ) (fs : List Frame) : Type 0 where
 
 pub paint-deleteFixup : (m : ℕ) (p : List ℕ) (fs : List Frame) → m ≤ length fs → Sides p fs → OnceWay fs → Sunk m p (paintDeleteLevels m (links fs) p) fs
 unfolding paintDeleteLevels
-paint-deleteFixup zero p fs l w o = record { tinted = record { links-kept = alike-refl 4 p; outside = λ n h. refl }; to = refl }
+paint-deleteFixup zero p fs l w o = record { tinted = record { links-kept = alike-refl upToLinks p; outside = λ n h. refl }; to = refl }
 paint-deleteFixup (suc m) p [] l w o = absurd (let z : ⊥ = omega arith in z)
 paint-deleteFixup (suc m) p (hole s P y ∷ fs) l w o =
     let sib = child p (other s) (P .num) in
@@ -127,7 +128,7 @@ pub record Risen (m : ℕ) (p q : List ℕ) (fs : List Frame) : Type 0 where
 
 pub paint-insertFixup : (m : ℕ) (p : List ℕ) (fs : List Frame) → m + m ≤ length fs → Sides p fs → OnceWay fs → Risen m p (paintInsertFixup m (links fs) p) fs
 unfolding paintInsertFixup
-paint-insertFixup zero p fs l w o = record { tinted = record { links-kept = alike-refl 4 p; outside = λ n h. refl }; to = refl }
+paint-insertFixup zero p fs l w o = record { tinted = record { links-kept = alike-refl upToLinks p; outside = λ n h. refl }; to = refl }
 paint-insertFixup (suc m) p [] l w o = absurd (let z : ⊥ = omega arith in z)
 paint-insertFixup (suc m) p (hole s P y ∷ []) l w o = absurd (let z : ⊥ = omega arith in z)
 paint-insertFixup (suc m) p (hole s P y ∷ hole z G a ∷ fs) l w o =
@@ -140,9 +141,9 @@ paint-insertFixup (suc m) p (hole s P y ∷ hole z G a ∷ fs) l w o =
     let k3 = alike-trans k1 (alike-trans (paint-alike p1 aunt blackColour) (paint-alike p2 (G .num) redColour)) in
     let i : Risen m p3 q fs = paint-insertFixup m p3 fs (omega arith) (sides-alike k3 fs (w .2 .2)) (λ n. let x = o n in omega arith) in
     let rep1 = rep-alike k1 a aunt (w .2 .1) in
-    let past1 : (n : ℕ) → one n (P .num) ≡ 0 → colours p1 n ≡ colours p n = λ n h. paint-other p (P .num) blackColour n (λ e. let x = one-same n in let y : one n (P .num) ≡ one n n = rw e in omega arith) in
+    let past1 : (n : ℕ) → one n (P .num) ≡ 0 → colours p1 n ≡ colours p n = λ n h. paint-other p (P .num) blackColour n (apart-one (P .num) n (one-swap (P .num) n ∙ h)) in
     let past2 : (n : ℕ) → occ n (nodes a) ≡ 0 → colours p2 n ≡ colours p1 n = λ n h. top-outside p1 aunt blackColour a n rep1 h in
-    let past3 : (n : ℕ) → one n (G .num) ≡ 0 → colours p3 n ≡ colours p2 n = λ n h. paint-other p2 (G .num) redColour n (λ e. let x = one-same n in let y : one n (G .num) ≡ one n n = rw e in omega arith) in
+    let past3 : (n : ℕ) → one n (G .num) ≡ 0 → colours p3 n ≡ colours p2 n = λ n h. paint-other p2 (G .num) redColour n (apart-one (G .num) n (one-swap (G .num) n ∙ h)) in
     let past : (n : ℕ) → one n (P .num) ≡ 0 → occ n (nodes a) ≡ 0 → one n (G .num) ≡ 0 → colours p3 n ≡ colours p n = λ n x y z. past3 n z ∙ past2 n y ∙ past1 n x in
     let op = o (P .num) in
     let og = o (G .num) in

@@ -1,6 +1,6 @@
 -- The search and the paths of the writer's colour work, in a pool that has a way: the search comes down the way that the key goes, and the
 -- path is the list of the way's links, its own first and the root link last.
-use Prim.Native.Nat.{ℕ, zero, suc, _+_, _-_, _<_, _≤_, max}
+use Prim.Native.Nat.{ℕ, suc, _+_, _-_, _<_, _≤_, max}
 use mathlib.Core.Path.{_≡_, refl, sym, ap, _∙_}
 use mathlib.Core.Logic.{_≢_}
 use mathlib.Core.Bool.{true, false, cond}
@@ -12,7 +12,7 @@ use native.Mathlib.Omega.{arith}
 use Rattle.datatypes.specs.declared.Side.{Side}
 use Rattle.datatypes.specs.declared.Side.the-variants.{L, R}
 use Rattle.datatypes.specs.declared.Link.{Link}
-use Rattle.datatypes.specs.declared.Link.the-variants.{Root, Left}
+use Rattle.datatypes.specs.declared.Link.the-variants.{Root}
 use Rattle.datatypes.specs.declared.Place.{Place}
 use Rattle.datatypes.specs.declared.Place.the-variants.{Held, Empty}
 use Rattle.datatypes.specs.Side.{linkAt}
@@ -21,6 +21,7 @@ use Rattle.spec.specs.Pool.{child}
 use Rattle.spec.specs.Register.{nodeAt}
 use Rattle.spec.specs.Search.{towards, seek, sameLink, trail, pathTo, leftmost}
 use Rattle.spec.specs.Plan.{successorPath}
+use Rattle.laws.specs.Descend.{seek-empty, seek-step, trail-here, trail-step, leftmost-here, leftmost-step}
 use Rattle.sequential.specs.Tree.{Colour}
 use Rattle.tree.specs.Order.{Ord, ord-apart, tri-case}
 use Rattle.tree.specs.Height.{height, height-mk}
@@ -39,32 +40,31 @@ goes k j R o = rw (le-ltb k j (omega arith))
 pub towards-of : (p : List ℕ) (k a : ℕ) (N : Node) (s : Side) → Words p a N → Ord s k (N .key) → towards p k (N .num) ≡ s
 towards-of p k a N s w o = rw (w .key-is) (goes k (N .key) s o)
 
-there : {p : List ℕ} {a : ℕ} {N : Node} → Words p a N → eqb (N .num) 0 ≡ false
-there {N = N} w = ne-eqb (N .num) 0 (let l = w .within .low in omega arith)
+there : {p : List ℕ} {a : ℕ} {N : Node} → Words p a N → ¬ (N .num ≡ 0)
+there w = let l = w .within .low in omega arith
 
--- Search: one node down, an empty place, the key's node.
-seek-step : (p : List ℕ) (k a : ℕ) (l : Link) (n : ℕ) (N : Node) (s : Side) → Words p n N → Ord s k (N .key)
+pred : (a : ℕ) → suc a - 1 ≡ a
+pred a = omega arith
+
+-- Search (laws: Descend): one node down, the key's node.
+seek-node : (p : List ℕ) (k a : ℕ) (l : Link) (n : ℕ) (N : Node) → Words p n N
+    → seek p k (suc a) l n ≡ cond (eqb k (N .key)) (Held l (N .num)) (seek p k a (linkAt (towards p k (N .num)) (N .num)) (child p (towards p k (N .num)) (N .num)))
+seek-node p k a l n N w = rw (w .is) (seek-step p k (suc a) l (N .num) (there w) (omega arith) ∙ rw (w .key-is, pred a))
+
+seek-down : (p : List ℕ) (k a : ℕ) (l : Link) (n : ℕ) (N : Node) (s : Side) → Words p n N → Ord s k (N .key)
     → seek p k (suc a) l n ≡ seek p k a (linkAt s (N .num)) (child p s (N .num))
-unfolding seek
-seek-step p k a l n N s w o =
-    rw (w .is, there w, w .key-is, ne-eqb k (N .key) (ord-apart s k (N .key) o), goes k (N .key) s o)
+seek-down p k a l n N s w o = seek-node p k a l n N w ∙ rw (ne-eqb k (N .key) (ord-apart s k (N .key) o), towards-of p k n N s w o)
 
 seek-skip : (p : List ℕ) (root k : ℕ) (fs : List Frame) (a b : ℕ) → b ≡ a + length fs → Into k fs → Way p root fs
     → seek p k b Root root ≡ seek p k a (linkTo fs) (nodeAt p root (linkTo fs))
 seek-skip p root k [] a b e i w = let z : b ≡ a = omega arith in rw (z, node-root p root)
 seek-skip p root k (hole s N y ∷ fs) a b e i w =
     seek-skip p root k fs (suc a) b (omega arith) (i .1) (w .2)
-    ∙ seek-step p k a (linkTo fs) (nodeAt p root (linkTo fs)) N s (w .0) (i .0)
+    ∙ seek-down p k a (linkTo fs) (nodeAt p root (linkTo fs)) N s (w .0) (i .0)
     ∙ rw (node-at p root s (N .num))
 
-seek-empty : (p : List ℕ) (k a : ℕ) (l : Link) → seek p k a l 0 ≡ Empty l
-unfolding seek
-seek-empty p k zero l = refl
-seek-empty p k (suc a) l = refl
-
 seek-held : (p : List ℕ) (k a : ℕ) (l : Link) (n : ℕ) (N : Node) → Words p n N → k ≡ N .key → seek p k (suc a) l n ≡ Held l (N .num)
-unfolding seek
-seek-held p k a l n N w e = rw (w .is, there w, w .key-is, eq-eqb k (N .key) e)
+seek-held p k a l n N w e = seek-node p k a l n N w ∙ rw (eq-eqb k (N .key) e)
 
 -- where the search ends
 abbrev pub placeAt : List Frame → Linked → Place
@@ -79,9 +79,9 @@ HasKey k (cell N l r) = k ≡ N .key
 pub seek-place : (p : List ℕ) (root k : ℕ) (fs : List Frame) (t : Linked) → Into k fs → HasKey k t → length fs < pathBound → Site p root fs t
     → seek p k pathBound Root root ≡ placeAt fs t
 seek-place p root k fs nil i h l x =
-    seek-skip p root k fs (64 - length fs) 64 (omega arith) i (x .way) ∙ rw (x .sub) (seek-empty p k (64 - length fs) (linkTo fs))
+    seek-skip p root k fs (pathBound - length fs) pathBound (omega arith) i (x .way) ∙ seek-empty p k (pathBound - length fs) (linkTo fs) _ (x .sub)
 seek-place p root k fs (cell N a b) i h l x =
-    seek-skip p root k fs (suc (63 - length fs)) 64 (omega arith) i (x .way) ∙ seek-held p k (63 - length fs) (linkTo fs) (nodeAt p root (linkTo fs)) N (x .sub .0) h
+    seek-skip p root k fs (suc (pathBound - 1 - length fs)) pathBound (omega arith) i (x .way) ∙ seek-held p k (pathBound - 1 - length fs) (linkTo fs) (nodeAt p root (linkTo fs)) N (x .sub .0) h
 
 -- Every key has a place in every tree.
 pub record Located (T : Linked) (k : ℕ) : Type 0 where
@@ -110,16 +110,10 @@ depth f (hole s N y ∷ fs) t =
     let b : height (erase f (at s N t y)) ≡ suc (max (height (erase f t)) (height (erase f y))) = rw (erase-at f s N t y) (height-mk s _ _ _ _ _) in
     omega arith
 
--- Paths: one node down, and the end.
-trail-step : (p : List ℕ) (k : ℕ) (t : Link) (a : ℕ) (l : Link) (n : ℕ) (up : List Link) (N : Node) (s : Side) → sameLink l t ≡ false → Words p n N → Ord s k (N .key)
+-- Paths: one node down.
+trail-down : (p : List ℕ) (k : ℕ) (t : Link) (a : ℕ) (l : Link) (n : ℕ) (up : List Link) (N : Node) (s : Side) → sameLink l t ≡ false → Words p n N → Ord s k (N .key)
     → trail p k t (suc a) l n up ≡ trail p k t a (linkAt s (N .num)) (child p s (N .num)) (l ∷ up)
-unfolding trail
-trail-step p k t a l n up N s m w o = rw (m, w .is, there w, towards-of p k n N s w o)
-
-trail-end : (p : List ℕ) (k : ℕ) (t : Link) (a : ℕ) (l : Link) (n : ℕ) (up : List Link) → sameLink l t ≡ true → trail p k t a l n up ≡ l ∷ up
-unfolding trail
-trail-end p k t zero l n up m = rw m
-trail-end p k t (suc a) l n up m = rw m
+trail-down p k t a l n up N s m w o = rw (w .is) (trail-step p k t l (N .num) up (suc a) a m (there w) refl ∙ rw (towards-of p k n N s w o))
 
 -- no link above the hole is the link t
 abbrev Misses : Link → List Frame → Type 0
@@ -131,7 +125,7 @@ trail-skip : (p : List ℕ) (root k : ℕ) (t : Link) (fs : List Frame) (a b : �
 trail-skip p root k t [] a b e m i w = let z : b ≡ a = omega arith in rw (z, node-root p root)
 trail-skip p root k t (hole s N y ∷ fs) a b e m i w =
     trail-skip p root k t fs (suc a) b (omega arith) (m .1) (i .1) (w .2)
-    ∙ trail-step p k t a (linkTo fs) (nodeAt p root (linkTo fs)) (linksAbove fs) N s (m .0) (w .0) (i .0)
+    ∙ trail-down p k t a (linkTo fs) (nodeAt p root (linkTo fs)) (linksAbove fs) N s (m .0) (w .0) (i .0)
     ∙ rw (node-at p root s (N .num))
 
 other-link : (s z : Side) (m n : ℕ) → m ≢ n → sameLink (linkAt s m) (linkAt z n) ≡ false
@@ -161,22 +155,14 @@ abbrev pub OnceWay : List Frame → Type 0
 OnceWay fs = (i : ℕ) → occWay i fs ≤ 1
 
 pub path-to : (p : List ℕ) (root k : ℕ) (fs : List Frame) → Into k fs → OnceWay fs → length fs ≤ pathBound → Way p root fs → pathTo p root k (linkTo fs) ≡ links fs
-path-to p root k [] i o l w = trail-end p k Root 64 Root root [] refl
+path-to p root k [] i o l w = trail-here p k Root Root root [] pathBound refl
 path-to p root k (hole s N y ∷ fs) i o l w =
     let once : occWay (N .num) fs ≡ 0 = (let a = o (N .num) in let b = one-same (N .num) in omega arith) in
     let t = linkAt s (N .num) in
-    trail-skip p root k t (hole s N y ∷ fs) (63 - length fs) 64 (omega arith) (other-way s (N .num) fs once, misses s (N .num) fs once) i w
-    ∙ trail-end p k t (63 - length fs) t (nodeAt p root t) (links fs) (same-link s (N .num))
+    trail-skip p root k t (hole s N y ∷ fs) (pathBound - 1 - length fs) pathBound (omega arith) (other-way s (N .num) fs once, misses s (N .num) fs once) i w
+    ∙ trail-here p k t t (nodeAt p root t) (links fs) (pathBound - 1 - length fs) (same-link s (N .num))
 
 -- The successor: leftmost below a link.
-leftmost-step : (p : List ℕ) (a n : ℕ) (up : List Link) → child p L n ≢ 0 → leftmost p (suc a) n up ≡ leftmost p a (child p L n) (Left n ∷ up)
-unfolding leftmost
-leftmost-step p a n up d = rw (ne-eqb (child p L n) 0 d)
-
-leftmost-end : (p : List ℕ) (a n : ℕ) (up : List Link) → child p L n ≡ 0 → leftmost p (suc a) n up ≡ up
-unfolding leftmost
-leftmost-end p a n up e = rw (eq-eqb (child p L n) 0 e)
-
 leftmost-skip : (p : List ℕ) (root : ℕ) (gs bs : List Frame) (a b : ℕ) → b ≡ a + length gs → Along L gs → Way p root (gs ++ bs) → nodeAt p root (linkTo (gs ++ bs)) ≢ 0
     → leftmost p b (nodeAt p root (linkTo bs)) (links bs) ≡ leftmost p a (nodeAt p root (linkTo (gs ++ bs))) (links (gs ++ bs))
 leftmost-skip p root [] bs a b e h w d = let z : b ≡ a = omega arith in rw z
@@ -185,7 +171,7 @@ leftmost-skip p root (hole L N y ∷ gs) bs a b e h w d =
     let n = w .0 .is in
     let c = node-at p root L (N .num) in
     leftmost-skip p root gs bs (suc a) b (omega arith) (h .1) (w .2) (let l = w .0 .within .low in omega arith)
-    ∙ rw (n, c) (leftmost-step p a (N .num) (links (gs ++ bs)) (rw c at d))
+    ∙ rw (n, c) (leftmost-step p (N .num) (links (gs ++ bs)) (suc a) a refl (rw c at d))
 
 links-length : (fs : List Frame) → length (links fs) ≡ suc (length fs)
 links-length [] = refl
@@ -199,5 +185,5 @@ successor-path p root gs fs B C l y h d x =
     let low = x .sub .0 .within .low in
     let len = links-length fs in
     rw (len, sym (node-at p root R (B .num)))
-    (leftmost-skip p root gs bs (suc (62 - length fs - length gs)) (64 - suc (length fs)) (omega arith) h (x .way) (omega arith)
-    ∙ leftmost-end p (62 - length fs - length gs) (nodeAt p root (linkTo (gs ++ bs))) (links (gs ++ bs)) (rw n (x .sub .1)))
+    (leftmost-skip p root gs bs (suc (pathBound - 2 - length fs - length gs)) (pathBound - suc (length fs)) (omega arith) h (x .way) (omega arith)
+    ∙ leftmost-here p (nodeAt p root (linkTo (gs ++ bs))) (links (gs ++ bs)) (suc (pathBound - 2 - length fs - length gs)) (omega arith) (rw n (x .sub .1)))

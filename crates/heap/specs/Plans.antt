@@ -74,7 +74,7 @@ insert-planned st k v fs h i =
     let l = way-short (st .pool) (st .register .root) fs nil (h .small) site (h .sound) in
     let c = insert-fixup st k fs (site .way) i (once-way fs nil (h .sound .once)) (omega arith) in
     let s = insertFixup-stops f fs (insert-insertFixup (eraseWay f fs) (rw (erase-plug f fs nil) at (h .sound .proper .redblack))) in
-    rw c record { possible = rw (stops-there s); phase = insert-0 k v fs site (h .sound) i refl }
+    rw c record { possible = rw (stops-there s); phase = insert-0 k v fs site (record { sound = h .sound; into = i; goal = refl }) }
 
 -- the ending that a loss's climb plans
 pub removal-ending : (p : List ℕ) (n x : ℕ) (c : Colour) (fs : List Frame) → isRed p x ≡ redly c → Sides p fs → (colours p n ≡ black → DeleteFixups c (eraseWay (colours p) fs))

@@ -15,14 +15,14 @@ use Rattle.spec.specs.Free.{takeNode, retire}
 use Rattle.spec.specs.Plan.{store, endingStores}
 use Rattle.spec.specs.Turn.{made, colourOf as colourWordOf, oneLess, movedStore, movedWrite, publishStore, stepFinds}
 use Rattle.sequential.specs.Tree.{Colour, red, black, Tree, colourOf}
-use Rattle.sequential.specs.Delete.{lose, delete}
-use Rattle.tree.specs.Changes.{Proper}
+use Rattle.sequential.specs.Delete.{delete}
 use Rattle.tree.specs.Linked.{Node, copy, Linked, nil, cell, at, nodes}
 use Rattle.tree.specs.LinkedOrder.{ordered-bare, ordered-within, into-top}
-use Rattle.tree.specs.Zipper.{Frame, hole, plug, plug-append, Along, sameBut-lift}
+use Rattle.tree.specs.Zipper.{Frame, hole, plug, plug-append, sameBut-lift}
 use Rattle.tree.specs.Erase.{erase, eraseWay, erase-find}
+use Rattle.tree.specs.Height.{mostHeight}
 use Rattle.tree.specs.Occurs.{one, one-same, occ, occ-at, occWay, occ-plug}
-use Rattle.tree.specs.Successor.{third₀, third₁, third-order, publish-find}
+use Rattle.tree.specs.Successor.{third₀, third-order, publish-find}
 use Rattle.tree.specs.DeleteFixup as DeleteFixup
 use Rattle.tree.specs.DeleteFixup.{DeleteFixup}
 use Rattle.heap.specs.Sites.{linkTo}
@@ -35,7 +35,8 @@ use Rattle.heap.specs.Lowers.{is-node, not-empty, Top, top-of, far-down}
 use Rattle.heap.specs.ColourWork.{colours-refl}
 use Rattle.heap.specs.Parts.{filled, queue-trans, held-queue, await-queue, parts-of}
 use Rattle.heap.specs.Tolds.{Told, told-delete}
-use Rattle.heap.specs.Phase.{removalEnding, standIn, Sound, Phase, detach-0}
+use Rattle.heap.specs.Places.{Double, standIn, doubleTop, doubleTree, published, wayToC, copiedWay}
+use Rattle.heap.specs.Phase.{removalEnding, Phase, detach-0, DoublePlan, lostStores}
 use Rattle.heap.specs.Shift.{by-publish, Next}
 use Rattle.heap.specs.Inserts.{Small, way-short}
 use Rattle.heap.specs.InsertStep.{held-root, held-is}
@@ -89,9 +90,11 @@ tip-append f g c (suc m) (hole s P y ∷ gs) M N l fs e h k =
     let a = h (P .num) (let x = one-same (P .num) in omega arith) in
     rw a (tip-append f g (f (P .num)) m gs M N l fs e (λ i w. h i (omega arith)) k)
 
-module _ (st : State) (G : Tree) (fs gs : List Frame) (B C : Node) (l y : Linked) (along : Along L gs) (h : At st fs (third₀ L B C 0 l y gs)) (good : Sound (st .pool) (plug fs (third₀ L B C 0 l y gs)))
-    (proper : Proper G) (deletes : G ≡ delete (erase (colours (st .pool)) (plug fs (third₀ L B C 0 l y gs))) (B .key)) (goal : G ≡ lose (colours (st .pool) (C .num)) (eraseWay (colours (st .pool)) (gs ++ (hole R (standIn B C) l ∷ fs))) (erase (colours (st .pool)) y))
-    (small : Small (st .pool)) (fresh : Fresh st (plug fs (third₀ L B C 0 l y gs))) where
+module _ (st : State) (G : Tree) (d : Double) (gs : List Frame) (h : At st (d .way) (doubleTop d gs)) (plan : DoublePlan (colours (st .pool)) G d gs)
+    (small : Small (st .pool)) (fresh : Fresh st (doubleTree d gs)) where
+  open Double d using (way as fs, B, C, left as l, right as y)
+  open DoublePlan plan using (along, sound as good, proper, deletes, goal)
+
   abbrev p : List ℕ
   p = st .pool
 
@@ -102,13 +105,13 @@ module _ (st : State) (G : Tree) (fs gs : List Frame) (B C : Node) (l y : Linked
   n = st .register .first
 
   abbrev T : Linked
-  T = plug fs (third₀ L B C 0 l y gs)
+  T = doubleTree d gs
 
   abbrev old : List Frame
-  old = gs ++ (hole R (standIn B C) l ∷ fs)
+  old = wayToC d gs
 
   abbrev W : List Frame
-  W = gs ++ (hole R (copy C n) l ∷ fs)
+  W = copiedWay d gs n
 
   capacity : Top st fs L B l (plug gs (at L C nil y))
   capacity = top-of st fs L B l (plug gs (at L C nil y)) h
@@ -119,7 +122,7 @@ module _ (st : State) (G : Tree) (fs gs : List Frame) (B C : Node) (l y : Linked
   each : (i : ℕ) → one i (B .num) + occ i (nodes l) + (one i (C .num) + occ i (nodes y) + occWay i gs) + occWay i fs ≤ 1
   each i = let a = good .once i in let b = third-count fs gs B C l y i in omega arith
 
-  short : length gs + length fs ≤ 20
+  short : length gs + length fs ≤ mostHeight
   short =
       let W1 = gs ++ (hole R B l ∷ fs) in
       let e : plug W1 (cell C nil y) ≡ T = plug-append gs (hole R B l ∷ fs) (cell C nil y) in
@@ -143,16 +146,16 @@ module _ (st : State) (G : Tree) (fs gs : List Frame) (B C : Node) (l y : Linked
   unfolding publishStore
   publish-is = let w = top-of st (gs ++ (hole R B l ∷ fs)) L C nil y siteC .words in rw (capacity .is, w .key-is, w .val-is)
 
-  in-tree : Linked-in st stored fs (third₁ L B C n l y gs) (colourWordOf st (B .num))
+  in-tree : Linked-in st stored fs (published d gs n) (colourWordOf st (B .num))
   in-tree =
       let count = third-count fs gs B C l y in
       let nn = fresh .new in
       let cn = count n in
-      let d = occ-plug gs (cell C nil y) n in
+      let u = occ-plug gs (cell C nil y) n in
       let e = occ-at L C nil y n in
-      link-in st fs (third₀ L B C 0 l y gs) (C .key) (C .val) L (child p L (B .num)) (child p R (B .num)) (colourWordOf st (B .num)) l (plug gs (at L C nil y)) fresh h (capacity .near) (capacity .far)
+      link-in st fs (doubleTop d gs) (C .key) (C .val) L (child p L (B .num)) (child p R (B .num)) (colourWordOf st (B .num)) l (plug gs (at L C nil y)) fresh h (capacity .near) (capacity .far)
       (omega arith) (omega arith)
-      (clear-of fs (third₀ L B C 0 l y gs) (third₁ L B C n l y gs) (good .once)
+      (clear-of fs (doubleTop d gs) (published d gs n) (good .once)
       (λ i w. let a = each i in let b = count i in let k = new-apart i n (nodes T) (fresh .new) (omega arith) in
       let u = occ-at L (copy C n) l (plug gs (at L C nil y)) i in let v = occ-plug gs (at L C nil y) i in let z = occ-at L C nil y i in omega arith))
 
@@ -209,36 +212,44 @@ module _ (st : State) (G : Tree) (fs gs : List Frame) (B C : Node) (l y : Linked
   stores-of : (d e : Colour) → d ≡ e
       → map (movedStore (B .num) n) (endingStores (removalEnding e f (colourOf (erase f y)) old)) ≡ endingStores (removalEnding d g (colourOf (erase g y)) W)
   stores-of red red q = refl
-  stores-of black black q = ending-of (deleteFixupOf g (colourOf (erase g y)) W) (deleteFixupOf f (colourOf (erase f y)) old) (colourOf (erase g y)) (colourOf (erase f y)) (ap₂ DeleteFixup.deleteFixup (ap colourOf gy) ways) (ap colourOf gy)
+  stores-of black black q =
+      let c = colourOf (erase g y) in
+      let d = colourOf (erase f y) in
+      ending-of (deleteFixupOf g c W) (deleteFixupOf f d old) c d (ap₂ DeleteFixup.deleteFixup (ap colourOf gy) ways) (ap colourOf gy)
   stores-of red black q = let z : _≡_ {A = ℕ} 0 1 = cc in absurd (omega arith)
   stores-of black red q = let z : _≡_ {A = ℕ} 0 1 = cc in absurd (omega arith)
 
-  stores : map (movedStore (linkNode st (linkTo fs)) n) (store (linkTo fs) (Detach (B .key)) ∷ endingStores (removalEnding (f (C .num)) f (colourOf (erase f y)) old))
-      ≡ store (linkTo fs) (Detach (B .key)) ∷ endingStores (removalEnding (g (C .num)) g (colourOf (erase g y)) W)
+  stores : map (movedStore (linkNode st (linkTo fs)) n) (store (linkTo fs) (Detach (B .key)) ∷ lostStores f C y old) ≡ store (linkTo fs) (Detach (B .key)) ∷ lostStores g C y W
   stores = rw (capacity .is, moved-link (B .num) n (capacity .words .within .low) ren-fs, stores-of (g (C .num)) (f (C .num)) gC)
 
-  told : Told G (plug fs (third₁ L B C n l y gs))
+  told : Told G (plug fs (published d gs n))
   told =
       let ordered = ordered-bare f _ T (good .proper .ordered) in
       let order = third-order L B C n l y gs (ordered-within fs (third₀ L B C n l y gs) ordered) in
-      told-delete G (erase f T) (B .key) T (plug fs (third₁ L B C n l y gs)) deletes (good .proper .ordered) (erase-find f T)
+      told-delete G (erase f T) (B .key) T (plug fs (published d gs n)) deletes (good .proper .ordered) (erase-find f T)
       (sameBut-lift fs (into-top fs L B l (plug gs (at L C nil y)) ordered) (publish-find L B C n l y gs order along))
 
-  phase : Phase (after .pool) (after .register .root) G (plug fs (third₁ L B C n l y gs)) (store (linkTo fs) (Detach (B .key)) ∷ endingStores (removalEnding (g (C .num)) g (colourOf (erase g y)) W))
+  phase : Phase (after .pool) (after .register .root) G (plug fs (published d gs n)) (store (linkTo fs) (Detach (B .key)) ∷ lostStores g C y W)
   phase =
       let root : awaiting .register .root ≡ stored .register .root = write-root (linked .register) _ _ ∙ held-root (stored .register) _ in
-      let site : At awaiting fs (third₁ L B C n l y gs) = rw root (in-tree .site) in
-      detach-0 fs gs B C n l y along short (at-quiet {st = awaiting} {after = after} (retire-quiet awaiting (B .num)) fs (third₁ L B C n l y gs) site) told
-      (record { once = good .once; ordered = ordered-bare f _ T (good .proper .ordered) }) (rw (erase-occ f g T kept) (good .proper)) (fresh .new) (new-colour ∙ sym (kept (B .num) b-in)) proper
-      (goal ∙ sym (rw (gC, ways, gy)))
+      let site : At awaiting fs (published d gs n) = rw root (in-tree .site) in
+      detach-0 d gs n (at-quiet {st = awaiting} {after = after} (retire-quiet awaiting (B .num)) fs (published d gs n) site) record {
+        along = along;
+        short = short;
+        told = told;
+        sound = record { once = good .once; proper = rw (erase-occ f g T kept) (good .proper) };
+        copied = record { new = fresh .new; colour = new-colour ∙ sym (kept (B .num) b-in) };
+        proper = proper;
+        goal = goal ∙ sym (rw (gC, ways, gy));
+      }
 
-  pub publish-0-next : Next st G T (publishStore st (linkTo fs) (C .num)) (Publish (C .num))
-      (map (movedStore (linkNode st (linkTo fs)) n) (store (linkTo fs) (Detach (B .key)) ∷ endingStores (removalEnding (f (C .num)) f (colourOf (erase f y)) old)))
+  pub publish-0-next : Next st G T (publishStore st (linkTo fs) (C .num)) (store (linkTo fs) (Publish (C .num)))
+      (map (movedStore (linkNode st (linkTo fs)) n) (store (linkTo fs) (Detach (B .key)) ∷ lostStores f C y old))
   publish-0-next =
       let q = retire-quiet awaiting (B .num) in
       let a = fields-trans (in-tree .fields) (held-fields (stored .register) _) in
       rw (publish-is, stores) record {
-        tree = plug fs (third₁ L B C n l y gs);
+        tree = plug fs (published d gs n);
         gone = B .num ∷ [];
         shift = by-publish fs gs B C n l y along (ordered-bare f _ T (good .proper .ordered)) (good .once) (fresh .new);
         phase = phase;

@@ -1,6 +1,6 @@
 -- The last stores of the rotations, from phase to phase: to rest, or to the rotation under the copy that a red sibling's diag left.
 use Prim.Native.Nat.{ℕ, _<_}
-use mathlib.Core.Path.{_≡_, sym, ap, _∙_, subst}
+use mathlib.Core.Path.{_≡_, refl, sym, ap, _∙_, subst}
 use mathlib.Core.Logic.{_≢_}
 use mathlib.Core.Bool.{Bool, true, false}
 use mathlib.Core.List.{List, [], _∷_}
@@ -13,8 +13,9 @@ use Rattle.datatypes.specs.declared.Step.the-variants.{DiagRaise, ZigRaise}
 use Rattle.datatypes.specs.declared.Store.{Store}
 use Rattle.datatypes.specs.Side.{other, other-other, linkAt}
 use Rattle.spec.specs.Register.{State, setLink}
-use Rattle.spec.specs.Plan.{turnStores}
-use Rattle.spec.specs.Turn.{painted, risenColour, endDiag, endZig, diagRaise, zigRaise}
+use Rattle.spec.specs.Plan.{turnStores, store}
+use Rattle.spec.specs.Turn.{Made, made, painted, risenColour, endDiag, endZig, diagRaise, zigRaise, endDiagFinds, stepFinds}
+use Rattle.spec.specs.Free.{retire}
 use Rattle.sequential.specs.Tree as Seq
 use Rattle.sequential.specs.Tree.{Colour, red, black, Tree, mk, colourOf}
 use Rattle.tree.specs.Sorted.{NotLeaf, parts, mk-other}
@@ -26,18 +27,20 @@ use Rattle.tree.specs.Zipper.{Frame, hole, plug, same-lift}
 use Rattle.tree.specs.Erase.{erase, eraseWay, erase-at}
 use Rattle.tree.specs.Occurs.{one, one-same, occ, turnover-plug, diag-turnover, zig-turnover}
 use Rattle.tree.specs.Phases.{keeps-whole, diag-keeps}
-use Rattle.tree.specs.Rotations.{diag₀, diag₁, diag₂, diag-order, diag-lower-find, diag-raise-find, zig₀, zig₂, zig₃}
+use Rattle.tree.specs.Rotations.{diag-order, diag-lower-find, diag-raise-find}
 use Rattle.tree.specs.DeleteFixup.{noNephew, nephew, nephewOf, nephew-outer, nephew-inner}
 use Rattle.heap.specs.Sites.{linkTo, Site, of-site, node-root}
 use Rattle.heap.specs.Colours.{colours, erase-occ, way-occ}
 use Rattle.heap.specs.Fixups.{formOf}
 use Rattle.heap.specs.Moves.{At, Once, new-apart, one-swap}
+use Rattle.heap.specs.Places.{Diag, diagTop, diagTree, withInner, diagLow, diagUp, Zig, zigTop, zigTree, zigLowC, zigUp}
 use Rattle.heap.specs.Lowers.{far-down, diag-count}
-use Rattle.heap.specs.Raises.{Ended, diag-raise-is, diag-forInsert, diag-blackSibling, diag-pass-none, diag-pass-some}
-use Rattle.heap.specs.ZigRaises.{zig-raise-is, zig-forInsert, zig-blackSibling}
+use Rattle.heap.specs.Raises.{Raised, Ended, diag-raise-is, diag-forInsert, diag-blackSibling, diag-pass-none, diag-pass-some, diag-raise-finds, pass-finds, blackSibling-finds}
+use Rattle.heap.specs.ZigRaises.{zig-raise-is, zig-forInsert, zig-blackSibling, zig-raise-finds}
 use Rattle.heap.specs.ColourWork.{colours-paint, colours-trans, end-diag, end-zig}
 use Rattle.heap.specs.Parts.{Parts, unchanged, same-queue, parts-of}
-use Rattle.heap.specs.Phase.{Follow, forInsert, onBlackSibling, onRedSibling, purposeOf, lowOf, followStores, DiagNeeds, diagGoal, zigPurpose, zigLow, zigGoal, Lined, Phase, at-rest, diag-0, zig-0}
+use Rattle.heap.specs.Phase.{Follow, forInsert, onBlackSibling, onRedSibling, purposeOf, lowOf, followStores, DiagNeeds, diagGoal, zigPurpose, zigLow, zigGoal}
+use Rattle.heap.specs.Phase.{Lined, Copied, DiagPlan, ZigPlan, zigStore, Phase, at-rest, diag-0, zig-0}
 use Rattle.heap.specs.Shift.{by-diag-raise, by-zig-raise, Next, once-turnover, once-two}
 
 -- the whole tree at the root link
@@ -65,169 +68,201 @@ erase-far f s N x y = simp (erase-at, parts)
 plug-other : (s : Side) (c : Colour) (k v : ℕ) (o : Tree) (fs : List Seq.Frame) (t : Tree) → Seq.plug (Seq.frame (other s) c k v o ∷ fs) t ≡ Seq.plug fs (mk s c k v o t)
 plug-other s c k v o fs t = ap (Seq.plug fs) (mk-other s c k v o t)
 
-module _ (st : State) (G : Tree) (fs : List Frame) (s : Side) (B C : Node) (n : ℕ) (o : Linked) where
+-- the last store of a diag; n is the copy of C
+module _ (st : State) (G : Tree) (n : ℕ) where
   abbrev f : ℕ → Colour
   f = colours (st .pool)
 
-  abbrev Before : Linked → Linked → Type 0
-  Before x r = At st fs (diag₁ s B C n o x r) × Lined G (plug fs (at s C (at s B o x) r)) × (occ n (nodes (plug fs (at s C (at s B o x) r))) ≡ 0)
+  record Before (d : Diag) : Type 0 where
+    site : At st (d .way) (diagLow d n)
+    lined : Lined G (diagTree d)
+    new : occ n (nodes (diagTree d)) ≡ 0
 
-  raised-once : (x r : Linked) → Before x r → Once (plug fs (diag₂ s B C n o x r))
-  raised-once x r h =
-      once-turnover (C .num ∷ []) n (plug fs (diag₀ s B C n o x r)) (plug fs (diag₂ s B C n o x r))
-      (turnover-plug fs (C .num ∷ []) (n ∷ []) (diag₀ s B C n o x r) (diag₂ s B C n o x r) (diag-turnover s B C n o x r)) (h .1 .once) (h .2)
+  module _ (d : Diag) (h : Before d) where
+    open Diag d using (way as fs, side as s, B, C, outer as o, inner as x, far as r)
 
-  raised-lined : (x r : Linked) → Before x r → Lined G (plug fs (diag₂ s B C n o x r))
-  raised-lined x r h = record {
-    once = raised-once x r h;
-    ordered = keeps-whole fs (diag₀ s B C n o x r) (diag₂ s B C n o x r) (diag-keeps s B C n o x r) .ordered (h .1 .ordered);
-    told = λ q. same-lift fs (diag₁ s B C n o x r) (diag₂ s B C n o x r) (diag-raise-find s B C n o x r (diag-order s B C n o x r (ordered-within fs (diag₀ s B C n o x r) (h .1 .ordered)))) q
-        ∙ same-lift fs (diag₀ s B C n o x r) (diag₁ s B C n o x r) (diag-lower-find s B C n o x r) q
-        ∙ h .1 .told q;
-  }
+    abbrev raisedBy : Purpose → Made
+    raisedBy purpose = diagRaise st (linkTo fs) s purpose
 
-  raised-parts : (x r : Linked) (purpose : Purpose) → Before x r → Parts st (diagRaise st (linkTo fs) s purpose) [] (C .num ∷ [])
-  raised-parts x r purpose b =
-      let risen = painted (setLink st (linkTo fs) (B .num)) (B .num) (risenColour purpose st (C .num)) in
-      let i = end-diag purpose risen s (B .num) in
-      parts-of st st (endDiag purpose risen s (B .num)) _ (linkTo fs) (B .num) [] (C .num ∷ []) unchanged
-      (colours-trans (colours-paint (setLink st (linkTo fs) (B .num) .pool) (B .num) (risenColour purpose st (C .num))) (i .tint)) (same-queue (i .register))
-      (diag-raise-is st fs s B C n o x r (b .0) (b .1 .once) (b .2) purpose)
+    raised-once : Once (plug fs (diagUp d n))
+    raised-once =
+        once-turnover (C .num ∷ []) n (diagTree d) (plug fs (diagUp d n)) (turnover-plug fs (C .num ∷ []) (n ∷ []) (diagTop d) (diagUp d n) (diag-turnover s B C n o x r)) (h .lined .once) (h .new)
 
-  -- to rest
-  rest-next : (x r : Linked) (purpose : Purpose) (H : Tree) → (b : Before x r) → Ended st (diagRaise st (linkTo fs) s purpose .after) fs (diag₂ s B C n o x r) H → G ≡ H → Proper G
-      → Next st G (plug fs (diag₁ s B C n o x r)) (diagRaise st (linkTo fs) s purpose) (DiagRaise s purpose) []
-  rest-next x r purpose H b e g good =
-      let is = diag-raise-is st fs s B C n o x r (b .0) (b .1 .once) (b .2) purpose in
-      record {
-        tree = plug fs (diag₂ s B C n o x r);
-        gone = C .num ∷ [];
-        shift = rw is (by-diag-raise fs s B C n o x r (b .1 .ordered) (b .1 .once) (b .2));
-        phase = to-rest G e g good (raised-once x r b);
-        parts = raised-parts x r purpose b;
-        size = e .raised .size;
-        held = e .raised .held;
-        fields = record { readers = e .raised .fields .readers; awaited = e .raised .fields .awaited; write = e .raised .fields .write };
-      }
+    raised-lined : Lined G (plug fs (diagUp d n))
+    raised-lined = record {
+      once = raised-once;
+      ordered = keeps-whole fs (diagTop d) (diagUp d n) (diag-keeps s B C n o x r) .ordered (h .lined .ordered);
+      told = λ q. same-lift fs (diagLow d n) (diagUp d n) (diag-raise-find s B C n o x r (diag-order s B C n o x r (ordered-within fs (diagTop d) (h .lined .ordered)))) q
+          ∙ same-lift fs (diagTop d) (diagLow d n) (diag-lower-find s B C n o x r) q
+          ∙ h .lined .told q;
+    }
 
-  -- to the rotation under the copy
-  abbrev PassNext : Bool → Linked → Linked → Type 0
-  PassNext b x r = Before x r → f n ≡ red → Proper G → nephewOf (other s) (erase f x) ≡ nephew b → G ≡ diagGoal (onRedSibling (nephew b)) f fs s B C o x r
-      → Next st G (plug fs (diag₁ s B C n o x r)) (diagRaise st (linkTo fs) s RedSibling) (DiagRaise s RedSibling) (turnStores (formOf b) (linkAt (other s) (B .num)) s BlackSibling)
+    abbrev risenBy : Purpose → State
+    risenBy purpose = painted (setLink st (linkTo fs) (B .num)) (B .num) (risenColour purpose st (C .num))
 
-  record Under (x r : Linked) (after : State) : Type 0 where
-    site : At after (hole (other s) B o ∷ fs) (at s (copy C n) x r)
-    lined : Lined G (plug (hole (other s) B o ∷ fs) (at s (copy C n) x r))
-    same : plug (hole (other s) B o ∷ fs) (at s (copy C n) x r) ≡ plug fs (diag₂ s B C n o x r)
-    copy-red : colours (after .pool) n ≡ red
-    sub : erase (colours (after .pool)) x ≡ erase f x
-    lack : erase (colours (after .pool)) r ≡ erase f r
-    way : eraseWay (colours (after .pool)) (hole (other s) B o ∷ fs) ≡ Seq.frame (other s) black (B .key) (B .val) (erase f o) ∷ eraseWay f fs
+    raise-is : (purpose : Purpose) → raisedBy purpose ≡ made (retire (endDiag purpose (risenBy purpose) s (B .num)) (C .num)) (linkTo fs) (B .num)
+    raise-is purpose = diag-raise-is st d n (h .site) (h .lined .once) (h .new) purpose
 
-  under : (b : Bool) (x r : Linked) → Before x r → f n ≡ red → nephewOf (other s) (erase f x) ≡ nephew b → Under x r (diagRaise st (linkTo fs) s RedSibling .after)
-  under b x r h en l =
-      let after = diagRaise st (linkTo fs) s RedSibling .after in
-      let i = diag-pass-some st fs s B C n o x r (h .0) (h .1 .once) (h .2) b l in
-      let e : plug (hole (other s) B o ∷ fs) (at s (copy C n) x r) ≡ plug fs (diag₂ s B C n o x r) = rw (at-other s B o (at s (copy C n) x r)) in
-      let g = colours (after .pool) in
-      let count = diag-count fs s B C o x r in
-      let cb = count (B .num) in
-      let sb = one-same (B .num) in
-      let bn = new-apart (B .num) n (nodes (plug fs (at s C (at s B o x) r))) (h .2) (omega arith) in
-      let stay : (t : Linked) → ((j : ℕ) → 0 < occ j (nodes t) → one j (B .num) ≡ 0) → erase g t ≡ erase f t = λ t k. erase-occ f g t (λ j m. i .elsewhere j (one-swap (B .num) j ∙ k j m)) in
-      let eo = stay o (λ j m. let a = h .1 .once j in let c = count j in omega arith) in
-      let ew = way-occ f g fs (λ j m. i .elsewhere j (one-swap (B .num) j ∙ (let a = h .1 .once j in let c = count j in omega arith))) in
-      record {
-        site = far-down after fs s B o (at s (copy C n) x r) (i .raised .site);
-        lined = rw e (raised-lined x r h);
-        same = e;
-        copy-red = i .elsewhere n bn ∙ en;
-        sub = stay x (λ j m. let a = h .1 .once j in let c = count j in omega arith);
-        lack = stay r (λ j m. let a = h .1 .once j in let c = count j in omega arith);
-        way = rw (i .risen-black, eo, ew);
-      }
+    raised-parts : (purpose : Purpose) → Parts st (raisedBy purpose) [] (C .num ∷ [])
+    raised-parts purpose =
+        let i = end-diag purpose (risenBy purpose) s (B .num) in
+        parts-of st st (endDiag purpose (risenBy purpose) s (B .num)) _ (linkTo fs) (B .num) [] (C .num ∷ []) unchanged
+        (colours-trans (colours-paint (setLink st (linkTo fs) (B .num) .pool) (B .num) (risenColour purpose st (C .num))) (i .tint)) (same-queue (i .register)) (raise-is purpose)
 
-  made-next : (b : Bool) (x r : Linked) → Before x r → nephewOf (other s) (erase f x) ≡ nephew b → (l : List Store)
-      → Phase (diagRaise st (linkTo fs) s RedSibling .after .pool) (diagRaise st (linkTo fs) s RedSibling .after .register .root) G (plug fs (diag₂ s B C n o x r)) l
-      → Next st G (plug fs (diag₁ s B C n o x r)) (diagRaise st (linkTo fs) s RedSibling) (DiagRaise s RedSibling) l
-  made-next b x r h e l phase =
-      let i = diag-pass-some st fs s B C n o x r (h .0) (h .1 .once) (h .2) b e in
-      let is = diag-raise-is st fs s B C n o x r (h .0) (h .1 .once) (h .2) RedSibling in
-      record {
-        tree = plug fs (diag₂ s B C n o x r);
-        gone = C .num ∷ [];
-        shift = rw is (by-diag-raise fs s B C n o x r (h .1 .ordered) (h .1 .once) (h .2));
-        phase = phase;
-        parts = raised-parts x r RedSibling h;
-        size = i .raised .size;
-        held = i .raised .held;
-        fields = record { readers = i .raised .fields .readers; awaited = i .raised .fields .awaited; write = i .raised .fields .write };
-      }
+    raised-next : (purpose : Purpose) (l : List Store) → Raised st (raisedBy purpose .after) fs (diagUp d n)
+        → Phase (raisedBy purpose .after .pool) (raisedBy purpose .after .register .root) G (plug fs (diagUp d n)) l
+        → Next st G (plug fs (diagLow d n)) (raisedBy purpose) (store (linkTo fs) (DiagRaise s purpose)) l
+    raised-next purpose l e phase = record {
+      tree = plug fs (diagUp d n);
+      gone = C .num ∷ [];
+      shift = rw (raise-is purpose) (by-diag-raise fs s B C n o x r (h .lined .ordered) (h .lined .once) (h .new));
+      phase = phase;
+      parts = raised-parts purpose;
+      size = e .size;
+      held = e .held;
+      fields = record { readers = e .fields .readers; awaited = e .fields .awaited; write = e .fields .write };
+    }
 
-  pass-diag : (r : Linked) (D : Node) (u v : Linked) → PassNext true (at s D u v) r
-  pass-diag r D u v h en good l goal =
-      let x = at s D u v in
-      let i = under true x r h en l in
-      let after = diagRaise st (linkTo fs) s RedSibling .after in
-      let g = colours (after .pool) in
-      let t : colourOf (erase f u) ≡ red = simp (other-other, erase-at, parts) at (nephew-outer (other s) (erase f (at s D u v)) l) in
-      let sub-u : erase g u ≡ erase f u = sym (erase-near g s D u v) ∙ ap (Seq.child s) (i .sub) ∙ erase-near f s D u v in
-      let needs : NotLeaf (erase g u) = rw sub-u (red-there (erase f u) t) in
-      let goal′ : G ≡ diagGoal onBlackSibling g (hole (other s) B o ∷ fs) s D (copy C n) u v r = goal ∙ sym (rw (i .way, i .copy-red, i .sub, i .lack) (plug-other s black (B .key) (B .val) (erase f o) (eraseWay f fs) _)) in
-      made-next true x r h l _ (subst (λ T. Phase (after .pool) (after .register .root) G T (turnStores (formOf true) (linkAt (other s) (B .num)) s BlackSibling)) (i .same)
-      (diag-0 onBlackSibling (hole (other s) B o ∷ fs) s D (copy C n) u v r (i .site) (i .lined) good needs goal′))
+    -- to rest
+    rest-next : (purpose : Purpose) (H : Tree) → Ended st (raisedBy purpose .after) fs (diagUp d n) H → G ≡ H → Proper G
+        → Next st G (plug fs (diagLow d n)) (raisedBy purpose) (store (linkTo fs) (DiagRaise s purpose)) []
+    rest-next purpose H e g good = raised-next purpose [] (e .raised) (to-rest G e g good raised-once)
 
-  pass-zig : (r : Linked) (A D : Node) (a u v : Linked) → PassNext false (at s A a (at s D u v)) r
-  pass-zig r A D a u v h en good l goal =
-      let x = at s A a (at s D u v) in
-      let i = under false x r h en l in
-      let after = diagRaise st (linkTo fs) s RedSibling .after in
-      let g = colours (after .pool) in
-      let goal′ : G ≡ zigGoal false g (hole (other s) B o ∷ fs) s A D (copy C n) a u v r = goal ∙ sym (rw (i .way, i .copy-red, i .sub, i .lack) (plug-other s black (B .key) (B .val) (erase f o) (eraseWay f fs) _)) in
-      made-next false x r h l _ (subst (λ T. Phase (after .pool) (after .register .root) G T (turnStores (formOf false) (linkAt (other s) (B .num)) s BlackSibling)) (i .same)
-      (zig-0 false (hole (other s) B o ∷ fs) s A D (copy C n) a u v r (i .site) (i .lined) good goal′))
+    -- to the rotation under the copy
+    abbrev underWay : List Frame
+    underWay = hole (other s) B o ∷ fs
 
-  pass-next : (b : Bool) (x r : Linked) → NotLeaf (erase f x) → PassNext b x r
-  pass-next true x r there = split (λ x. PassNext true x r) s (λ D u v. pass-diag r D u v) f x there
-  pass-next false x r there = split (λ x. PassNext false x r) s (λ A a y h en good l goal.
-      (let t : colourOf (erase f y) ≡ red = rw (erase-far f s A a y) at (nephew-inner (other s) (erase f (at s A a y)) l .1) in
-      split (λ y. PassNext false (at s A a y) r) s (λ D u v. pass-zig r A D a u v) f y (red-there (erase f y) t) h en good l goal)) f x there
+    record Under (after : State) : Type 0 where
+      site : At after underWay (at s (copy C n) x r)
+      lined : Lined G (plug underWay (at s (copy C n) x r))
+      same : plug underWay (at s (copy C n) x r) ≡ plug fs (diagUp d n)
+      copy-red : colours (after .pool) n ≡ red
+      sub : erase (colours (after .pool)) x ≡ erase f x
+      lack : erase (colours (after .pool)) r ≡ erase f r
+      way : eraseWay (colours (after .pool)) underWay ≡ Seq.frame (other s) black (B .key) (B .val) (erase f o) ∷ eraseWay f fs
 
-  pub diag-1-next : (w : Follow) (x r : Linked) → At st fs (diag₁ s B C n o x r) → Lined G (plug fs (at s C (at s B o x) r)) → occ n (nodes (plug fs (at s C (at s B o x) r))) ≡ 0
-      → f n ≡ lowOf w → Proper G → DiagNeeds w f s o x → G ≡ diagGoal w f fs s B C o x r
-      → Next st G (plug fs (diag₁ s B C n o x r)) (diagRaise st (linkTo fs) s (purposeOf w)) (DiagRaise s (purposeOf w)) (followStores w s (B .num))
-  diag-1-next forInsert x r h lined old en good needs goal = rest-next x r ForInsert _ (h, lined, old) (diag-forInsert st fs s B C n o x r h (lined .once) old en) goal good
-  diag-1-next onBlackSibling x r h lined old en good needs goal = rest-next x r BlackSibling _ (h, lined, old) (diag-blackSibling st fs s B C n o x r h (lined .once) old en) goal good
-  diag-1-next (onRedSibling noNephew) x r h lined old en good needs goal =
-      rest-next x r RedSibling _ (h, lined, old) (diag-pass-none st fs s B C n o x r h (lined .once) old en (needs .1)) goal good
-  diag-1-next (onRedSibling (nephew b)) x r h lined old en good needs goal = pass-next b x r (needs .0) (h, lined, old) en good (needs .1) goal
+    under : (b : Bool) → f n ≡ red → nephewOf (other s) (erase f x) ≡ nephew b → Under (raisedBy RedSibling .after)
+    under b en l =
+        let after = raisedBy RedSibling .after in
+        let i = diag-pass-some st d n (h .site) (h .lined .once) (h .new) b l in
+        let e : plug underWay (at s (copy C n) x r) ≡ plug fs (diagUp d n) = ap (plug fs) (at-other s B o (at s (copy C n) x r)) in
+        let g = colours (after .pool) in
+        let cb = diag-count d (B .num) in
+        let sb = one-same (B .num) in
+        let bn = new-apart (B .num) n (nodes (diagTree d)) (h .new) (omega arith) in
+        let stay : (t : Linked) → ((j : ℕ) → 0 < occ j (nodes t) → one j (B .num) ≡ 0) → erase g t ≡ erase f t = λ t k. erase-occ f g t (λ j m. i .elsewhere j (one-swap (B .num) j ∙ k j m)) in
+        let eo = stay o (λ j m. let a = h .lined .once j in let c = diag-count d j in omega arith) in
+        let ew = way-occ f g fs (λ j m. i .elsewhere j (one-swap (B .num) j ∙ (let a = h .lined .once j in let c = diag-count d j in omega arith))) in
+        record {
+          site = far-down after fs s B o (at s (copy C n) x r) (i .raised .site);
+          lined = rw e raised-lined;
+          same = e;
+          copy-red = i .elsewhere n bn ∙ en;
+          sub = stay x (λ j m. let a = h .lined .once j in let c = diag-count d j in omega arith);
+          lack = stay r (λ j m. let a = h .lined .once j in let c = diag-count d j in omega arith);
+          way = rw (i .risen-black, eo, ew);
+        }
+
+    made-next : (b : Bool) → nephewOf (other s) (erase f x) ≡ nephew b → (i : Under (raisedBy RedSibling .after)) (l : List Store)
+        → Phase (raisedBy RedSibling .after .pool) (raisedBy RedSibling .after .register .root) G (plug underWay (at s (copy C n) x r)) l
+        → Next st G (plug fs (diagLow d n)) (raisedBy RedSibling) (store (linkTo fs) (DiagRaise s RedSibling)) l
+    made-next b e i l phase =
+        raised-next RedSibling l (diag-pass-some st d n (h .site) (h .lined .once) (h .new) b e .raised)
+        (subst (λ T. Phase (raisedBy RedSibling .after .pool) (raisedBy RedSibling .after .register .root) G T l) (i .same) phase)
+
+  abbrev PassNext : Bool → Diag → Type 0
+  PassNext b d = Before d → f n ≡ red → Proper G → nephewOf (other (d .side)) (erase f (d .inner)) ≡ nephew b → G ≡ diagGoal f d (onRedSibling (nephew b))
+      → Next st G (plug (d .way) (diagLow d n)) (diagRaise st (linkTo (d .way)) (d .side) RedSibling) (store (linkTo (d .way)) (DiagRaise (d .side) RedSibling))
+      (turnStores (formOf b) (linkAt (other (d .side)) (d .B .num)) (d .side) BlackSibling)
+
+  module _ (d : Diag) where
+    open Diag d using (way as fs, side as s, B, C, outer as o, inner as x, far as r)
+
+    pass-diag : (D : Node) (u v : Linked) → PassNext true (withInner d (at s D u v))
+    pass-diag D u v h en good l goal =
+        let e = withInner d (at s D u v) in
+        let i = under e h true en l in
+        let after = diagRaise st (linkTo fs) s RedSibling .after in
+        let g = colours (after .pool) in
+        let t : colourOf (erase f u) ≡ red = simp (other-other, erase-at, parts) at (nephew-outer (other s) (erase f (at s D u v)) l) in
+        let sub-u : erase g u ≡ erase f u = sym (erase-near g s D u v) ∙ ap (Seq.child s) (i .sub) ∙ erase-near f s D u v in
+        let place : Diag = record { way = hole (other s) B o ∷ fs; side = s; B = D; C = copy C n; outer = u; inner = v; far = r } in
+        let goal′ : G ≡ diagGoal g place onBlackSibling = goal ∙ sym (rw (i .way, i .copy-red, i .sub, i .lack) (plug-other s black (B .key) (B .val) (erase f o) (eraseWay f fs) _)) in
+        made-next e h true l i _ (diag-0 onBlackSibling place (i .site) (record { lined = i .lined; proper = good; needs = rw sub-u (red-there (erase f u) t); goal = goal′ }))
+
+    pass-zig : (A D : Node) (a u v : Linked) → PassNext false (withInner d (at s A a (at s D u v)))
+    pass-zig A D a u v h en good l goal =
+        let e = withInner d (at s A a (at s D u v)) in
+        let i = under e h false en l in
+        let g = colours (diagRaise st (linkTo fs) s RedSibling .after .pool) in
+        let place : Zig = record { way = hole (other s) B o ∷ fs; side = s; A = A; B = D; C = copy C n; outer = a; innerA = u; innerC = v; far = r } in
+        let goal′ : G ≡ zigGoal g place false = goal ∙ sym (rw (i .way, i .copy-red, i .sub, i .lack) (plug-other s black (B .key) (B .val) (erase f o) (eraseWay f fs) _)) in
+        made-next e h false l i _ (zig-0 false place (i .site) (record { lined = i .lined; proper = good; goal = goal′ }))
+
+    pass-next : (b : Bool) → NotLeaf (erase f x) → PassNext b d
+    pass-next true there = split (λ t. PassNext true (withInner d t)) s pass-diag f x there
+    pass-next false there = split (λ t. PassNext false (withInner d t)) s (λ A a y h en good l goal.
+        (let t : colourOf (erase f y) ≡ red = rw (erase-far f s A a y) at (nephew-inner (other s) (erase f (at s A a y)) l .1) in
+        split (λ y. PassNext false (withInner d (at s A a y))) s (λ D u v. pass-zig A D a u v) f y (red-there (erase f y) t) h en good l goal)) f x there
+
+module _ (st : State) (G : Tree) (d : Diag) (n : ℕ) (h : At st (d .way) (diagLow d n)) where
+  open Diag d using (way as fs, side as s, B)
+
+  pub diag-1-next : (w : Follow) → DiagPlan (colours (st .pool)) G w d → Copied (colours (st .pool)) (diagTree d) n (lowOf w)
+      → Next st G (plug fs (diagLow d n)) (diagRaise st (linkTo fs) s (purposeOf w)) (store (linkTo fs) (DiagRaise s (purposeOf w))) (followStores w s (B .num))
+  diag-1-next w plan copied = go w plan copied
+    where
+      before : Before st G n d
+      before = record { site = h; lined = plan .lined; new = copied .new }
+
+      go : (w : Follow) → DiagPlan (colours (st .pool)) G w d → Copied (colours (st .pool)) (diagTree d) n (lowOf w)
+          → Next st G (plug fs (diagLow d n)) (diagRaise st (linkTo fs) s (purposeOf w)) (store (linkTo fs) (DiagRaise s (purposeOf w))) (followStores w s (B .num))
+      go forInsert i c = rest-next st G n d before ForInsert _ (diag-forInsert st d n h (i .lined .once) (c .new) (c .colour)) (i .goal) (i .proper)
+      go onBlackSibling i c = rest-next st G n d before BlackSibling _ (diag-blackSibling st d n h (i .lined .once) (c .new) (c .colour)) (i .goal) (i .proper)
+      go (onRedSibling noNephew) i c = rest-next st G n d before RedSibling _ (diag-pass-none st d n h (i .lined .once) (c .new) (c .colour) (i .needs .1)) (i .goal) (i .proper)
+      go (onRedSibling (nephew b)) i c = pass-next st G n d b (i .needs .0) before (c .colour) (i .proper) (i .needs .1) (i .goal)
+
+  pub diag-1-finds : (w : Follow) → DiagPlan (colours (st .pool)) G w d → occ n (nodes (diagTree d)) ≡ 0 → stepFinds st (linkTo fs) (DiagRaise s (purposeOf w)) ≡ true
+  diag-1-finds w plan new = diag-raise-finds st d n h (plan .lined .once) new (purposeOf w) (go w (plan .needs))
+    where
+      go : (w : Follow) → DiagNeeds (colours (st .pool)) d w → endDiagFinds (purposeOf w) st s (B .num) ≡ true
+      go forInsert i = refl
+      go onBlackSibling i = blackSibling-finds st d n h (plan .lined .once) new i
+      go (onRedSibling l) i = pass-finds st d n h (plan .lined .once) new (i .0)
 
 -- the last store of a zig
-module _ (st : State) (G : Tree) (fs : List Frame) (s : Side) (A B C : Node) (m n : ℕ) (a x y r : Linked) where
-  abbrev T₀ : Linked
-  T₀ = plug fs (at s C (at s A a (at s B x y)) r)
+module _ (st : State) (G : Tree) (d : Zig) (m n : ℕ) (h : At st (d .way) (zigLowC d m n)) (w : Bool) (plan : ZigPlan (colours (st .pool)) G w d)
+    (copyA : Copied (colours (st .pool)) (zigTree d) m (zigLow w)) (copyC : Copied (colours (st .pool)) (zigTree d) n (zigLow w)) (apart : m ≢ n) where
+  open Zig d using (way as fs, side as s, A, B, C, outer as a, innerA as x, innerC as y, far as r)
 
-  zig-rest : (w : Bool) (H : Tree) → At st fs (zig₂ s A B C m n a x y r) → Lined G T₀ → occ m (nodes T₀) ≡ 0 → occ n (nodes T₀) ≡ 0 → m ≢ n
-      → Ended st (zigRaise st (linkTo fs) s (zigPurpose w) .after) fs (zig₃ s A B C m n a x y r) H → G ≡ H → Proper G
-      → Next st G (plug fs (zig₂ s A B C m n a x y r)) (zigRaise st (linkTo fs) s (zigPurpose w)) (ZigRaise s (zigPurpose w)) []
-  zig-rest w H h lined om on d e g good =
-      let is = zig-raise-is st fs s A B C m n a x y r h (lined .once) om on (zigPurpose w) in
+  once : Once (zigTree d)
+  once = plan .lined .once
+
+  zig-rest : Ended st (zigRaise st (linkTo fs) s (zigPurpose w) .after) fs (zigUp d m n) (zigGoal (colours (st .pool)) d w)
+      → Next st G (plug fs (zigLowC d m n)) (zigRaise st (linkTo fs) s (zigPurpose w)) (zigStore w d ZigRaise) []
+  zig-rest e =
+      let is = zig-raise-is st d m n h once (copyA .new) (copyC .new) (zigPurpose w) in
+      let risen = painted (setLink st (linkTo fs) (B .num)) (B .num) (risenColour (zigPurpose w) st (C .num)) in
+      let gone = A .num ∷ C .num ∷ [] in
       record {
-        tree = plug fs (zig₃ s A B C m n a x y r);
+        tree = plug fs (zigUp d m n);
         gone = A .num ∷ C .num ∷ [];
-        shift = rw is (by-zig-raise fs s A B C m n a x y r (lined .ordered) (lined .once) om on d);
-        phase = to-rest G e g good (once-two (A .num ∷ C .num ∷ []) m n T₀ (plug fs (zig₃ s A B C m n a x y r))
-            (turnover-plug fs (A .num ∷ C .num ∷ []) (m ∷ n ∷ []) (zig₀ s A B C m n a x y r) (zig₃ s A B C m n a x y r) (zig-turnover s A B C m n a x y r)) (lined .once) d om on);
-        parts = (let risen = painted (setLink st (linkTo fs) (B .num)) (B .num) (risenColour (zigPurpose w) st (C .num)) in
-            parts-of st st (endZig (zigPurpose w) risen) _ (linkTo fs) (B .num) [] (A .num ∷ C .num ∷ []) unchanged
-            (colours-trans (colours-paint (setLink st (linkTo fs) (B .num) .pool) (B .num) (risenColour (zigPurpose w) st (C .num))) (end-zig (zigPurpose w) risen .tint)) (same-queue (end-zig (zigPurpose w) risen .register)) is);
+        shift = rw is (by-zig-raise fs s A B C m n a x y r (plan .lined .ordered) once (copyA .new) (copyC .new) apart);
+        phase = to-rest G e (plan .goal) (plan .proper) (once-two gone m n (zigTree d) (plug fs (zigUp d m n))
+            (turnover-plug fs gone (m ∷ n ∷ []) (zigTop d) (zigUp d m n) (zig-turnover s A B C m n a x y r)) once apart (copyA .new) (copyC .new));
+        parts = parts-of st st (endZig (zigPurpose w) risen) _ (linkTo fs) (B .num) [] gone unchanged
+            (colours-trans (colours-paint (setLink st (linkTo fs) (B .num) .pool) (B .num) (risenColour (zigPurpose w) st (C .num))) (end-zig (zigPurpose w) risen .tint))
+            (same-queue (end-zig (zigPurpose w) risen .register)) is;
         size = e .raised .size;
         held = e .raised .held;
         fields = record { readers = e .raised .fields .readers; awaited = e .raised .fields .awaited; write = e .raised .fields .write };
       }
 
-  pub zig-2-next : (w : Bool) → At st fs (zig₂ s A B C m n a x y r) → Lined G T₀ → occ m (nodes T₀) ≡ 0 → occ n (nodes T₀) ≡ 0 → m ≢ n
-      → colours (st .pool) m ≡ zigLow w → colours (st .pool) n ≡ zigLow w → Proper G → G ≡ zigGoal w (colours (st .pool)) fs s A B C a x y r
-      → Next st G (plug fs (zig₂ s A B C m n a x y r)) (zigRaise st (linkTo fs) s (zigPurpose w)) (ZigRaise s (zigPurpose w)) []
-  zig-2-next true h lined om on d em en good goal = zig-rest true _ h lined om on d (zig-forInsert st fs s A B C m n a x y r h (lined .once) om on em en) goal good
-  zig-2-next false h lined om on d em en good goal = zig-rest false _ h lined om on d (zig-blackSibling st fs s A B C m n a x y r h (lined .once) om on em en) goal good
+  pub zig-2-finds : stepFinds st (linkTo fs) (ZigRaise s (zigPurpose w)) ≡ true
+  zig-2-finds = zig-raise-finds st d m n h once (copyA .new) (copyC .new) (zigPurpose w)
+
+pub zig-2-next : (st : State) (G : Tree) (d : Zig) (m n : ℕ) → At st (d .way) (zigLowC d m n) → (w : Bool) → ZigPlan (colours (st .pool)) G w d
+    → Copied (colours (st .pool)) (zigTree d) m (zigLow w) → Copied (colours (st .pool)) (zigTree d) n (zigLow w) → m ≢ n
+    → Next st G (plug (d .way) (zigLowC d m n)) (zigRaise st (linkTo (d .way)) (d .side) (zigPurpose w)) (zigStore w d ZigRaise) []
+zig-2-next st G d m n h true i a c u = zig-rest st G d m n h true i a c u (zig-forInsert st d m n h (i .lined .once) (a .new) (c .new) (a .colour) (c .colour))
+zig-2-next st G d m n h false i a c u = zig-rest st G d m n h false i a c u (zig-blackSibling st d m n h (i .lined .once) (a .new) (c .new) (a .colour) (c .colour))

@@ -12,7 +12,7 @@ use Rattle.datatypes.specs.declared.Link.{Link}
 use Rattle.datatypes.specs.declared.Link.the-variants.{Root, Left, Right}
 use Rattle.datatypes.specs.declared.Ending.{Ending}
 use Rattle.datatypes.specs.declared.Ending.the-variants.{Balanced, Blacken, Rotate, RotateTwice, Missing}
-use Rattle.spec.specs.Pool.{paint}
+use Rattle.spec.specs.Pool.{paint, leftWord, rightWord}
 use Rattle.spec.specs.Register.{State, state, nodeAt, linkNode}
 use Rattle.spec.specs.Plan.{fixupResult, endingStores, paintDeleteLevels, paintEnd, paintDeleteFixup}
 use Rattle.sequential.specs.Tree as Seq
@@ -26,7 +26,7 @@ use Rattle.tree.specs.Erase.{erase, eraseWay, erase-plug}
 use Rattle.tree.specs.Recolour.{DeleteFixupTo}
 use Rattle.tree.specs.DeleteFixup as DeleteFixup
 use Rattle.tree.specs.DeleteFixup.{DeleteFixupEnd, fixup-deleteFixup}
-use Rattle.heap.specs.Rep.{Alike}
+use Rattle.heap.specs.Rep.{Alike, upToLinks}
 use Rattle.heap.specs.Sites.{linkTo, links, Site, site-of, of-site, site-alike}
 use Rattle.heap.specs.Colours.{colours}
 use Rattle.heap.specs.Fixups.{framesUp, tip, deleteFixupEnding, Stop, stop-root, stop-red, stop-turn, stop-pass}
@@ -37,11 +37,11 @@ use Rattle.heap.specs.Phase.{Lined, Phase, at-rest}
 use Rattle.heap.specs.RaiseSteps.{root-site}
 use Rattle.heap.specs.Removals.{endPool, stop-phase}
 
-pub node-alike : {p q : List ℕ} → Alike 4 p q → (root : ℕ) (l : Link) → nodeAt q root l ≡ nodeAt p root l
+pub node-alike : {p q : List ℕ} → Alike upToLinks p q → (root : ℕ) (l : Link) → nodeAt q root l ≡ nodeAt p root l
 unfolding nodeAt
 node-alike a root Root = refl
-node-alike a root (Left n) = a .words n 2 (omega arith)
-node-alike a root (Right n) = a .words n 3 (omega arith)
+node-alike a root (Left n) = a .words n leftWord (omega arith)
+node-alike a root (Right n) = a .words n rightWord (omega arith)
 
 pub links-get : (m : ℕ) (fs : List Frame) → m ≤ length fs → getD (links fs) m Root ≡ linkTo (framesUp m fs)
 links-get zero fs l = refl
@@ -117,7 +117,7 @@ module _ (st : State) (G : Tree) (gs : List Frame) (t : Linked) (x : ℕ) (path 
   e = deleteFixupEnding (deleteFixupOf f c gs .end) (tip f c m gs) U
 
   -- a black node is lost: the fixup's levels, then its end
-  pub black-core : Stop f (tip f c m gs) U (deleteFixupOf f c gs .end) → G ≡ fixup (eraseWay f gs) (erase f t) → Alike 4 (st .pool) (paintDeleteLevels m path (st .pool))
+  pub black-core : Stop f (tip f c m gs) U (deleteFixupOf f c gs .end) → G ≡ fixup (eraseWay f gs) (erase f t) → Alike upToLinks (st .pool) (paintDeleteLevels m path (st .pool))
       → DeleteFixupTo m f (colours (paintDeleteLevels m path (st .pool))) gs → erase (colours (paintDeleteLevels m path (st .pool))) t ≡ erase f t
       → cond (eqb m 0) x (linkNode st (getD path m Root)) ≡ linkNode st (linkTo U)
       → Phase (paintDeleteFixup st (fixupResult m e) x path .pool) (paintDeleteFixup st (fixupResult m e) x path .register .root) G (plug gs t) (endingStores e)

@@ -26,7 +26,7 @@ use Rattle.tree.specs.Zipper.{Frame, plug}
 use Rattle.tree.specs.Erase.{erase, eraseWay}
 use Rattle.tree.specs.Occurs.{occ-plug}
 use Rattle.tree.specs.DeleteFixup.{DeleteFixups}
-use Rattle.heap.specs.Rep.{Rep, Alike, alike-refl, alike-trans}
+use Rattle.heap.specs.Rep.{Rep, Alike, alike-refl, alike-trans, upToLinks}
 use Rattle.heap.specs.Sites.{linkTo, links}
 use Rattle.heap.specs.Colours.{redly, colours, red-is, paint-alike, erase-occ}
 use Rattle.heap.specs.Fixups.{Sides, way-sides, framesUp, numOf}
@@ -47,22 +47,22 @@ unfolding fixupAfterRemoval
 removal-black p n x c fs e d w s = rw (red-is p n, e) (deleteFixup-run p 0 x c fs d w s .is ∙ rw zero-add)
 
 -- painting keeps all links
-pub deleteFixup-alike : (m : ℕ) (path : List Link) (p : List ℕ) → Alike 4 p (paintDeleteLevels m path p)
+pub deleteFixup-alike : (m : ℕ) (path : List Link) (p : List ℕ) → Alike upToLinks p (paintDeleteLevels m path p)
 unfolding paintDeleteLevels
-deleteFixup-alike zero path p = alike-refl 4 p
-deleteFixup-alike (suc m) [] p = alike-refl 4 p
+deleteFixup-alike zero path p = alike-refl upToLinks p
+deleteFixup-alike (suc m) [] p = alike-refl upToLinks p
 deleteFixup-alike (suc m) (l ∷ up) p =
     let p1 = paint p (child p (other (sideOf l)) (owner l)) redColour in
     alike-trans (paint-alike p (child p (other (sideOf l)) (owner l)) redColour) (deleteFixup-alike m up p1)
 
-end-alike : (e : Ending) (st : State) (n : ℕ) → Alike 4 (st .pool) (paintEnd e st n)
-end-alike Balanced st n = alike-refl 4 (st .pool)
+end-alike : (e : Ending) (st : State) (n : ℕ) → Alike upToLinks (st .pool) (paintEnd e st n)
+end-alike Balanced st n = alike-refl upToLinks (st .pool)
 end-alike Blacken st n = paint-alike (st .pool) n blackColour
-end-alike (Rotate t) st n = alike-refl 4 (st .pool)
-end-alike (RotateTwice t u) st n = alike-refl 4 (st .pool)
-end-alike Missing st n = alike-refl 4 (st .pool)
+end-alike (Rotate t) st n = alike-refl upToLinks (st .pool)
+end-alike (RotateTwice t u) st n = alike-refl upToLinks (st .pool)
+end-alike Missing st n = alike-refl upToLinks (st .pool)
 
-pub removal-alike : (st : State) (c : Fixup) (x : ℕ) (path : List Link) → Alike 4 (st .pool) (paintDeleteFixup st c x path .pool)
+pub removal-alike : (st : State) (c : Fixup) (x : ℕ) (path : List Link) → Alike upToLinks (st .pool) (paintDeleteFixup st c x path .pool)
 unfolding paintDeleteFixup
 removal-alike st c x path = alike-trans (deleteFixup-alike (c .levels) path (st .pool)) (end-alike (c .ending) (state (paintDeleteLevels (c .levels) path (st .pool)) (st .register)) _)
 

@@ -28,6 +28,7 @@ use Rattle.heap.specs.Sites.{linkTo, Site, site-of, of-site, site-alike}
 use Rattle.heap.specs.Colours.{colours, paint-alike, way-occ, erase-top}
 use Rattle.heap.specs.Fixups.{numOf, formOf, deleteFixupEnding, nephewEnding, Stop, stop-root, stop-red, stop-turn, stop-pass}
 use Rattle.heap.specs.Paints.{top-outside}
+use Rattle.heap.specs.Places.{Diag}
 use Rattle.heap.specs.Phase.{onBlackSibling, onRedSibling, followStores, DiagNeeds, passUnder, diagGoal, Lined, Phase, at-rest, diag-0, zig-0}
 use Rattle.heap.specs.RaiseSteps.{split, erase-near}
 
@@ -80,12 +81,14 @@ module _ (q : List ℕ) (root : ℕ) (G : Tree) (good : Proper G) where
     blackSibling-diag B o x l h lined goal =
         let y = at (other s) B o x in
         let t : colourOf (erase g o) ≡ red = rw (erase-near g (other s) B o x) at (nephew-outer s (erase g y) l) in
-        rw (turned y) (diag-0 onBlackSibling fs (other s) B N o x u (there y h) (rw (turned y) at lined) good (red-there (erase g o) t) goal)
+        rw (turned y) (diag-0 onBlackSibling (record { way = fs; side = other s; B = B; C = N; outer = o; inner = x; far = u }) (there y h)
+        (record { lined = rw (turned y) at lined; proper = good; needs = red-there (erase g o) t; goal = goal }))
 
     blackSibling-zig : (A B : Node) (a x z : Linked) → Lacking (blackSiblingOf false) black (hole s N (at (other s) A a (at (other s) B x z)) ∷ fs) u
     blackSibling-zig A B a x z h lined goal =
         let y = at (other s) A a (at (other s) B x z) in
-        rw (turned y) (zig-0 false fs (other s) A B N a x z u (there y h) (rw (turned y) at lined) good goal)
+        rw (turned y) (zig-0 false (record { way = fs; side = other s; A = A; B = B; C = N; outer = a; innerA = x; innerC = z; far = u }) (there y h)
+        (record { lined = rw (turned y) at lined; proper = good; goal = goal }))
 
     blackSibling-any : (b : Bool) (y : Linked) → NotLeaf (erase g y) → nephewOf s (erase g y) ≡ nephew b → Lacking (blackSiblingOf b) black (hole s N y ∷ fs) u
     blackSibling-any true y n = split (λ y. nephewOf s (erase g y) ≡ nephew true → Lacking (blackSiblingOf true) black (hole s N y ∷ fs) u) (other s) blackSibling-diag g y n
@@ -96,9 +99,10 @@ module _ (q : List ℕ) (root : ℕ) (G : Tree) (good : Proper G) where
     pass-diag : (o : Nephew) (B : Node) (x z : Linked) → NotLeaf (erase g z) → nephewOf s (erase g z) ≡ o → Lacking (passed o) black (hole s N (at (other s) B x z) ∷ fs) u
     pass-diag o B x z n l h lined goal =
         let y = at (other s) B x z in
-        let needs : DiagNeeds (onRedSibling o) g (other s) x z = (n, rw (other-other s) l) in
-        let goal′ : G ≡ diagGoal (onRedSibling o) g fs (other s) B N x z u = goal ∙ ap (Seq.plug (eraseWay g fs)) (pass-tree o s g B (N .key) (N .val) x z (erase g u)) in
-        rw (turned y, pass-stores o fs s B x z) (diag-0 (onRedSibling o) fs (other s) B N x z u (there y h) (rw (turned y) at lined) good needs goal′)
+        let d : Diag = record { way = fs; side = other s; B = B; C = N; outer = x; inner = z; far = u } in
+        let needs : DiagNeeds g d (onRedSibling o) = (n, rw (other-other s) l) in
+        let goal′ : G ≡ diagGoal g d (onRedSibling o) = goal ∙ ap (Seq.plug (eraseWay g fs)) (pass-tree o s g B (N .key) (N .val) x z (erase g u)) in
+        rw (turned y, pass-stores o fs s B x z) (diag-0 (onRedSibling o) d (there y h) (record { lined = rw (turned y) at lined; proper = good; needs = needs; goal = goal′ }))
 
     pass-any : (o : Nephew) (y : Linked) → colourOf (erase g y) ≡ red → NotLeaf (Seq.child s (erase g y)) → nephewOf s (Seq.child s (erase g y)) ≡ o → Lacking (passed o) black (hole s N y ∷ fs) u
     pass-any o y e = split (λ y. NotLeaf (Seq.child s (erase g y)) → nephewOf s (Seq.child s (erase g y)) ≡ o → Lacking (passed o) black (hole s N y ∷ fs) u) (other s)

@@ -1,6 +1,6 @@
 -- The linked tree that a link of the pool unfolds to, and what changes of the pool leave it as it is. A link unfolds to one tree, and no
 -- node stands below itself. Nothing is assumed: unfoldings may repeat a node.
-use Prim.Native.Nat.{ℕ, _<_, _≤_}
+use Prim.Native.Nat.{ℕ, _+_, _<_, _≤_}
 use mathlib.Core.Path.{_≡_, refl, sym, ap, _∙_}
 use mathlib.Core.Logic.{_≢_, inl, inr, _↔_}
 use mathlib.Core.List.{List}
@@ -10,7 +10,7 @@ use Rattle.datatypes.specs.declared.Side.{Side}
 use Rattle.datatypes.specs.declared.Side.the-variants.{L, R}
 use Rattle.datatypes.specs.Side.{other}
 use Rattle.spec.specs.Numbers.{nodeWords}
-use Rattle.spec.specs.Pool.{word, setWord, child, keyWord, recordWord}
+use Rattle.spec.specs.Pool.{word, setWord, child, keyWord, recordWord, rightWord, colourWord, leftWord}
 use Rattle.spec.specs.FreeQueue.{InPool}
 use Rattle.laws.specs.Words.{length-setWord, word-other}
 use Rattle.tree.specs.Linked.{Node, Linked, nil, cell, at, nodes}
@@ -33,9 +33,16 @@ pub rep-at : (p : List ℕ) (a : ℕ) (s : Side) (N : Node) (x y : Linked)
 rep-at p a L N x y = (λ h. h, λ h. h)
 rep-at p a R N x y = (λ h. (h .0, h .2, h .1), λ h. (h .0, h .2, h .1))
 
+-- how many words of a node: key, record and links; the colour too
+abbrev pub upToLinks : ℕ
+upToLinks = rightWord + 1
+
+abbrev pub upToColour : ℕ
+upToColour = colourWord + 1
+
 -- the words of key, record and links of node n are the same in q
 abbrev pub Agree : List ℕ → List ℕ → ℕ → Type 0
-Agree p q n = (f : ℕ) → f < 4 → word q n f ≡ word p n f
+Agree p q n = (f : ℕ) → f < upToLinks → word q n f ≡ word p n f
 
 pub words-agree : (p q : List ℕ) {a : ℕ} {N : Node} → length q ≡ length p → Agree p q (N .num) → Words p a N → Words q a N
 words-agree p q e h w = record {
@@ -51,11 +58,11 @@ rep-agree p q e nil a h r = r
 rep-agree p q e (cell N l r) a h w =
     let capacity = h (N .num) (let x = one-same (N .num) in omega arith) in (
       words-agree p q e capacity (w .0),
-      rw (capacity 2 (omega arith)) (rep-agree p q e l _ (λ n i. h n (let x = occ-append n (nodes l) (nodes r) in omega arith)) (w .1)),
-      rw (capacity 3 (omega arith)) (rep-agree p q e r _ (λ n i. h n (let x = occ-append n (nodes l) (nodes r) in omega arith)) (w .2)),
+      rw (capacity leftWord (omega arith)) (rep-agree p q e l _ (λ n i. h n (let x = occ-append n (nodes l) (nodes r) in omega arith)) (w .1)),
+      rw (capacity rightWord (omega arith)) (rep-agree p q e r _ (λ n i. h n (let x = occ-append n (nodes l) (nodes r) in omega arith)) (w .2)),
     )
 
--- q has the same words below the k-th of each node: 4 for key, record and links, 5 for the colour too
+-- q has the same words below the k-th of each node
 pub record Alike (k : ℕ) (p q : List ℕ) : Type 0 where
   pub size : length q ≡ length p
   pub words : (n f : ℕ) → f < k → word q n f ≡ word p n f
@@ -72,7 +79,7 @@ alike-less j l a = record { size = a .size; words = λ n f h. a .words n f (omeg
 pub alike-set : (k : ℕ) (p : List ℕ) (n f v : ℕ) → k ≤ f → f < nodeWords → Alike k p (setWord p n f v)
 alike-set k p n f v l h = record { size = length-setWord p n f v; words = λ m g i. word-other p n m f g v h (omega arith) (inr (omega arith)) }
 
-pub rep-alike : {p q : List ℕ} → Alike 4 p q → (t : Linked) (a : ℕ) → Rep p a t → Rep q a t
+pub rep-alike : {p q : List ℕ} → Alike upToLinks p q → (t : Linked) (a : ℕ) → Rep p a t → Rep q a t
 rep-alike {p} {q} h t a r = rep-agree p q (h .size) t a (λ n _. h .words n) r
 
 -- a change of a node that does not occur

@@ -12,24 +12,24 @@ use native.Mathlib.Decide.{ℕ-discrete}
 use Rattle.datatypes.specs.declared.Side.the-variants.{L, R}
 use Rattle.datatypes.specs.declared.Link.the-variants.{Root}
 use Rattle.datatypes.specs.declared.Step.the-variants.{Replace}
-use Rattle.spec.specs.Pool.{child, isRed}
+use Rattle.spec.specs.Pool.{child, isRed, leftWord}
 use Rattle.spec.specs.Register.{State, setLink, linkNode}
 use Rattle.spec.specs.Free.{retire}
 use Rattle.spec.specs.Search.{pathTo}
-use Rattle.spec.specs.Plan.{fixupResult, endingStores, fixupAfterRemoval, paintDeleteFixup, paintDeleteLevels}
+use Rattle.spec.specs.Plan.{fixupResult, endingStores, fixupAfterRemoval, paintDeleteFixup, paintDeleteLevels, store}
 use Rattle.spec.specs.Turn.{made, painted, colourOf as colourWordOf, oneLess, replaceStore, stepFinds}
 use Rattle.sequential.specs.Tree as Seq
 use Rattle.sequential.specs.Tree.{Colour, red, black, Tree, colourOf}
 use Rattle.sequential.specs.Delete.{lose, fixup, delete}
-use Rattle.tree.specs.Changes.{Proper}
 use Rattle.tree.specs.Linked.{Node, Linked, nil, at, nodes}
 use Rattle.tree.specs.LinkedOrder.{ordered-bare, ordered-within, into-top}
 use Rattle.tree.specs.Zipper.{Frame, hole, plug, Into, same-lift, sameBut-lift}
 use Rattle.tree.specs.Erase.{erase, eraseWay, erase-plug, erase-find}
+use Rattle.tree.specs.Height.{mostHeight}
 use Rattle.tree.specs.Ways.{other-deleteFixup}
 use Rattle.tree.specs.Occurs.{one, one-same, one-other, occ, in-occ, occ-in, occ-at, occWay, turnover-plug, form-turnover}
 use Rattle.tree.specs.Phases.{writes-whole, form-writes}
-use Rattle.tree.specs.Stores.{form₀, form₁, form₂, form-order, adopt-find, replace-find}
+use Rattle.tree.specs.Stores.{form-order, adopt-find, replace-find}
 use Rattle.tree.specs.DeleteFixup as DeleteFixup
 use Rattle.tree.specs.DeleteFixup.{DeleteFixup, DeleteFixups}
 use Rattle.heap.specs.Rep.{Rep}
@@ -46,7 +46,8 @@ use Rattle.heap.specs.Raises.{Raised, raised-link, raised-painted}
 use Rattle.heap.specs.ColourWork.{colours-trans, colours-paint, colours-removal}
 use Rattle.heap.specs.Parts.{unchanged, same-queue, queue-trans, held-queue, parts-of}
 use Rattle.heap.specs.Tolds.{told-delete}
-use Rattle.heap.specs.Phase.{removalEnding, standIn, Sound, Lined, Phase, phase-alike}
+use Rattle.heap.specs.Places.{Double, standIn, doubleTop, doubleTree, adopted, replaced, wayToC}
+use Rattle.heap.specs.Phase.{removalEnding, Lined, Phase, phase-alike, DoublePlan, lostStores}
 use Rattle.heap.specs.Shift.{by-replace, Next, once-less}
 use Rattle.heap.specs.Inserts.{Small, rep-range, way-bound}
 use Rattle.heap.specs.InsertStep.{held-root, held-is}
@@ -55,9 +56,10 @@ use Rattle.heap.specs.RemovalFixup.{removal-red, removal-black, removal-
 use Rattle.heap.specs.AdoptStep.{form-count}
 use Rattle.heap.specs.Swap.{tipOf, tip-way, ending-swap, up-swap, up-way, deleteFixup-swap, link-else}
 
-module _ (st : State) (G : Tree) (fs : List Frame) (B C : Node) (l y : Linked) (h : At st fs (form₁ L B C l y)) (good : Sound (st .pool) (plug fs (form₀ L B C l y))) (proper : Proper G)
-    (deletes : G ≡ delete (erase (colours (st .pool)) (plug fs (form₀ L B C l y))) (B .key))
-    (goal : G ≡ lose (colours (st .pool) (C .num)) (eraseWay (colours (st .pool)) (hole R (standIn B C) l ∷ fs)) (erase (colours (st .pool)) y)) (small : Small (st .pool)) where
+module _ (st : State) (G : Tree) (d : Double) (h : At st (d .way) (adopted d)) (plan : DoublePlan (colours (st .pool)) G d []) (small : Small (st .pool)) where
+  open Double d using (way as fs, B, C, left as l, right as y)
+  open DoublePlan plan using (sound as good, proper, deletes, goal)
+
   abbrev p : List ℕ
   p = st .pool
 
@@ -66,7 +68,7 @@ module _ (st : State) (G : Tree) (fs : List Frame) (B C : Node) (l y : Linked) (
 
   -- the way that the path goes, and the way after the store
   abbrev old : List Frame
-  old = hole R (standIn B C) l ∷ fs
+  old = wayToC d []
 
   abbrev gs : List Frame
   gs = hole R C l ∷ fs
@@ -90,14 +92,14 @@ module _ (st : State) (G : Tree) (fs : List Frame) (B C : Node) (l y : Linked) (
   each i = let a = good .once i in let b = form-count fs B C l nil y i in omega arith
 
   into : Into (B .key) fs
-  into = into-top fs L B l (at L C nil y) (ordered-bare f _ (plug fs (form₀ L B C l y)) (good .proper .ordered))
+  into = into-top fs L B l (at L C nil y) (ordered-bare f _ (doubleTree d []) (good .proper .ordered))
 
-  short : length fs ≤ 20
+  short : length fs ≤ mostHeight
   short =
-      let T = plug fs (form₀ L B C l y) in
-      let U = plug fs (form₁ L B C l y) in
-      let a = way-bound p f fs (form₀ L B C l y) small (good .once) (good .proper .redblack)
-      (λ i m. rep-range p (st .register .root) U i (of-site p (st .register .root) fs (form₁ L B C l y) h)
+      let T = doubleTree d [] in
+      let U = plug fs (adopted d) in
+      let a = way-bound p f fs (doubleTop d []) small (good .once) (good .proper .redblack)
+      (λ i m. rep-range p (st .register .root) U i (of-site p (st .register .root) fs (adopted d) h)
       (occ-in i (nodes U) (let a = in-occ i (nodes T) m in let b = form-count fs B C l nil y i in let c = form-count fs B C l l y i in omega arith))) in
       omega arith
 
@@ -114,12 +116,12 @@ module _ (st : State) (G : Tree) (fs : List Frame) (B C : Node) (l y : Linked) (
   unfolding replaceStore
   replace-is = rw (capacity .is, c-is, capacity .words .key-is, path-is)
 
-  raised : Raised st (setLink st (linkTo fs) (C .num)) fs (form₂ L B C l y)
+  raised : Raised st (setLink st (linkTo fs) (C .num)) fs (replaced d)
   raised =
-      raised-link st fs (form₁ L B C l y) (form₂ L B C l y) (C .num)
-      (clear-of fs (form₀ L B C l y) (form₂ L B C l y) (good .once) (λ i w. let a = each i in let b = occ-at L C l y i in omega arith)) h (rw c-is at (capacity .far))
+      raised-link st fs (adopted d) (replaced d) (C .num)
+      (clear-of fs (doubleTop d []) (replaced d) (good .once) (λ i w. let a = each i in let b = occ-at L C l y i in omega arith)) h (rw c-is at (capacity .far))
 
-  site2 : At linked fs (form₂ L B C l y)
+  site2 : At linked fs (replaced d)
   site2 = rw (held-root (setLink st (linkTo fs) (C .num) .register) _) (raised-painted raised (C .num) (colourWordOf st (B .num)) .site)
 
   site : At linked gs y
@@ -144,18 +146,19 @@ module _ (st : State) (G : Tree) (fs : List Frame) (B C : Node) (l y : Linked) (
   f1y = erase-occ f (colours (linked .pool)) y (λ i m. f1else i (apart-c y (let a = each (C .num) in let b = one-same (C .num) in omega arith) i m))
 
   f1fs : eraseWay (colours (linked .pool)) fs ≡ eraseWay f fs
-  f1fs = way-occ f (colours (linked .pool)) fs (λ i m. f1else i (one-other (C .num) i (λ q. let a = each (C .num) in let b = one-same (C .num) in let z : occWay (C .num) fs ≡ occWay i fs = rw q in omega arith)))
+  f1fs = way-occ f (colours (linked .pool)) fs (λ i m. f1else i (one-other (C .num) i (λ q.
+      let a = each (C .num) in let b = one-same (C .num) in let z : occWay (C .num) fs ≡ occWay i fs = rw q in omega arith)))
 
   ways : eraseWay (colours (linked .pool)) gs ≡ eraseWay f old
   ways = rw (f1c, f1l, f1fs)
 
   lined : Lined G (plug gs y)
   lined = record {
-    once = once-less (B .num ∷ []) (plug fs (form₀ L B C l y)) (plug gs y) (turnover-plug fs (B .num ∷ []) [] (form₀ L B C l y) (form₂ L B C l y) (form-turnover L B C l y)) (good .once);
-    ordered = writes-whole fs (form₀ L B C l y) (form₂ L B C l y) into (form-writes B C l y) .ordered (ordered-bare f _ (plug fs (form₀ L B C l y)) (good .proper .ordered));
-    told = (let order = form-order L B C l y (ordered-within fs (form₀ L B C l y) (ordered-bare f _ (plug fs (form₀ L B C l y)) (good .proper .ordered))) in
-        told-delete G (erase f (plug fs (form₀ L B C l y))) (B .key) (plug fs (form₁ L B C l y)) (plug fs (form₂ L B C l y)) deletes (good .proper .ordered)
-        (λ q. erase-find f (plug fs (form₀ L B C l y)) q ∙ sym (same-lift fs (form₀ L B C l y) (form₁ L B C l y) (adopt-find L B C l y (order .0)) q))
+    once = once-less (B .num ∷ []) (doubleTree d []) (plug gs y) (turnover-plug fs (B .num ∷ []) [] (doubleTop d []) (replaced d) (form-turnover L B C l y)) (good .once);
+    ordered = writes-whole fs (doubleTop d []) (replaced d) into (form-writes B C l y) .ordered (ordered-bare f _ (doubleTree d []) (good .proper .ordered));
+    told = (let order = form-order L B C l y (ordered-within fs (doubleTop d []) (ordered-bare f _ (doubleTree d []) (good .proper .ordered))) in
+        told-delete G (erase f (doubleTree d [])) (B .key) (plug fs (adopted d)) (plug fs (replaced d)) deletes (good .proper .ordered)
+        (λ q. erase-find f (doubleTree d []) q ∙ sym (same-lift fs (doubleTop d []) (adopted d) (adopt-find L B C l y (order .0)) q))
         (sameBut-lift fs into (replace-find L B C l y (order .0) (order .1))));
   }
 
@@ -166,7 +169,7 @@ module _ (st : State) (G : Tree) (fs : List Frame) (B C : Node) (l y : Linked) (
   is-red = red-tree p n y (low .far)
 
   deleteFixups : f (C .num) ≡ black → DeleteFixups c (eraseWay f old)
-  deleteFixups e = other-deleteFixup (eraseWay f fs) [] (f (B .num)) (B .key) (B .val) (erase f l) (C .key) (C .val) (erase f y) c (rw (erase-plug f fs (form₀ L B C l y), e) at (good .proper .redblack))
+  deleteFixups e = other-deleteFixup (eraseWay f fs) [] (f (B .num)) (B .key) (B .val) (erase f l) (C .key) (C .val) (erase f y) c (rw (erase-plug f fs (doubleTop d []), e) at (good .proper .redblack))
 
   once-old : OnceWay old
   once-old i = let a = each i in omega arith
@@ -179,9 +182,12 @@ module _ (st : State) (G : Tree) (fs : List Frame) (B C : Node) (l y : Linked) (
       let len : length (linked .pool) ≡ length p = alike .size ∙ link-size st (linkTo fs) (C .num) in
       let t2 = top-of linked fs L C l y site2 in
       let b : child (linked .pool) L (B .num) ≡ child p L (B .num)
-      = alike .words (B .num) 2 (omega arith) ∙ link-else st fs (C .num) (B .num) L (let a = each (B .num) in let b = one-same (B .num) in omega arith) in
-      let num : child (linked .pool) L (C .num) ≡ child (linked .pool) L (B .num) = rep-num (linked .pool) _ l (t2 .near) ∙ sym (rep-num p _ l (capacity .near)) ∙ sym b in
-      (record { low = capacity .words .within .low; high = rw len (capacity .words .within .high) }, subst (λ i. Rep (linked .pool) i l) num (t2 .near), way-sides (linked .pool) (linked .register .root) fs (site2 .way))
+      = alike .words (B .num) leftWord (omega arith) ∙ link-else st fs (C .num) (B .num) L (let a = each (B .num) in let b = one-same (B .num) in omega arith) in
+      let num : child (linked .pool) L (C .num) ≡ child (linked .pool) L (B .num) = rep-num (linked .pool) _ l (t2 .near) ∙ sym (rep-num p _ l (capacity .near)) ∙ sym b in (
+        record { low = capacity .words .within .low; high = rw len (capacity .words .within .high) },
+        subst (λ i. Rep (linked .pool) i l) num (t2 .near),
+        way-sides (linked .pool) (linked .register .root) fs (site2 .way),
+      )
 
   abbrev f1 : ℕ → Colour
   f1 = colours (linked .pool)
@@ -238,8 +244,10 @@ module _ (st : State) (G : Tree) (fs : List Frame) (B C : Node) (l y : Linked) (
         let q = paintDeleteLevels m1 (links old) (linked .pool) in
         let kept = erase-occ f1 (colours q) y (λ i j. tint .tinted .outside i (let a = each i in omega arith)) in
         let keptC = tint .tinted .outside (C .num) (let a = each (C .num) in let b = one-same (C .num) in omega arith) in
-        let core = black-core linked G gs y n (links old) site lined proper stop1 (g ∙ sym (ap₂ fixup ways f1y)) (deleteFixup-alike m1 (links old) (linked .pool)) (deleteFixup-swap (standIn B C) C l fs m1 f1 (colours q) keptC (tint .to)) kept end1 in
-        let cl : fixupAfterRemoval p (C .num) n (links old) ≡ fixupResult m1 (removalEnding black f1 (colourOf (erase f1 y)) gs) = removal-black p (C .num) n c old e is-red sides (deleteFixups e) ∙ (λ i. fixupResult (levels-same′ i) (ending-same′ i)) in
+        let to = deleteFixup-swap (standIn B C) C l fs m1 f1 (colours q) keptC (tint .to) in
+        let core = black-core linked G gs y n (links old) site lined proper stop1 (g ∙ sym (ap₂ fixup ways f1y)) (deleteFixup-alike m1 (links old) (linked .pool)) to kept end1 in
+        let cl : fixupAfterRemoval p (C .num) n (links old) ≡ fixupResult m1 (removalEnding black f1 (colourOf (erase f1 y)) gs)
+        = removal-black p (C .num) n c old e is-red sides (deleteFixups e) ∙ (λ i. fixupResult (levels-same′ i) (ending-same′ i)) in
         rw (cl, sym ending-same) core
       where
         levels-same′ : deleteFixupOf f c old .levels ≡ m1
@@ -252,7 +260,7 @@ module _ (st : State) (G : Tree) (fs : List Frame) (B C : Node) (l y : Linked) (
   phase black e g = black-phase e g
   phase red e g = rw (removal-red p (C .num) n (links old) e) (red-core linked G gs y n (links old) site lined proper (g ∙ sym (ap₂ Seq.plug ways f1y)))
 
-  pub replace-0-next : Next st G (plug fs (form₁ L B C l y)) (replaceStore st (linkTo fs)) Replace (endingStores (removalEnding (f (C .num)) f c old))
+  pub replace-0-next : Next st G (plug fs (adopted d)) (replaceStore st (linkTo fs)) (store (linkTo fs) Replace) (lostStores f C y old)
   replace-0-next =
       let q = retire-quiet coloured (B .num) in
       let w = fixupAfterRemoval p (C .num) n (links old) in
@@ -261,12 +269,13 @@ module _ (st : State) (G : Tree) (fs : List Frame) (B C : Node) (l y : Linked) (
       rw replace-is record {
         tree = plug gs y;
         gone = B .num ∷ [];
-        shift = by-replace fs B C l y (ordered-bare f _ (plug fs (form₀ L B C l y)) (good .proper .ordered)) (good .once);
+        shift = by-replace fs B C l y (ordered-bare f _ (doubleTree d []) (good .proper .ordered)) (good .once);
         phase = rw (q .fields .root) (phase-alike (q .words) (coloured .register .root) G (phase (f (C .num)) refl goal));
         parts = parts-of st st coloured _ (linkTo fs) (C .num) [] (B .num ∷ []) unchanged
             (colours-trans (colours-paint (setLink st (linkTo fs) (C .num) .pool) (C .num) (colourWordOf st (B .num))) (colours-removal linked w n (links old)))
             (queue-trans (held-queue (setLink st (linkTo fs) (C .num) .register) _) (same-queue (removal-register linked w n (links old)))) refl;
-        size = q .words .size ∙ removal-alike linked w n (links old) .size ∙ paint-alike (setLink st (linkTo fs) (C .num) .pool) (C .num) (colourWordOf st (B .num)) .size ∙ link-size st (linkTo fs) (C .num);
+        size = q .words .size ∙ removal-alike linked w n (links old) .size
+            ∙ paint-alike (setLink st (linkTo fs) (C .num) .pool) (C .num) (colourWordOf st (B .num)) .size ∙ link-size st (linkTo fs) (C .num);
         held = q .fields .held ∙ ap (λ r. r .held) (removal-register linked w n (links old)) ∙ held-is (setLink st (linkTo fs) (C .num) .register) _ ∙ rw (link-held st (linkTo fs) (C .num));
         fields = record { readers = a .readers; awaited = a .awaited; write = a .write };
       }

@@ -12,13 +12,14 @@ use Rattle.datatypes.specs.declared.Link.{Link}
 use Rattle.datatypes.specs.declared.Link.the-variants.{Root}
 use Rattle.datatypes.specs.Side.{other, linkAt}
 use Rattle.spec.specs.Numbers.{nodeWords}
-use Rattle.spec.specs.Pool.{setWord, child, keyWord, recordWord, linkWord}
+use Rattle.spec.specs.Pool.{setWord, child, keyWord, recordWord, linkWord, leftWord}
 use Rattle.spec.specs.Register.{State, state, nodeAt, setLink, withRoot}
 use Rattle.laws.specs.Words.{length-setWord, word-same, word-other}
+use Rattle.laws.specs.Queue.{link-low}
 use Rattle.tree.specs.Linked.{Node, Linked, at, nodes}
 use Rattle.tree.specs.Zipper.{Frame, hole, plug}
 use Rattle.tree.specs.Occurs.{one-same, occ, occWay, occ-plug}
-use Rattle.heap.specs.Rep.{Words, Rep, rep-at, Agree, words-agree, rep-agree, Alike, set-elsewhere, rep-elsewhere}
+use Rattle.heap.specs.Rep.{Words, Rep, rep-at, Agree, words-agree, rep-agree, Alike, set-elsewhere, rep-elsewhere, upToLinks}
 
 -- the link at the hole, and the path of links from it up to the root link
 abbrev pub linkTo : List Frame → Link
@@ -76,16 +77,8 @@ site-up p root fs s N x y h =
     let w = h .way in
     record { way = w .2; sub = rep-at p (nodeAt p root (linkTo fs)) s N x y .1 (w .0, rw (node-at p root s (N .num)) at (h .sub), w .1) }
 
--- the node at the place
-pub site-node : (p : List ℕ) (root : ℕ) (fs : List Frame) (s : Side) (N : Node) (x y : Linked) → Site p root fs (at s N x y) → nodeAt p root (linkTo fs) ≡ N .num
-site-node p root fs s N x y h = rep-at p (nodeAt p root (linkTo fs)) s N x y .0 (h .sub) .0 .is
-
 -- Pools that agree at the nodes of a way.
-link-low : (s : Side) → linkWord s < 4
-link-low L = omega arith
-link-low R = omega arith
-
-pub link-high : (s : Side) → 2 ≤ linkWord s
+pub link-high : (s : Side) → leftWord ≤ linkWord s
 link-high L = omega arith
 link-high R = omega arith
 
@@ -114,7 +107,7 @@ site-agree p q root e fs t h i = record {
       (rep-agree p q e t _ (λ n j. h n (let x = occ-plug fs t n in omega arith)) (i .sub));
 }
 
-pub site-alike : {p q : List ℕ} → Alike 4 p q → (root : ℕ) (fs : List Frame) (t : Linked) → Site p root fs t → Site q root fs t
+pub site-alike : {p q : List ℕ} → Alike upToLinks p q → (root : ℕ) (fs : List Frame) (t : Linked) → Site p root fs t → Site q root fs t
 site-alike {p} {q} a root fs t h = site-agree p q root (a .size) fs t (λ n _. a .words n) h
 
 -- A store of the link at the hole. Its node stands nowhere else on the way or in the new subtree.

@@ -14,14 +14,12 @@ use Rattle.spec.specs.Pool.{child, isRed}
 use Rattle.spec.specs.Register.{State, setLink}
 use Rattle.spec.specs.Free.{retire}
 use Rattle.spec.specs.Search.{pathTo}
-use Rattle.spec.specs.Plan.{endingStores, onlyChild, fixupAfterRemoval, paintDeleteFixup}
+use Rattle.spec.specs.Plan.{onlyChild, fixupAfterRemoval, paintDeleteFixup, store}
 use Rattle.spec.specs.Turn.{made, oneLess, unlinkStore, stepFinds}
 use Rattle.sequential.specs.Tree.{Colour, black, Tree, colourOf}
-use Rattle.sequential.specs.Delete.{lose}
-use Rattle.tree.specs.Changes.{Proper}
-use Rattle.tree.specs.Linked.{Node, Linked, nil, at}
+use Rattle.tree.specs.Linked.{Linked, nil, at}
 use Rattle.tree.specs.LinkedOrder.{ordered-bare, ordered-within, into-top}
-use Rattle.tree.specs.Zipper.{Frame, plug, Into, sameBut-lift}
+use Rattle.tree.specs.Zipper.{plug, Into, sameBut-lift}
 use Rattle.tree.specs.Stores.{unlink-order, unlink-find}
 use Rattle.tree.specs.Forms.{delete-first}
 use Rattle.tree.specs.Erase.{erase, eraseWay, erase-at, erase-plug, erase-find}
@@ -41,7 +39,8 @@ use Rattle.heap.specs.Raises.{Raised, raised-link}
 use Rattle.heap.specs.ColourWork.{colours-removal}
 use Rattle.heap.specs.Parts.{unchanged, same-queue, queue-trans, held-queue, parts-of}
 use Rattle.heap.specs.Tolds.{told-delete}
-use Rattle.heap.specs.Phase.{removalEnding, Sound, Lined, Phase, phase-alike}
+use Rattle.heap.specs.Places.{Single, singleTop, singleTree}
+use Rattle.heap.specs.Phase.{Lined, Phase, phase-alike, UnlinkPlan, lostStores}
 use Rattle.heap.specs.Shift.{by-unlink, Next, once-less}
 use Rattle.heap.specs.Inserts.{Small, way-short, once-way}
 use Rattle.heap.specs.InsertStep.{held-root, held-is}
@@ -52,8 +51,10 @@ pub only-is : (p : List ℕ) (s : Side) (b : ℕ) → child p (other s) b ≡ 0 
 only-is p L b e = elim (ℕ-discrete (child p L b) 0) [ yes z ↦ rw (eq-eqb (child p L b) 0 z, e, z) | no d ↦ rw (ne-eqb (child p L b) 0 d) ]
 only-is p R b e = rw (eq-eqb (child p L b) 0 e)
 
-module _ (st : State) (G : Tree) (fs : List Frame) (s : Side) (B : Node) (x : Linked) (h : At st fs (at s B x nil)) (good : Sound (st .pool) (plug fs (at s B x nil))) (proper : Proper G)
-    (goal : G ≡ lose (colours (st .pool) (B .num)) (eraseWay (colours (st .pool)) fs) (erase (colours (st .pool)) x)) (small : Small (st .pool)) where
+module _ (st : State) (G : Tree) (d : Single) (h : At st (d .way) (singleTop d)) (plan : UnlinkPlan (colours (st .pool)) G d) (small : Small (st .pool)) where
+  open Single d using (way as fs, side as s, B, only as x)
+  open UnlinkPlan plan using (sound as good, proper, goal)
+
   abbrev p : List ℕ
   p = st .pool
 
@@ -61,7 +62,7 @@ module _ (st : State) (G : Tree) (fs : List Frame) (s : Side) (B : Node) (x : Li
   f = colours (st .pool)
 
   abbrev T : Linked
-  T = plug fs (at s B x nil)
+  T = singleTree d
 
   abbrev n : ℕ
   n = child (st .pool) s (B .num)
@@ -115,17 +116,18 @@ module _ (st : State) (G : Tree) (fs : List Frame) (s : Side) (B : Node) (x : Li
   rep-after : Rep (linked .pool) n x
   rep-after = let a = rep-num (linked .pool) _ x (site .sub) in let b = rep-num p n x (capacity .near) in subst (λ i. Rep (linked .pool) i x) (a ∙ sym b) (site .sub)
 
-  phase : Phase (retire coloured (B .num) .pool) (retire coloured (B .num) .register .root) G (plug fs x) (endingStores (removalEnding (f (B .num)) f (colourOf (erase f x)) fs))
+  phase : Phase (retire coloured (B .num) .pool) (retire coloured (B .num) .register .root) G (plug fs x) (lostStores f B x fs)
   phase =
       let q = retire-quiet coloured (B .num) in
       rw (q .fields .root) (phase-alike (q .words) (coloured .register .root) G
       (removal-phase st linked G fs x n (B .num) (fun-ext (colours-link st (linkTo fs) n)) site rep-after is-red sides lined proper (f (B .num)) refl deleteFixups goal))
 
-  pub unlink-0-next : Next st G T (unlinkStore st (linkTo fs)) Unlink (endingStores (removalEnding (f (B .num)) f (colourOf (erase f x)) fs))
+  pub unlink-0-next : Next st G T (unlinkStore st (linkTo fs)) (store (linkTo fs) Unlink) (lostStores f B x fs)
   unlink-0-next =
       let q = retire-quiet coloured (B .num) in
       let c = fixupAfterRemoval p (B .num) n (links fs) in
-      let a = fields-trans (raised .fields) (fields-trans (held-fields (setLink st (linkTo fs) n .register) _) (fields-trans (same-fields (removal-register linked c n (links fs))) (fields-queued (q .fields)))) in
+      let a = fields-trans (raised .fields)
+      (fields-trans (held-fields (setLink st (linkTo fs) n .register) _) (fields-trans (same-fields (removal-register linked c n (links fs))) (fields-queued (q .fields)))) in
       rw unlink-is record {
         tree = plug fs x;
         gone = B .num ∷ [];

@@ -13,13 +13,13 @@ use Rattle.datatypes.specs.declared.Side.{Side}
 use Rattle.datatypes.specs.declared.Side.the-variants.{L, R}
 use Rattle.datatypes.specs.declared.Link.{Link}
 use Rattle.datatypes.specs.declared.Step.{Step}
-use Rattle.datatypes.specs.declared.Step.the-variants.{Vacant, Insert, DiagLower, DiagRaise, ZigLowerA, ZigLowerC, ZigRaise, Unlink, Adopt, Replace, Publish, Detach}
 use Rattle.sequential.specs.Tree.{Colour, red, black, Tree, leaf, node}
 use Rattle.sequential.specs.Delete.{changedBy}
 use Rattle.base.specs.Lists.{_∈_, Distinct}
 use Rattle.spec.specs.Numbers.{slots, mostStores}
 use Rattle.spec.specs.Pool.{word, child, nodes, keyWord, recordWord, colourWord, standingWord, standingFree, blackColour, redColour}
 use Rattle.spec.specs.Register.{State, state, withReader, readerOf, storeOf, hasSlot, readingAt}
+use Rattle.spec.specs.Turn.{profile}
 use Rattle.spec.specs.Calls.{Answer, go, absent, found, more, done, wait, refused, Outcome, Call, writing, call, reading, writeInHand, readerStep}
 use Rattle.spec.specs.PlainList.{carriedOut, noticeOf, recordFor, acceptedWrites}
 use Rattle.spec.specs.FreeQueue.{Queue}
@@ -75,18 +75,7 @@ pub record Reaches (st : State) (s m : ℕ) : Type 0 where
 -- A call takes a node if it is a writer's turn that makes a store whose step takes one ('The writer's stores': a new node, a copy):
 -- it takes the first free node.
 abbrev pub takesOne : Step → Bool
-takesOne Vacant = false
-takesOne (Insert k v) = true
-takesOne (DiagLower s c) = true
-takesOne (DiagRaise s c) = false
-takesOne (ZigLowerA s c) = true
-takesOne (ZigLowerC s c) = true
-takesOne (ZigRaise s c) = false
-takesOne Unlink = false
-takesOne Adopt = false
-takesOne Replace = false
-takesOne (Publish n) = true
-takesOne (Detach k) = false
+takesOne x = profile x .takes
 
 pub record Takes (st : State) (c : Call) (m : ℕ) : Type 0 where
   pub turn : c ≡ writing

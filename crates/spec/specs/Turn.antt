@@ -284,3 +284,45 @@ stepMade st l Adopt = adoptStore st l
 stepMade st l Replace = replaceStore st l
 stepMade st l (Publish c) = publishStore st l c
 stepMade st l (Detach k) = detachStore st l k
+
+-- What a step does besides storing a link. Whether it is its write's list store, and whether a key comes or goes with it:
+pub data Listing : Type 0 where
+  unlisted keyComes keyGoes : Listing
+
+pub record Profile : Type 0 where
+  -- it takes the first free node, as a new node or a copy
+  pub takes : Bool
+  pub listing : Listing
+  -- all reading slots are awaited after it
+  pub awaits : Bool
+  -- the stores still to come that hang on B's right hang on the copy after it
+  pub renames : Bool
+
+abbrev pub profiled : Bool → Listing → Bool → Bool → Profile
+profiled takes listing awaits renames = record { takes = takes; listing = listing; awaits = awaits; renames = renames }
+
+-- 01, 'The writer's stores', a line for each: takes, listing, awaits, renames
+abbrev pub profile : Step → Profile
+profile Vacant = profiled false unlisted false false
+profile (Insert k v) = profiled true keyComes false false
+profile (DiagLower s c) = profiled true unlisted false false
+profile (DiagRaise s c) = profiled false unlisted false false
+profile (ZigLowerA s c) = profiled true unlisted false false
+profile (ZigLowerC s c) = profiled true unlisted false false
+profile (ZigRaise s c) = profiled false unlisted false false
+profile Unlink = profiled false keyGoes false false
+profile Adopt = profiled false unlisted false false
+profile Replace = profiled false keyGoes false false
+profile (Publish c) = profiled true keyGoes true true
+profile (Detach k) = profiled false unlisted false false
+
+abbrev pub isListed : Listing → Bool
+isListed unlisted = false
+isListed keyComes = true
+isListed keyGoes = true
+
+-- keys held after it, of a pool of so many nodes
+abbrev pub countedBy : Listing → ℕ → ℕ → ℕ
+countedBy unlisted capacity h = h
+countedBy keyComes capacity h = countUp capacity h
+countedBy keyGoes capacity h = countDown h

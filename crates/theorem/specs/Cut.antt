@@ -21,7 +21,7 @@ use Rattle.tree.specs.Changes.{changedBy-proper}
 use Rattle.tree.specs.Linked.{Linked}
 use Rattle.tree.specs.Erase.{erase-find}
 use Rattle.heap.specs.Colours.{colours}
-use Rattle.heap.specs.Run.{phase-rep}
+use Rattle.heap.specs.Phase.{phase-rep}
 use Rattle.heap.specs.Writes.{InHand, write-count}
 use Rattle.promise.specs.Run.{Start, indexAfter, plainAfter, ticketsAfter}
 use Rattle.readers.specs.Words.{stands-node}

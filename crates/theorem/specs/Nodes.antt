@@ -19,7 +19,7 @@ Moves came gone t u = (n : ℕ) → (n ∈ nodes u) ↔ (((n ∈ nodes t) ⊎ (n
 not-occ : (n : ℕ) (xs : List ℕ) → ¬ (n ∈ xs) → occ n xs ≡ 0
 not-occ n xs d = let f : ¬ (0 < occ n xs) = λ u. d (occ-in n xs u) in omega arith
 
-pub shift-moves : {T T′ : Linked} {l : Link} {v : ℕ} {came gone : List ℕ} {b : Bool} → Shift T T′ l v came gone b → Moves came gone T T′
+pub shift-moves : {T T′ : Linked} {l : Link} {v : ℕ} {came gone : List ℕ} {b w : Bool} → Shift T T′ l v came gone b w → Moves came gone T T′
 shift-moves {T} {T′} {came = came} {gone = gone} sh n =
     let p = shift-nodes sh n in
     let a = p .came in

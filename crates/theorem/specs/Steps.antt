@@ -61,10 +61,10 @@ all-awaited mid [] = refl
 all-awaited mid (a ∷ []) = retire-quiet mid a .fields .awaited
 all-awaited mid (a ∷ c ∷ l) = retireTwo-quiet mid a c .fields .awaited
 
-pub parts-turn : (st : State) (T T′ : Linked) (m : Made) (came gone : List ℕ) (b : Bool) → Safe st → Rep (st .pool) (st .register .root) T
-    → ((n : ℕ) → 0 < occ n (nodes T) → HasStanding (st .pool) n standingLinked) → Shift T T′ (m .link) (m .node) came gone b → Parts st m came gone → QueueKept st came
+pub parts-turn : (st : State) (T T′ : Linked) (m : Made) (came gone : List ℕ) (b w : Bool) → Safe st → Rep (st .pool) (st .register .root) T
+    → ((n : ℕ) → 0 < occ n (nodes T) → HasStanding (st .pool) n standingLinked) → Shift T T′ (m .link) (m .node) came gone b w → Parts st m came gone → QueueKept st came
     → Slots (st .register .readers) (m .after .register .awaited) → Turn st (m .after) came gone (m .link) (m .node)
-parts-turn st T T′ m came gone b safe rep lk sh ps q aw = rw (ps .retired) (go gone (shift-few sh) sh (ps .retired))
+parts-turn st T T′ m came gone b w safe rep lk sh ps q aw = rw (ps .retired) (go gone (shift-few sh) sh (ps .retired))
   where
     k : Link
     k = m .link
@@ -88,10 +88,10 @@ parts-turn st T T′ m came gone b safe rep lk sh ps q aw = rw (ps .retired) (go
     mid : Stored st (ps .mid) came (m .link) (m .node)
     mid = stored-fields st (state (ps .mid .pool) (setLink (ps .base) (m .link) (m .node) .register)) (ps .mid .register) came (m .link) (m .node) (ps .queue) slots tinted
 
-    goes : (g : List ℕ) → Shift T T′ (m .link) (m .node) came g b → (i : ℕ) → i ∈ g → HasStanding (st .pool) i standingLinked × (owner (m .link) ≢ i)
+    goes : (g : List ℕ) → Shift T T′ (m .link) (m .node) came g b w → (i : ℕ) → i ∈ g → HasStanding (st .pool) i standingLinked × (owner (m .link) ≢ i)
     goes g s i j = let a = shift-gone (st .pool) (st .register .root) s rep i j in (lk i (a .0), a .1)
 
-    go : (g : List ℕ) → length g ≤ 2 → Shift T T′ (m .link) (m .node) came g b → m .after ≡ retireAll (ps .mid) gone → Turn st (retireAll (ps .mid) g) came g (m .link) (m .node)
+    go : (g : List ℕ) → length g ≤ 2 → Shift T T′ (m .link) (m .node) came g b w → m .after ≡ retireAll (ps .mid) gone → Turn st (retireAll (ps .mid) g) came g (m .link) (m .node)
     go [] u s e = turn-none st (ps .mid) (safe .queue) came (m .link) (m .node) (safe .whole) own (safe .owned) mid
     go (c ∷ []) u s e = let x = goes (c ∷ []) s c (inl refl) in turn-one st (ps .mid) (safe .queue) came (m .link) (m .node) (safe .whole) own (safe .owned) mid c (x .0) (x .1)
     go (a ∷ c ∷ []) u s e =

@@ -1,46 +1,46 @@
 -- A turn on a phase (heap: Writes.turn) gives all that the readers' side asks of a store (runs: Stores), and the nodes linked afterwards are
 -- again those of the tree.
-use Prim.Native.Nat.{ℕ, _<_}
-use mathlib.Core.Path.{_≡_, refl, sym, _∙_, subst}
+use Prim.Native.Nat.{ℕ}
+use mathlib.Core.Path.{_≡_, refl, _∙_, subst}
 use mathlib.Core.Logic.{_⊎_, inl, inr, ⊎-elim, _↔_}
-use mathlib.Core.List.{List, [], _∷_}
+use mathlib.Core.Bool.{Bool, true, false, cond}
+use mathlib.Core.List.{List, _∷_}
 use native.Mathlib.Omega.{arith}
-use lib.ListN.{length}
 use borrow.Author.Tests.{eq-eqb}
+use Rattle.base.specs.Walk.{cond-both}
 use Rattle.datatypes.specs.declared.Side.{Side}
 use Rattle.datatypes.specs.declared.Side.the-variants.{L, R}
 use Rattle.datatypes.specs.declared.Link.{Link}
 use Rattle.datatypes.specs.declared.Link.the-variants.{Root, Left, Right}
 use Rattle.datatypes.specs.declared.Step.{Step}
-use Rattle.datatypes.specs.declared.Step.the-variants.{Vacant, Insert, DiagLower, DiagRaise, ZigLowerA, ZigLowerC, ZigRaise, Unlink, Adopt, Replace, Publish, Detach}
 use Rattle.datatypes.specs.declared.Store.{Store}
 use Rattle.datatypes.specs.declared.Register.{Register}
 use Rattle.datatypes.specs.Side.{owner}
 use Rattle.spec.specs.Pool.{child, standingLinked}
 use Rattle.spec.specs.Register.{State, state, withWrite, readingSlots, lessFirst}
-use Rattle.spec.specs.Turn.{Made, insertStore, stepMade}
+use Rattle.spec.specs.Turn.{Made, stepMade, profile}
 use Rattle.spec.specs.Calls.{stored}
 use Rattle.sequential.specs.Tree.{Tree}
 use Rattle.base.specs.Lists.{_∈_, in-append}
-use Rattle.tree.specs.Linked.{Linked, nil, cell, path, nodes}
+use Rattle.tree.specs.Linked.{Linked, nil, cell, nodes}
 use Rattle.tree.specs.Thin.{Thin}
 use Rattle.tree.specs.Zipper.{Thins}
 use Rattle.tree.specs.Occurs.{occ-in}
 use Rattle.heap.specs.Rep.{Rep}
 use Rattle.heap.specs.Shift.{Shift, listStore, takenBy, awaitedAfter, Ready, Next, later}
-use Rattle.heap.specs.Run.{phase-rep}
+use Rattle.heap.specs.Effects.{shift-thin}
+use Rattle.heap.specs.Phase.{phase-rep}
 use Rattle.heap.specs.Writes.{InHand, turn}
 use Rattle.heap.specs.Writes as Writes
-use Rattle.readers.specs.Owned.{Slots, Owned, slots-reading}
+use Rattle.readers.specs.Owned.{Slots, slots-reading}
 use Rattle.readers.specs.Reach.{HasStanding}
 use Rattle.readers.specs.Lookups.{Unlinked}
 use Rattle.readers.specs.Stored.{OwnerLinked}
 use Rattle.readers.specs.Turns.{Turn, turn-write}
-use Rattle.readers.specs.Steps as Steps
 use Rattle.readers.specs.Safe.{Safe}
 use Rattle.runs.specs.Writer.{Stores}
 use Rattle.theorem.specs.Nodes.{Moves, shift-moves}
-use Rattle.theorem.specs.Ways.{shift-owner, shift-gone, shift-ways, plain-none}
+use Rattle.theorem.specs.Ways.{shift-owner, shift-gone}
 use Rattle.theorem.specs.Steps.{QueueKept, parts-turn}
 
 -- the link of a tree's node unfolds
@@ -63,48 +63,9 @@ value-rep st after came gone (Right d) v T′ t h o f =
     let u = sub-rep (after .pool) T′ _ d R h (a .0) in
     (u .0, subst (λ i. Rep (after .pool) i (u .0)) (t .links d R (a .1) ∙ rw (eq-eqb d d refl)) (u .1))
 
-insert-linked : (st : State) (s : Link) (k w : ℕ) → Safe st → (q : List ℕ) → Owned st (st .register .first ∷ q) → OwnerLinked (st .pool) (stepMade st s (Insert k w) .link)
-    → (i : ℕ) → HasStanding (st .pool) i standingLinked → HasStanding (stepMade st s (Insert k w) .after .pool) i standingLinked
-unfolding stepMade insertStore
-insert-linked st s k w safe q h o i e = Steps.insert-step st (st .register .first) q (safe .whole) h s k w o .turn .linked i .1 (inl e, λ z. z)
-
 -- awaited slots afterwards
 await-slots : (x : Step) (r : Register) → Slots (r .readers) (r .awaited) → Slots (r .readers) (awaitedAfter x r)
-await-slots Vacant r h = h
-await-slots (Insert k v) r h = h
-await-slots (DiagLower s c) r h = h
-await-slots (DiagRaise s c) r h = h
-await-slots (ZigLowerA s c) r h = h
-await-slots (ZigLowerC s c) r h = h
-await-slots (ZigRaise s c) r h = h
-await-slots Unlink r h = h
-await-slots Adopt r h = h
-await-slots Replace r h = h
-await-slots (Publish c) r h = slots-reading r
-await-slots (Detach k) r h = h
-
--- a step that takes a node and lets one go is a publish: it alone is a list store that takes, but for an insert, which lets none go
-both-publish : (x : Step) (n : ℕ) (r : Register) {T T′ : Linked} {l : Link} {v : ℕ} {gone : List ℕ} → Shift T T′ l v (takenBy x n) gone (listStore x) → 0 < length (takenBy x n) → 0 < length gone
-    → (awaitedAfter x r ≡ readingSlots r) ⊎ ((k : ℕ) × (w : ℕ) × (x ≡ Insert k w))
-both-publish Vacant n r sh a b = absurd (omega arith)
-both-publish (Insert k v) n r sh a b = inr (k, v, refl)
-both-publish (DiagLower s c) n r sh a b = absurd (plain-none sh a b)
-both-publish (DiagRaise s c) n r sh a b = absurd (omega arith)
-both-publish (ZigLowerA s c) n r sh a b = absurd (plain-none sh a b)
-both-publish (ZigLowerC s c) n r sh a b = absurd (plain-none sh a b)
-both-publish (ZigRaise s c) n r sh a b = absurd (omega arith)
-both-publish Unlink n r sh a b = absurd (omega arith)
-both-publish Adopt n r sh a b = absurd (omega arith)
-both-publish Replace n r sh a b = absurd (omega arith)
-both-publish (Publish c) n r sh a b = inl refl
-both-publish (Detach k) n r sh a b = absurd (omega arith)
-
--- after an insert no node has gone
-insert-stays : (st : State) (s : Link) (y : Step) (k w : ℕ) → y ≡ Insert k w → Safe st → QueueKept st (takenBy y (st .register .first)) → OwnerLinked (st .pool) (stepMade st s y .link)
-    → (i : ℕ) → HasStanding (st .pool) i standingLinked → HasStanding (stepMade st s y .after .pool) i standingLinked
-insert-stays st s y k w e safe q o i h =
-    subst (λ z. QueueKept st (takenBy z (st .register .first)) → OwnerLinked (st .pool) (stepMade st s z .link) → HasStanding (stepMade st s z .after .pool) i standingLinked) (sym e)
-    (λ a b. insert-linked st s k w safe (a .0) (a .1) b i h) q o
+await-slots x r h = cond-both (Slots (r .readers)) (profile x .awaits) (slots-reading r) h
 
 -- the state after a store, the rest of the write in hand aside
 write-awaited : (r : Register) (w : _) → withWrite r w .awaited ≡ r .awaited
@@ -123,7 +84,7 @@ module _ (st : State) (G : Tree) (T : Linked) (x : Store) (l : List Store) (safe
   abbrev pub turned : Writes.Turn st G T x l
   turned = turn st G T x l hand ready
 
-  abbrev pub next : Next st G T made (x .step) (later st (x .link) (x .step) l)
+  abbrev pub next : Next st G T made x (later st (x .link) (x .step) l)
   next = turned .next
 
   rep : Rep (st .pool) (st .register .root) T
@@ -133,7 +94,7 @@ module _ (st : State) (G : Tree) (T : Linked) (x : Store) (l : List Store) (safe
   rep′ = phase-rep (turned .in-hand .phase)
 
   met : Turn st (made .after) (takenBy (x .step) (st .register .first)) (next .gone) (made .link) (made .node)
-  met = parts-turn st T (next .tree) made _ (next .gone) _ safe rep (λ n u. lk n .1 (occ-in n (nodes T) u)) (next .shift) (next .parts) exactOf
+  met = parts-turn st T (next .tree) made _ (next .gone) _ _ safe rep (λ n u. lk n .1 (occ-in n (nodes T) u)) (next .shift) (next .parts) exactOf
       (rw (next .fields .awaited) (await-slots (x .step) (st .register) (safe .owned .awaited)))
 
   pub met-turn : Turn st (stored made .after) (takenBy (x .step) (st .register .first)) (next .gone) (made .link) (made .node)
@@ -158,23 +119,15 @@ module _ (st : State) (G : Tree) (T : Linked) (x : Store) (l : List Store) (safe
     λ j. (let a = met-turn .new n j in absurd (omega arith)),
   )
 
-  ways : Thins (Unlinked (stored made .after .pool)) T (next .tree) ⊎ ((0 < length (takenBy (x .step) (st .register .first))) × (0 < length (next .gone)))
-      → ((k : ℕ) → Thin (Unlinked (stored made .after .pool)) (path T k) (path (next .tree) k)) ⊎ (stored made .after .register .awaited ≡ readingSlots (st .register))
-  ways (inl a) = inl a
-  ways (inr b) = go (both-publish (x .step) (st .register .first) (st .register) (next .shift) (b .0) (b .1))
+  -- each path keeps its nodes in their order, or all reading slots are awaited
+  ways : Thins (Unlinked (stored made .after .pool)) T (next .tree) ⊎ (stored made .after .register .awaited ≡ readingSlots (st .register))
+  ways = go (profile (x .step) .awaits) (next .shift) (next .fields .awaited)
     where
-      gone-one : (g : List ℕ) → 0 < length g → (i : ℕ) × (i ∈ g)
-      gone-one [] u = absurd (omega arith)
-      gone-one (i ∷ g) u = (i, inl refl)
-
-      go : (awaitedAfter (x .step) (st .register) ≡ readingSlots (st .register)) ⊎ ((k : ℕ) × (w : ℕ) × (x .step ≡ Insert k w))
-          → ((k : ℕ) → Thin (Unlinked (stored made .after .pool)) (path T k) (path (next .tree) k)) ⊎ (stored made .after .register .awaited ≡ readingSlots (st .register))
-      go (inl e) = inr (rw (after-is made) (write-awaited (made .after .register) _ ∙ next .fields .awaited ∙ e))
-      go (inr e) =
-          let g = gone-one (next .gone) (b .1) in
-          let i = g .0 in
-          let h = lk i .1 (occ-in i (nodes T) (shift-gone (st .pool) (st .register .root) (next .shift) rep i (g .1) .0)) in
-          absurd (met .linked i .0 (insert-stays st (x .link) (x .step) (e .0) (e .1) (e .2) safe exactOf own i h) .1 (g .1))
+      go : (a : Bool) → Shift T (next .tree) (made .link) (made .node) (takenBy (x .step) (st .register .first)) (next .gone) (listStore (x .step)) a
+          → made .after .register .awaited ≡ cond a (readingSlots (st .register)) (st .register .awaited)
+          → Thins (Unlinked (stored made .after .pool)) T (next .tree) ⊎ (stored made .after .register .awaited ≡ readingSlots (st .register))
+      go true sh e = inr (rw (after-is made) (write-awaited (made .after .register) _ ∙ e))
+      go false sh e = inl (shift-thin (Unlinked (stored made .after .pool)) sh (λ i j e. met-turn .linked i .0 e .1 j))
 
   pub met-stores : (W : Linked → Type 0) → W (next .tree) → Stores st (stored made .after) T W
   met-stores W w =
@@ -189,6 +142,6 @@ module _ (st : State) (G : Tree) (T : Linked) (x : Store) (l : List Store) (safe
         owner = own;
         below = u .0;
         unfolds = u .1;
-        ways = ways (shift-ways (Unlinked (stored made .after .pool)) (next .shift) (λ i j e. met-turn .linked i .0 e .1 j));
+        ways = ways;
         kept = w;
       }

@@ -13,7 +13,7 @@ use Rattle.tree.specs.Linked.{Linked, nil, cell, find}
 use Rattle.tree.specs.Erase.{erase}
 use Rattle.heap.specs.Rep.{Rep}
 use Rattle.heap.specs.Colours.{hue, colours}
-use Rattle.heap.specs.Run.{phase-rep}
+use Rattle.heap.specs.Phase.{phase-rep}
 use Rattle.heap.specs.Writes.{write-count}
 use Rattle.heap.specs.Accept.{searched, insert-possible, delete-possible}
 use Rattle.promise.specs.Run.{Start, justSetUp, indexAfter, Reading}

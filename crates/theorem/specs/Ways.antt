@@ -1,9 +1,8 @@
--- What else each change (heap: Shift) gives the readers: the link's owner is in the tree, the nodes that go are, and are not the owner; each
--- path keeps its nodes in their order, but for a publish, which alone both takes a node and lets one go.
+-- What else each change (heap: Shift) gives the readers: the link's owner is in the tree, the nodes that go are, and are not the owner.
 use Prim.Native.Nat.{ℕ, _+_, _<_, _≤_}
 use mathlib.Core.Path.{_≡_, refl, sym, ap, _∙_, subst}
-use mathlib.Core.Logic.{_≢_, _⊎_, inl, inr}
-use mathlib.Core.Bool.{Bool, false}
+use mathlib.Core.Logic.{_≢_, inl, inr}
+use mathlib.Core.Bool.{Bool}
 use mathlib.Core.List.{List, [], _∷_, _++_}
 use native.Mathlib.Omega.{arith}
 use native.Mathlib.Decide.{decLe}
@@ -15,7 +14,7 @@ use Rattle.datatypes.specs.Side.{other, linkAt, owner}
 use Rattle.spec.specs.Pool.{standingLinked}
 use Rattle.base.specs.Lists.{_∈_}
 use Rattle.tree.specs.Linked.{Node, copy, Linked, nil, cell, at, nodes}
-use Rattle.tree.specs.Zipper.{Frame, hole, plug, plug-append, Thins}
+use Rattle.tree.specs.Zipper.{Frame, hole, plug, plug-append}
 use Rattle.tree.specs.Occurs.{one, one-same, one-case, occ, occ-append, occ-at, occ-plug}
 use Rattle.tree.specs.Rotations.{diag₁, zig₂}
 use Rattle.tree.specs.Stores.{form₁}
@@ -23,7 +22,6 @@ use Rattle.tree.specs.Successor.{third₀}
 use Rattle.heap.specs.Rep.{Rep, not-below-at}
 use Rattle.heap.specs.Sites.{linkTo, site-of}
 use Rattle.heap.specs.Shift.{Shift, by-insert, by-diag-lower, by-diag-raise, by-zig-A, by-zig-C, by-zig-raise, by-unlink, by-adopt, by-replace, by-publish, by-detach}
-use Rattle.heap.specs.Effects.{shift-thin}
 use Rattle.readers.specs.Reach.{HasStanding}
 use Rattle.readers.specs.Stored.{OwnerLinked}
 use Rattle.readers.specs.Steps.{owner-at}
@@ -71,7 +69,7 @@ module _ (p : List ℕ) (root : ℕ) where
   far-in : (s : Side) (N : Node) (x y : Linked) (i : ℕ) → 0 < occ i (nodes y) → 0 < occ i (nodes (at s N x y))
   far-in s N x y i u = let a = occ-at s N x y i in omega arith
 
-  pub shift-owner : {T T′ : Linked} {l : Link} {v : ℕ} {came gone : List ℕ} {b : Bool} → Shift T T′ l v came gone b → ((n : ℕ) → 0 < occ n (nodes T) → HasStanding p n standingLinked) → OwnerLinked p l
+  pub shift-owner : {T T′ : Linked} {l : Link} {v : ℕ} {came gone : List ℕ} {b w : Bool} → Shift T T′ l v came gone b w → ((n : ℕ) → 0 < occ n (nodes T) → HasStanding p n standingLinked) → OwnerLinked p l
   shift-owner (by-insert fs Z i w) lk = link-owner fs nil lk
   shift-owner (by-diag-lower fs s B C n o x r ord w z) lk = owner-at p (other s) (B .num) (lk (B .num) (there fs _ (B .num) (near-in s C (at s B o x) r (B .num) (capacity s B o x))))
   shift-owner (by-diag-raise fs s B C n o x r ord w z) lk = link-owner fs _ lk
@@ -95,7 +93,7 @@ module _ (p : List ℕ) (root : ℕ) where
   at-place fs t c h u i (inl e) = subst (λ j. Going (plug fs t) (linkTo fs) j) (sym e) (there fs t c u, owner-apart p root fs t c h u)
   at-place fs t c h u i (inr e) = absurd e
 
-  pub shift-gone : {T T′ : Linked} {l : Link} {v : ℕ} {came gone : List ℕ} {b : Bool} → Shift T T′ l v came gone b → Rep p root T → (i : ℕ) → i ∈ gone → Going T l i
+  pub shift-gone : {T T′ : Linked} {l : Link} {v : ℕ} {came gone : List ℕ} {b w : Bool} → Shift T T′ l v came gone b w → Rep p root T → (i : ℕ) → i ∈ gone → Going T l i
   shift-gone (by-insert fs Z k w) h i j = absurd j
   shift-gone (by-diag-lower fs s B C n o x r ord w z) h i j = absurd j
   shift-gone (by-diag-raise fs s B C n o x r ord w z) h i j = at-place fs (diag₁ s B C n o x r) (C .num) h (capacity s C _ r) i j
@@ -119,7 +117,7 @@ module _ (p : List ℕ) (root : ℕ) where
   Two (a ∷ []) = Unit {0}
   Two (a ∷ c ∷ l) = a ≢ c
 
-  pub shift-two : {T T′ : Linked} {l : Link} {v : ℕ} {came gone : List ℕ} {b : Bool} → Shift T T′ l v came gone b → Rep p root T → Two gone
+  pub shift-two : {T T′ : Linked} {l : Link} {v : ℕ} {came gone : List ℕ} {b w : Bool} → Shift T T′ l v came gone b w → Rep p root T → Two gone
   shift-two (by-insert fs Z k w) h = tt
   shift-two (by-diag-lower fs s B C n o x r ord w z) h = tt
   shift-two (by-diag-raise fs s B C n o x r ord w z) h = tt
@@ -138,23 +136,8 @@ module _ (p : List ℕ) (root : ℕ) where
   shift-two (by-publish fs gs B C n l y al ord w z) h = tt
   shift-two (by-detach fs gs B C n l y al ord w z) h = tt
 
--- S2, or a publish
-pub shift-ways : (P : ℕ → Type 0) {T T′ : Linked} {l : Link} {v : ℕ} {came gone : List ℕ} {b : Bool} (sh : Shift T T′ l v came gone b) → ((i : ℕ) → i ∈ gone → P i)
-    → Thins P T T′ ⊎ ((0 < length came) × (0 < length gone))
-shift-ways P (by-insert fs Z k w) g = inl (λ j. shift-thin P (by-insert fs Z k w) g j (λ e. e))
-shift-ways P (by-diag-lower fs s B C n o x r ord w z) g = inl (λ j. shift-thin P (by-diag-lower fs s B C n o x r ord w z) g j (λ e. e))
-shift-ways P (by-diag-raise fs s B C n o x r ord w z) g = inl (λ j. shift-thin P (by-diag-raise fs s B C n o x r ord w z) g j (λ e. e))
-shift-ways P (by-zig-A fs s A B C m a x y r ord w z) g = inl (λ j. shift-thin P (by-zig-A fs s A B C m a x y r ord w z) g j (λ e. e))
-shift-ways P (by-zig-C fs s A B C m n a x y r ord w z q d) g = inl (λ j. shift-thin P (by-zig-C fs s A B C m n a x y r ord w z q d) g j (λ e. e))
-shift-ways P (by-zig-raise fs s A B C m n a x y r ord w z q d) g = inl (λ j. shift-thin P (by-zig-raise fs s A B C m n a x y r ord w z q d) g j (λ e. e))
-shift-ways P (by-unlink fs s B x ord w) g = inl (λ j. shift-thin P (by-unlink fs s B x ord w) g j (λ e. e))
-shift-ways P (by-adopt fs B C l y ord w) g = inl (λ j. shift-thin P (by-adopt fs B C l y ord w) g j (λ e. e))
-shift-ways P (by-replace fs B C l y ord w) g = inl (λ j. shift-thin P (by-replace fs B C l y ord w) g j (λ e. e))
-shift-ways P (by-publish fs gs B C n l y al ord w z) g = inr (omega arith, omega arith)
-shift-ways P (by-detach fs gs B C n l y al ord w z) g = inl (λ j. shift-thin P (by-detach fs gs B C n l y al ord w z) g j (λ e. e))
-
 -- two at most go
-pub shift-few : {T T′ : Linked} {l : Link} {v : ℕ} {came gone : List ℕ} {b : Bool} → Shift T T′ l v came gone b → length gone ≤ 2
+pub shift-few : {T T′ : Linked} {l : Link} {v : ℕ} {came gone : List ℕ} {b w : Bool} → Shift T T′ l v came gone b w → length gone ≤ 2
 shift-few (by-insert fs Z k w) = omega arith
 shift-few (by-diag-lower fs s B C n o x r ord w z) = omega arith
 shift-few (by-diag-raise fs s B C n o x r ord w z) = omega arith
@@ -166,13 +149,3 @@ shift-few (by-adopt fs B C l y ord w) = omega arith
 shift-few (by-replace fs B C l y ord w) = omega arith
 shift-few (by-publish fs gs B C n l y al ord w z) = omega arith
 shift-few (by-detach fs gs B C n l y al ord w z) = omega arith
-
--- none but a list store both takes a node and lets one go
-pub plain-none : {T T′ : Linked} {l : Link} {v : ℕ} {came gone : List ℕ} → Shift T T′ l v came gone false → 0 < length came → 0 < length gone → ⊥
-plain-none (by-diag-lower fs s B C n o x r ord w z) a b = omega arith
-plain-none (by-diag-raise fs s B C n o x r ord w z) a b = omega arith
-plain-none (by-zig-A fs s A B C m c x y r ord w z) a b = omega arith
-plain-none (by-zig-C fs s A B C m n c x y r ord w z q d) a b = omega arith
-plain-none (by-zig-raise fs s A B C m n c x y r ord w z q d) a b = omega arith
-plain-none (by-adopt fs B C l y ord w) a b = omega arith
-plain-none (by-detach fs gs B C n l y al ord w z) a b = omega arith

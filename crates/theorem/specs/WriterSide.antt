@@ -24,7 +24,7 @@ use Rattle.tree.specs.Changes.{Proper}
 use Rattle.tree.specs.Linked.{Linked, find, nodes}
 use Rattle.tree.specs.Occurs.{occ, occ-in}
 use Rattle.heap.specs.Moves.{Fresh}
-use Rattle.heap.specs.Shift.{listStore, takenBy, heldAfter, later, Ready}
+use Rattle.heap.specs.Shift.{listStore, takenBy, heldAfter, later, Ready, later-length}
 use Rattle.heap.specs.Nodes.{Settled}
 use Rattle.heap.specs.Settle.{phase-settles, later-settled, turn-told, turn-same}
 use Rattle.heap.specs.Writes.{InHand, write-count}
@@ -33,7 +33,7 @@ use Rattle.readers.specs.Owned.{Owned}
 use Rattle.readers.specs.Reach.{HasStanding}
 use Rattle.readers.specs.Safe.{Safe}
 use Rattle.runs.specs.Writer.{Stores, afterStore}
-use Rattle.theorem.specs.Laters.{takesAll, later-plain, held-plain, later-length, later-takes, taken-length}
+use Rattle.theorem.specs.Laters.{takesAll, later-plain, held-plain, later-takes, taken-length}
 use Rattle.theorem.specs.Steps.{QueueKept}
 use Rattle.theorem.specs.StoreFacts.{turned, met-turn, met-linked, met-stores}
 

@@ -44,9 +44,6 @@ find-insert t q w h e = insert-writes t q w e .there h
 pub find-insert-other : (t : Tree) (q w r : ℕ) → Ordered t → r ≢ q → find (insert t q w) r ≡ find t r
 find-insert-other t q w r h n = held-case t q (λ e. insert-writes t q w e .elsewhere h r n) (λ v e. ap (λ u. find u r) (insert-held t q w v e))
 
-pub size-insert : (t : Tree) (q w : ℕ) → find t q ≡ none → size (insert t q w) ≡ suc (size t)
-size-insert t q w e = let s = insert-writes t q w e .sized in omega arith
-
 -- Delete.
 pub delete-ordered : (t : Tree) (q : ℕ) → Ordered t → Ordered (delete t q)
 delete-ordered t q h = held-case t q (λ e. rw (delete-absent t q e) h) (λ v e. delete-writes t q v e .ordered h)
@@ -57,9 +54,6 @@ find-delete t q h = held-case t q (λ e. ap (λ u. find u q) (delete-absent t q 
 pub find-delete-other : (t : Tree) (q r : ℕ) → Ordered t → r ≢ q → find (delete t q) r ≡ find t r
 find-delete-other t q r h n = held-case t q (λ e. ap (λ u. find u r) (delete-absent t q e)) (λ v e. delete-writes t q v e .elsewhere h r n)
 
-pub size-delete : (t : Tree) (q v : ℕ) → find t q ≡ some v → size t ≡ suc (size (delete t q))
-size-delete t q v e = let s = delete-writes t q v e .sized in omega arith
-
 -- One write, and a list of writes.
 pub changed-proper : (t : Tree) (c : Change) → Proper t → Proper (changed t c)
 changed-proper t (insertion k v) p = record { ordered = insert-ordered t k v (p .ordered); redblack = insert-redblack t k v (p .redblack) }
@@ -69,11 +63,8 @@ pub changedBy-proper : (t : Tree) (cs : List Change) → Proper t → Proper (ch
 changedBy-proper t [] p = p
 changedBy-proper t (c ∷ cs) p = changedBy-proper (changed t c) cs (changed-proper t c p)
 
--- the tree of a fresh index's writes
-pub history-proper : (cs : List Change) → Proper (changedBy leaf cs)
-history-proper cs = changedBy-proper leaf cs proper-leaf
-
--- what a write makes of the answer o that a lookup of q had: an insert of a held key and a delete of a key that is not held make nothing of it
+-- Below: what the tree of a list of writes holds. Nothing cites it; it says that the sequential tree, which demand 2 names, is what one means.
+-- What a write makes of the answer o that a lookup of q had: an insert of a held key and a delete of a key that is not held make nothing of it
 abbrev pub orElse : Option ℕ → ℕ → Option ℕ
 orElse none w = some w
 orElse (some v) w = some v
@@ -104,6 +95,13 @@ find-changed t (deletion k) q h =
 pub find-changedBy : (t : Tree) (cs : List Change) (q : ℕ) → Proper t → find (changedBy t cs) q ≡ toldBy cs q (find t q)
 find-changedBy t [] q p = refl
 find-changedBy t (c ∷ cs) q p = find-changedBy (changed t c) cs q (changed-proper t c p) ∙ ap (toldBy cs q) (find-changed t c q (p .ordered))
+
+-- the size
+pub size-insert : (t : Tree) (q w : ℕ) → find t q ≡ none → size (insert t q w) ≡ suc (size t)
+size-insert t q w e = let s = insert-writes t q w e .sized in omega arith
+
+pub size-delete : (t : Tree) (q v : ℕ) → find t q ≡ some v → size t ≡ suc (size (delete t q))
+size-delete t q v e = let s = delete-writes t q v e .sized in omega arith
 
 -- the key that a write is about; the size follows that key's answer
 abbrev pub keyOfChange : Change → ℕ

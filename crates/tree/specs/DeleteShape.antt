@@ -9,7 +9,8 @@ use Rattle.datatypes.specs.Side.{other}
 use Rattle.sequential.specs.Tree.{Colour, red, black, Tree, leaf, node, ifRed, mk, child, keyOf, recordOf, colourOf, paint, redChild, Frame, frame, plug, diag, zig}
 use Rattle.sequential.specs.Delete.{blackOuter, blackSibling, underRed, fixup, lose, removeLeast, remove, delete}
 use Rattle.tree.specs.Sorted.{ifRed-case, NotLeaf, parts, colourOf-mk, paint-mk}
-use Rattle.tree.specs.RedBlack.{RB, rb-leaf, rb-red, rb-black, RedBlack, Fit, fit-top, fit-red, fit-black, above, mk-black, mk-any, red-child, black-child, blacken, root-is, red-there, leavesTree-black, fit-either, fit-plug}
+use Rattle.tree.specs.RedBlack.{RB, rb-leaf, rb-red, rb-black, RedBlack, Fit, fit-top, fit-red, fit-black, above, mk-black, mk-any}
+use Rattle.tree.specs.RedBlack.{red-child, black-child, blacken, root-is, red-there, leavesTree-black, fit-either, fit-plug}
 use Rattle.tree.specs.Descent.{descend-fit}
 
 -- the test for a red child, from each side

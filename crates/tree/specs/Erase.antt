@@ -1,6 +1,6 @@
 -- Linked trees without their numbers: sequential trees, with colours read off the nodes. Order, height and red-black facts of linked
 -- trees are those of the erased ones.
-use Prim.Native.Nat.{ℕ, _+_, _≤_}
+use Prim.Native.Nat.{ℕ, _≤_}
 use mathlib.Core.Path.{_≡_, refl, ap, _∙_}
 use mathlib.Core.Logic.{inl, inr}
 use mathlib.Core.List.{List, [], _∷_}
@@ -11,9 +11,7 @@ use Rattle.datatypes.specs.declared.Side.the-variants.{L, R}
 use Rattle.sequential.specs.Tree as Seq
 use Rattle.sequential.specs.Tree.{Colour, Tree, leaf, node, mk}
 use Rattle.tree.specs.Order.{tri-case}
-use Rattle.tree.specs.Sorted.{size}
-use Rattle.tree.specs.RedBlack.{RedBlack}
-use Rattle.tree.specs.Height.{height, height-1023, height-plug}
+use Rattle.tree.specs.Height.{height}
 use Rattle.base.specs.Lists.{_∈_, in-append}
 use Rattle.tree.specs.Linked.{Node, Linked, nil, cell, at, find, path, nodes}
 use Rattle.tree.specs.Zipper.{Frame, hole, plug, Into}
@@ -51,28 +49,10 @@ erase-agree f g (cell N l r) h =
     let b = erase-agree f g r (λ n i. h n (inr (in-append n (nodes l) (nodes r) .1 (inr i)))) in
     cc (h (N .num) (inl refl))
 
--- a path is no longer than the tree is high
+-- a path is no longer than the tree is high (nothing cites it yet: for request C-17, with Height.height-bound)
 pub path-height : (f : ℕ → Colour) (t : Linked) (q : ℕ) → length (path t q) ≤ height (erase f t)
 path-height f nil q = omega arith
 path-height f (cell N l r) q =
     let a = path-height f l q in
     let b = path-height f r q in
     tri-case L q (N .key) (λ _ e. rw e (omega arith)) (λ _ e. rw e (omega arith)) (λ _ e. rw e (omega arith))
-
--- with at most 1,023 keys it has at most 20 nodes
-pub path-20 : (f : ℕ → Colour) (t : Linked) (q : ℕ) → RedBlack (erase f t) → size (erase f t) ≤ 1023 → length (path t q) ≤ 20
-path-20 f t q g s = let a = path-height f t q in let b = height-1023 (erase f t) g s in omega arith
-
--- and at most n more when a subtree t gives way to one that is higher by n
-pub path-higher : (f : ℕ → Colour) (n : ℕ) (fs : List Frame) (t u : Linked) (q : ℕ) → RedBlack (erase f (plug fs t)) → size (erase f (plug fs t)) ≤ 1023
-    → height (erase f u) ≤ n + height (erase f t) → length (path (plug fs u) q) ≤ n + 20
-path-higher f n fs t u q g s h =
-    let a = path-height f (plug fs u) q in
-    let b : height (erase f (plug fs u)) ≤ n + height (erase f (plug fs t)) = rw (erase-plug f fs u, erase-plug f fs t) (height-plug n (eraseWay f fs) (erase f t) (erase f u) h) in
-    let c = height-1023 (erase f (plug fs t)) g s in
-    omega arith
-
--- so at most 21 with a new node at an empty place
-pub path-21 : (f : ℕ → Colour) (fs : List Frame) (Z : Node) (q : ℕ) → RedBlack (erase f (plug fs nil)) → size (erase f (plug fs nil)) ≤ 1023
-    → length (path (plug fs (cell Z nil nil)) q) ≤ 21
-path-21 f fs Z q g s = path-higher f 1 fs nil (cell Z nil nil) q g s (omega arith)

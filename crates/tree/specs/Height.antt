@@ -1,14 +1,13 @@
--- The height of a red-black tree: at most 20 with 1,023 keys; and what a longer subtree adds. For the bound of 64 nodes on a path.
+-- The height of a red-black tree, by its size: at most 20 with 1,023 keys. For the bound of 64 nodes on a path.
 use Prim.Native.Nat.{ℕ, suc, _+_, _*_, _^_, _<_, _≤_, max}
 use mathlib.Core.Path.{_≡_, refl}
-use mathlib.Core.List.{List, [], _∷_}
 use native.Mathlib.Omega.{arith}
 use native.Mathlib.Nat.{le-trans, mul-le-mul}
 use native.Mathlib.Decide.{decLe}
 use lib.Pow.{pow-add, pow-mono}
 use Rattle.datatypes.specs.declared.Side.{Side}
 use Rattle.datatypes.specs.declared.Side.the-variants.{L, R}
-use Rattle.sequential.specs.Tree.{Colour, red, black, Tree, leaf, node, mk, Frame, frame, plug}
+use Rattle.sequential.specs.Tree.{Colour, red, black, Tree, leaf, node, mk}
 use Rattle.tree.specs.Sorted.{size}
 use Rattle.tree.specs.RedBlack.{RB, rb-leaf, rb-red, rb-black, RedBlack}
 
@@ -37,6 +36,7 @@ black-height rb-leaf = omega arith
 black-height (rb-red a b) = let x = black-height a in let y = black-height b in omega arith
 black-height (rb-black {c = c} {d = d} a b) = let x = black-height a in let y = black-height b in omega (arith, extra-le c, extra-le d)
 
+-- (nothing cites it yet: request C-17 states it of a lookup's count)
 pub height-bound : (t : Tree) → RedBlack t → 2 ^ height t ≤ suc (size t) * suc (size t)
 height-bound t (h, r) = le-trans (pow-mono {j = h + h} (omega (arith, black-height r))) (rw (pow-add 2 h h) (mul-le-mul (black-size r) (black-size r)))
 
@@ -48,18 +48,13 @@ height-of-size n t (h, r) s = go (decLe h n)
     go (yes k) = omega (arith, black-height r)
     go (no k) = absurd (omega (arith, black-size r, pow-mono {i = suc n} {j = h} (omega arith)))
 
-pub height-1023 : (t : Tree) → RedBlack t → size t ≤ 1023 → height t ≤ 20
+-- the height of a tree of 1,023 keys at most
+abbrev pub mostHeight : ℕ
+mostHeight = 20
+
+pub height-1023 : (t : Tree) → RedBlack t → size t ≤ 1023 → height t ≤ mostHeight
 height-1023 t g s = height-of-size 10 t g (omega arith)
 
 pub height-mk : (s : Side) (c : Colour) (k v : ℕ) (x y : Tree) → height (mk s c k v x y) ≡ suc (max (height x) (height y))
 height-mk L c k v x y = refl
 height-mk R c k v x y = omega arith
-
--- a subtree that is higher by n makes the tree higher by at most n
-pub height-plug : (n : ℕ) (fs : List Frame) (t u : Tree) → height u ≤ n + height t → height (plug fs u) ≤ n + height (plug fs t)
-height-plug n [] t u h = h
-height-plug n (frame s c k v y ∷ fs) t u h = height-plug n fs (mk s c k v t y) (mk s c k v u y) (simp height-mk (omega arith))
-
--- with one more node at an empty place
-pub height-1024 : (fs : List Frame) (c : Colour) (k v : ℕ) → RedBlack (plug fs leaf) → size (plug fs leaf) ≤ 1023 → height (plug fs (node c k v leaf leaf)) ≤ 21
-height-1024 fs c k v g s = let a = height-1023 (plug fs leaf) g s in let b = height-plug 1 fs leaf (node c k v leaf leaf) (omega arith) in omega arith

@@ -4,7 +4,6 @@ use Prim.Native.Nat.{ℕ, zero, suc}
 use mathlib.Core.Path.{_≡_, refl}
 use mathlib.Core.Bool.{Bool}
 use mathlib.Core.List.{List, [], _∷_}
-use native.Mathlib.Omega.{arith}
 use Rattle.datatypes.specs.declared.Side.{Side}
 use Rattle.datatypes.specs.Side.{sameSide}
 use Rattle.sequential.specs.Tree.{red, black, Tree, ifRed, mk, colourOf, paint, Frame, frame, plug}
@@ -73,9 +72,3 @@ fit-insertFixup fit-top = insertFixup-root
 fit-insertFixup (fit-black f q) = insertFixup-balanced
 fit-insertFixup (fit-red (fit-black {d = red} f a) q) = insertFixup-level (root-is a) (fit-insertFixup f)
 fit-insertFixup (fit-red (fit-black {d = black} f a) q) = insertFixup-turn (root-is a)
-
-pub insertFixup-end : {fs : List Frame} → InsertFixups fs → ¬ (insertFixup fs .end ≡ rootRed)
-insertFixup-end insertFixup-root e = let z : _≡_ {A = ℕ} 0 1 = cc in omega arith
-insertFixup-end insertFixup-balanced e = let z : _≡_ {A = ℕ} 0 1 = cc in omega arith
-insertFixup-end (insertFixup-level a r) e = insertFixup-end r (rw a at e)
-insertFixup-end (insertFixup-turn a) e = let e′ = rw a at e in let z : _≡_ {A = ℕ} 0 1 = cc in omega arith

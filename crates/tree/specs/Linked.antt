@@ -2,7 +2,7 @@
 -- The trees that demand 3's facts of stores and readers are about.
 use Prim.Native.Nat.{ℕ}
 use mathlib.Core.Path.{_≡_, refl, ap}
-use mathlib.Core.Logic.{_⊎_, inl, inr, ⊎-map, ⊎-elim, _↔_}
+use mathlib.Core.Logic.{inl, inr}
 use mathlib.Core.List.{List, [], _∷_, _++_}
 use mathlib.Core.Option.{Option, none, some}
 use Rattle.datatypes.specs.declared.Side.{Side}
@@ -62,13 +62,6 @@ path-at R N x y q = ap (N .num ∷_) (pick-turned (rel L q (N .key)) (path y q) 
 pub at-other : (s : Side) (N : Node) (x y : Linked) → at (other s) N y x ≡ at s N x y
 at-other L N x y = refl
 at-other R N x y = refl
-
-pub nodes-at : (s : Side) (N : Node) (x y : Linked) (m : ℕ) → (m ∈ nodes (at s N x y)) ↔ ((m ≡ N .num) ⊎ ((m ∈ nodes x) ⊎ (m ∈ nodes y)))
-nodes-at L N x y m = (⊎-map (λ e. e) (in-append m (nodes x) (nodes y) .0), ⊎-map (λ e. e) (in-append m (nodes x) (nodes y) .1))
-nodes-at R N x y m = (
-  ⊎-map (λ e. e) (λ h. ⊎-elim inr inl (in-append m (nodes y) (nodes x) .0 h)),
-  ⊎-map (λ e. e) (λ h. in-append m (nodes y) (nodes x) .1 (⊎-elim inr inl h)),
-)
 
 -- a lookup visits nodes of the tree
 pub path-nodes : (t : Linked) (q m : ℕ) → m ∈ path t q → m ∈ nodes t

@@ -2,11 +2,11 @@
 -- a rotation and of a write. For 'a node stands linked just if it is in the tree', and for the size of the tree.
 use Prim.Native.Nat.{ℕ, _+_, _<_, _≤_}
 use mathlib.Core.Path.{_≡_, refl}
-use mathlib.Core.Logic.{_≢_, _⊎_, inl, inr}
+use mathlib.Core.Logic.{_≢_, inl, inr}
 use mathlib.Core.Bool.{Bool, true, false}
 use mathlib.Core.List.{List, [], _∷_, _++_}
 use native.Mathlib.Omega.{arith}
-use native.Mathlib.Decide.{ℕ-discrete, decLe}
+use native.Mathlib.Decide.{ℕ-discrete}
 use lib.Dec.{eqb}
 use borrow.Author.Tests.{eq-eqb, ne-eqb}
 use lib.ListN.{length, length-append}
@@ -14,13 +14,13 @@ use Rattle.datatypes.specs.declared.Side.{Side}
 use Rattle.datatypes.specs.declared.Side.the-variants.{L, R}
 use Rattle.sequential.specs.Tree.{Colour}
 use Rattle.tree.specs.Sorted.{size}
-use Rattle.base.specs.Lists.{_∈_, in-append, Distinct, pigeonhole}
+use Rattle.base.specs.Lists.{_∈_, Distinct, pigeonhole}
 use Rattle.tree.specs.Linked.{Node, Linked, nil, cell, at, nodes}
 use Rattle.tree.specs.Zipper.{Frame, hole, plug}
 use Rattle.tree.specs.Erase.{erase}
-use Rattle.tree.specs.Rotations.{diag₀, diag₁, diag₂, zig₀, zig₁, zig₂, zig₃}
-use Rattle.tree.specs.Stores.{form₀, form₁, form₂}
-use Rattle.tree.specs.Successor.{third₀, third₁, third₂}
+use Rattle.tree.specs.Rotations.{diag₀, diag₂, zig₀, zig₃}
+use Rattle.tree.specs.Stores.{form₀, form₂}
+use Rattle.tree.specs.Successor.{third₁, third₂}
 
 abbrev bit : Bool → ℕ
 bit true = 1
@@ -61,13 +61,6 @@ pub occ-in : (m : ℕ) (xs : List ℕ) → 0 < occ m xs → m ∈ xs
 occ-in m [] h = absurd (omega arith)
 occ-in m (x ∷ xs) h = one-case m x (λ e _. inl e) (λ _ e. inr (occ-in m xs (omega arith)))
 
-pub distinct-occ : (xs : List ℕ) → Distinct xs → (m : ℕ) → occ m xs ≤ 1
-distinct-occ [] d m = omega arith
-distinct-occ (x ∷ xs) d m =
-    one-case m x
-    (λ e o. let no-more : ¬ (0 < occ m xs) = λ p. d .0 (rw e at (occ-in m xs p)) in omega arith)
-    (λ _ o. let a = distinct-occ xs (d .1) m in omega arith)
-
 pub occ-distinct : (xs : List ℕ) → ((m : ℕ) → occ m xs ≤ 1) → Distinct xs
 occ-distinct [] h = tt
 occ-distinct (x ∷ xs) h =
@@ -101,37 +94,6 @@ Turnover gone new t u = (i : ℕ) → occ i (nodes u) + occ i gone ≡ occ i (no
 pub turnover-plug : (fs : List Frame) (gone new : List ℕ) (t u : Linked) → Turnover gone new t u → Turnover gone new (plug fs t) (plug fs u)
 turnover-plug fs gone new t u h i = let a = h i in simp occ-plug (omega arith)
 
-module _ (gone new : List ℕ) (t u : Linked) (h : Turnover gone new t u) where
-  pub turnover-in : (i : ℕ) → i ∈ nodes u → (i ∈ nodes t) ⊎ (i ∈ new)
-  turnover-in i m =
-      let a = h i in
-      let b = in-occ i (nodes u) m in
-      let c : 0 < occ i (nodes t ++ new) = rw (occ-append i (nodes t) new) (omega arith) in
-      in-append i (nodes t) new .0 (occ-in i (nodes t ++ new) c)
-
-  pub turnover-out : (i : ℕ) → i ∈ nodes t → (i ∈ nodes u) ⊎ (i ∈ gone)
-  turnover-out i m =
-      let a = h i in
-      let b = in-occ i (nodes t) m in
-      let c : 0 < occ i (nodes u ++ gone) = rw (occ-append i (nodes u) gone) (omega arith) in
-      in-append i (nodes u) gone .0 (occ-in i (nodes u ++ gone) c)
-
-  -- what comes is new: the nodes are distinct again
-  module _ (d : Distinct (nodes t)) (e : Distinct new) (fresh : (i : ℕ) → i ∈ new → ¬ (i ∈ nodes t)) where
-    at-most-one : (i : ℕ) → occ i (nodes t) + occ i new ≤ 1
-    at-most-one i = go (decLe 1 (occ i new))
-      where
-        go : Dec (1 ≤ occ i new) → occ i (nodes t) + occ i new ≤ 1
-        go (yes k) = let none-old : ¬ (0 < occ i (nodes t)) = λ p. fresh i (occ-in i new k) (occ-in i (nodes t) p) in let b = distinct-occ new e i in omega arith
-        go (no k) = let a = distinct-occ (nodes t) d i in omega arith
-
-    pub turnover-distinct : Distinct (nodes u)
-    turnover-distinct = occ-distinct (nodes u) (λ i. let a = h i in let b = at-most-one i in omega arith)
-
-    -- and what leaves has left
-    pub turnover-gone : (i : ℕ) → i ∈ gone → ¬ (i ∈ nodes u)
-    turnover-gone i m n = let a = h i in let b = at-most-one i in let c = in-occ i gone m in let k = in-occ i (nodes u) n in omega arith
-
 pub diag-turnover : (s : Side) (B C : Node) (n : ℕ) (o x r : Linked) → Turnover (C .num ∷ []) (n ∷ []) (diag₀ s B C n o x r) (diag₂ s B C n o x r)
 diag-turnover s B C n o x r i = simp occ-at (omega arith)
 
@@ -148,34 +110,5 @@ unlink-turnover s B x i = simp occ-at (omega arith)
 pub form-turnover : (s : Side) (B C : Node) (l y : Linked) → Turnover (B .num ∷ []) [] (form₀ s B C l y) (form₂ s B C l y)
 form-turnover s B C l y i = simp occ-at (omega arith)
 
-pub publish-turnover : (s : Side) (B C : Node) (n : ℕ) (l y : Linked) (fs : List Frame) → Turnover (B .num ∷ []) (n ∷ []) (third₀ s B C n l y fs) (third₁ s B C n l y fs)
-publish-turnover s B C n l y fs i = simp occ-at (omega arith)
-
 pub detach-turnover : (s : Side) (B C : Node) (n : ℕ) (l y : Linked) (fs : List Frame) → Turnover (C .num ∷ []) [] (third₁ s B C n l y fs) (third₂ s B C n l y fs)
 detach-turnover s B C n l y fs i = simp (occ-at, occ-plug) (omega arith)
-
--- Each store that begins or ends the sharing of a child: in the state between, that child's nodes are counted once more.
-module _ (s : Side) (B C : Node) (n : ℕ) (o x r : Linked) (i : ℕ) where
-  pub diag-lower-nodes : occ i (nodes (diag₁ s B C n o x r)) ≡ occ i (nodes (diag₀ s B C n o x r)) + one i n + occ i (nodes r)
-  diag-lower-nodes = simp occ-at (omega arith)
-
-  pub diag-raise-nodes : occ i (nodes (diag₁ s B C n o x r)) ≡ occ i (nodes (diag₂ s B C n o x r)) + one i (C .num) + occ i (nodes r)
-  diag-raise-nodes = simp occ-at (omega arith)
-
-module _ (s : Side) (A B C : Node) (m n : ℕ) (a x y r : Linked) (i : ℕ) where
-  pub zig-lower-A-nodes : occ i (nodes (zig₁ s A B C m n a x y r)) ≡ occ i (nodes (zig₀ s A B C m n a x y r)) + one i m + occ i (nodes a)
-  zig-lower-A-nodes = simp occ-at (omega arith)
-
-  pub zig-lower-C-nodes : occ i (nodes (zig₂ s A B C m n a x y r)) ≡ occ i (nodes (zig₁ s A B C m n a x y r)) + one i n + occ i (nodes r)
-  zig-lower-C-nodes = simp occ-at (omega arith)
-
-  pub zig-raise-nodes : occ i (nodes (zig₂ s A B C m n a x y r))
-      ≡ occ i (nodes (zig₃ s A B C m n a x y r)) + one i (A .num) + one i (C .num) + occ i (nodes a) + occ i (nodes r)
-  zig-raise-nodes = simp occ-at (omega arith)
-
-module _ (s : Side) (B C : Node) (l y : Linked) (i : ℕ) where
-  pub adopt-nodes : occ i (nodes (form₁ s B C l y)) ≡ occ i (nodes (form₀ s B C l y)) + occ i (nodes l)
-  adopt-nodes = simp occ-at (omega arith)
-
-  pub replace-nodes : occ i (nodes (form₁ s B C l y)) ≡ occ i (nodes (form₂ s B C l y)) + one i (B .num) + occ i (nodes l)
-  replace-nodes = simp occ-at (omega arith)

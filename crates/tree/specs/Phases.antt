@@ -7,11 +7,10 @@ use mathlib.Core.Option.{Option, none, some}
 use native.Mathlib.Omega.{arith}
 use Rattle.datatypes.specs.declared.Side.{Side}
 use Rattle.datatypes.specs.declared.Side.the-variants.{L, R}
-use Rattle.datatypes.specs.Side.{other}
 use Rattle.sequential.specs.Tree as Seq
-use Rattle.sequential.specs.Tree.{Colour, black, leaf, node, mk, child}
-use Rattle.tree.specs.Sorted.{NotLeaf, mk-there, parts}
-use Rattle.tree.specs.Keeps.{Keeps, keeps-plug, keeps-diag, keeps-zig}
+use Rattle.sequential.specs.Tree.{Colour, black, leaf, node, mk}
+use Rattle.tree.specs.Sorted.{mk-there, parts}
+use Rattle.tree.specs.Keeps.{Keeps, keeps-plug, keeps-diag}
 use Rattle.tree.specs.Writes.{Writes, writes-plug}
 use Rattle.tree.specs.Insert.{new-writes}
 use Rattle.tree.specs.Delete.{Least, least, least-up, drop-one, swap}
@@ -19,7 +18,7 @@ use Rattle.tree.specs.Linked.{Node, Linked, nil, cell, at}
 use Rattle.tree.specs.Zipper.{Frame, hole, plug, Into, Along}
 use Rattle.tree.specs.Erase.{eraseWay, erase-at, erase-plug, erase-into}
 use Rattle.tree.specs.LinkedOrder.{bare}
-use Rattle.tree.specs.Rotations.{diag₀, diag₂, zig₀, zig₃}
+use Rattle.tree.specs.Rotations.{diag₀, diag₂}
 use Rattle.tree.specs.Stores.{form₀, form₂}
 use Rattle.tree.specs.Successor.{third₀, third₂}
 
@@ -38,13 +37,6 @@ pub diag-keeps : (s : Side) (B C : Node) (n : ℕ) (o x r : Linked) → Keeps (b
 diag-keeps s B C n o x r =
     let b = mk s black (B .key) (B .val) (bare o) (bare x) in
     simp erase-at (simp parts at (keeps-diag s black black black (C .key) (C .val) b (bare r) (mk-there s black (B .key) (B .val) (bare o) (bare x))))
-
-pub zig-keeps : (s : Side) (A B C : Node) (m n : ℕ) (a x y r : Linked) → Keeps (bare (zig₀ s A B C m n a x y r)) (bare (zig₃ s A B C m n a x y r))
-zig-keeps s A B C m n a x y r =
-    let b = mk s black (B .key) (B .val) (bare x) (bare y) in
-    let t = mk s black (A .key) (A .val) (bare a) b in
-    let there : NotLeaf (child (other s) t) = simp parts (mk-there s black (B .key) (B .val) (bare x) (bare y)) in
-    simp erase-at (simp parts at (keeps-zig s black black black (C .key) (C .val) t (bare r) (mk-there s black (A .key) (A .val) (bare a) b) there))
 
 -- The list stores.
 pub insert-writes : (Z : Node) → Writes (Z .key) none (some (Z .val)) (bare nil) (bare (cell Z nil nil))

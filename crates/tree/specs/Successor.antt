@@ -7,7 +7,6 @@ use mathlib.Core.List.{List, [], _∷_}
 use mathlib.Core.Option.{none, some}
 use Rattle.datatypes.specs.declared.Side.{Side}
 use Rattle.datatypes.specs.Side.{other}
-use Rattle.sequential.specs.Tree.{rel, pick}
 use Rattle.tree.specs.Order.{Ord, ord-trans, ord-anti, ord-apart, other-ord, near-of, here-of, tri-case}
 use Rattle.tree.specs.Sorted.{Below, Ordered}
 use Rattle.tree.specs.Linked.{Node, copy, Linked, nil, at, find, path, find-at, path-at, at-other}
@@ -72,10 +71,7 @@ module _ (s : Side) (B C : Node) (n : ℕ) (l y : Linked) (fs : List Frame) wher
           (λ o e. tri-case s q (C .key) (λ p f. simp (find-at, e, f) (not-left q o ∙ sym (missing q p))) (λ p f. simp (find-at, e, f) (sym (found q p))) (λ p f. simp (find-at, e, f)));
     }
 
-    -- an awaited reader that is past B finds what the new tree has
-    pub publish-awaited-find : (q : ℕ) → Awaited q → find beyond q ≡ find third₁ q
-    publish-awaited-find q a = tri-case s q (C .key) (λ o e. simp (find-at, e) (missing q o ∙ sym (not-left q (a .0)))) (λ o e. simp (find-at, e) (found q o)) (λ o e. absurd (a .1 o))
-
+    -- which paths a publish leaves and which not. Nothing cites it: 01 awaits every reading slot, whatever its key
     pub publish-path : (P : ℕ → Type 0) → P (B .num) → (q : ℕ) → ¬ (Awaited q) → Thin P (path third₀ q) (path third₁ q)
     publish-path P b q m =
         tri-case s q (B .key)
@@ -85,10 +81,6 @@ module _ (s : Side) (B C : Node) (n : ℕ) (l y : Linked) (fs : List Frame) wher
         (λ p f. absurd (m (o, ord-anti s q (C .key) p)))
         (λ p f. absurd (m (o, λ i. ord-apart s (C .key) q i (sym p))))
         (λ p f. simp (path-at, e, f) (search thin)))
-
-    -- an awaited key's new path goes through B's own child on the side s, or ends at C'
-    pub publish-awaited-path : (q : ℕ) → Awaited q → path third₁ q ≡ n ∷ pick (rel s q (C .key)) (path l q) [] []
-    publish-awaited-path q a = tri-case s q (C .key) (λ o e. simp (path-at, e)) (λ o e. simp (path-at, e)) (λ o e. absurd (a .1 o))
 
   -- C without a child on the side s leaves, as in an unlink
   module _ (right : Below (other s) (C .key) (bare y)) where

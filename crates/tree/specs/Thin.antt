@@ -1,7 +1,7 @@
 -- One list of nodes thinned to another: all but those that leave stand in it, in their order. For S2, the fact about paths of each store.
 use Prim.Native.Nat.{ℕ}
 use mathlib.Core.Logic.{_⊎_, inl, inr, ⊎-map, ⊎-elim}
-use mathlib.Core.List.{List, [], _∷_, _++_}
+use mathlib.Core.List.{List, [], _∷_}
 use Rattle.base.specs.Lists.{_∈_}
 
 -- ys has all of xs but some that leave (P), in their order, and perhaps more
@@ -20,10 +20,6 @@ thin-nil [] = done
 thin-nil (y ∷ ys) = more (thin-nil ys)
 
 pub ruleset thin = (thin-refl, thin-nil, keep, more, leave, done)
-
-pub thin-append : {P : ℕ → Type 0} (zs : List ℕ) {xs ys : List ℕ} → Thin P xs ys → Thin P (zs ++ xs) (zs ++ ys)
-thin-append [] h = h
-thin-append (z ∷ zs) h = keep (thin-append zs h)
 
 -- fewer that leave
 pub thin-weaken : {P Q : ℕ → Type 0} {xs ys : List ℕ} → ((n : ℕ) → P n → Q n) → Thin P xs ys → Thin Q xs ys

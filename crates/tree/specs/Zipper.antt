@@ -2,11 +2,11 @@
 use Prim.Native.Nat.{ℕ}
 use mathlib.Core.Path.{_≡_, refl, _∙_}
 use mathlib.Core.Logic.{_≢_}
-use mathlib.Core.List.{List, [], _∷_, _++_, append-assoc}
-use mathlib.Core.Option.{Option, some}
+use mathlib.Core.List.{List, [], _∷_, _++_}
+use mathlib.Core.Option.{Option}
 use Rattle.datatypes.specs.declared.Side.{Side}
 use Rattle.sequential.specs.Tree.{Rel, near, here, far, rel, pick}
-use Rattle.tree.specs.Order.{Ord, ord-trans, near-of, Tri, tri-near, tri-here, tri-far, tri}
+use Rattle.tree.specs.Order.{Ord, ord-trans, near-of}
 use Rattle.tree.specs.Linked.{Node, Linked, at, find, path, find-at, path-at}
 use Rattle.tree.specs.Thin.{Thin, done, keep, thin-refl}
 
@@ -22,11 +22,6 @@ plug (hole s N y ∷ fs) t = plug fs (at s N t y)
 pub plug-append : (fs gs : List Frame) (t : Linked) → plug (fs ++ gs) t ≡ plug gs (plug fs t)
 plug-append [] gs t = refl
 plug-append (hole s N y ∷ fs) gs t = plug-append fs gs (at s N t y)
-
--- the nodes above the hole, from the root down
-abbrev pub spine : List Frame → List ℕ
-spine [] = []
-spine (hole s N y ∷ fs) = spine fs ++ (N .num ∷ [])
 
 -- a lookup of q comes through the hole
 abbrev pub Into : ℕ → List Frame → Type 0
@@ -61,10 +56,6 @@ pub find-into : (fs : List Frame) (t : Linked) (q : ℕ) → Into q fs → find 
 find-into [] t q h = refl
 find-into (hole s N y ∷ fs) t q h = find-into fs (at s N t y) q (h .1) ∙ simp (find-at, near-of s q (N .key) (h .0))
 
-pub path-into : (fs : List Frame) (t : Linked) (q : ℕ) → Into q fs → path (plug fs t) q ≡ spine fs ++ path t q
-path-into [] t q h = refl
-path-into (hole s N y ∷ fs) t q h = path-into fs (at s N t y) q (h .1) ∙ simp (path-at, near-of s q (N .key) (h .0), append-assoc)
-
 thin-pick : {P : ℕ → Type 0} (r : Rel) {xs ys : List ℕ} (zs : List ℕ) → Thin P xs ys → Thin P (pick r xs [] zs) (pick r ys [] zs)
 thin-pick near zs h = h
 thin-pick here zs h = done
@@ -77,28 +68,8 @@ thin-lift (hole s N y ∷ fs) t u q h = thin-lift fs (at s N t y) (at s N u y) q
 pub same-lift : (fs : List Frame) (t u : Linked) → Same t u → Same (plug fs t) (plug fs u)
 same-lift fs t u h q = find-lift fs t u q (h q)
 
-pub thins-lift : (P : ℕ → Type 0) (fs : List Frame) (t u : Linked) → Thins P t u → Thins P (plug fs t) (plug fs u)
-thins-lift P fs t u h q = thin-lift fs t u q (h q)
-
 pub sameBut-lift : (fs : List Frame) {k : ℕ} {o : Option ℕ} {t u : Linked} → Into k fs → SameBut k o t u → SameBut k o (plug fs t) (plug fs u)
 sameBut-lift fs {k} {t = t} {u = u} i h = record { there = find-into fs u k i ∙ h .there; elsewhere = λ q n. find-lift fs t u q (h .elsewhere q n) }
-
--- A lookup of q comes through the hole whatever is there, or never sees what is there.
-pub data Reach (fs : List Frame) (q : ℕ) : Type 0 where
-  into : Into q fs → Reach fs q
-  past : (o : Option ℕ) (pre : List ℕ) → ((t : Linked) → find (plug fs t) q ≡ o) → ((t : Linked) → path (plug fs t) q ≡ pre) → Reach fs q
-
-pub reach : (fs : List Frame) (q : ℕ) → Reach fs q
-reach [] q = into tt
-reach (hole s N y ∷ fs) q = go (reach fs q) (tri s q (N .key))
-  where
-    go : Reach fs q → Tri s q (N .key) → Reach (hole s N y ∷ fs) q
-    go (into i) (tri-near o e) = into (o, i)
-    go (into i) (tri-here _ e) =
-        past (some (N .val)) (spine fs ++ (N .num ∷ [])) (λ t. find-into fs (at s N t y) q i ∙ simp (find-at, e)) (λ t. path-into fs (at s N t y) q i ∙ simp (path-at, e))
-    go (into i) (tri-far _ e) =
-        past (find y q) (spine fs ++ (N .num ∷ path y q)) (λ t. find-into fs (at s N t y) q i ∙ simp (find-at, e)) (λ t. path-into fs (at s N t y) q i ∙ simp (path-at, e))
-    go (past o pre f g) w = past o pre (λ t. f _) (λ t. g _)
 
 -- on a way that turns to the side s throughout, what comes before a key that reaches the hole reaches it too
 pub into-before : (s : Side) (fs : List Frame) (a q : ℕ) → Along s fs → Into a fs → Ord s q a → Into q fs
