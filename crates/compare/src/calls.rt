@@ -1,6 +1,6 @@
 // The index's calls: the register goes from one to the next, and all else of an answer is numbers.
-use crate::draws;
-use crate::draws::Call;
+use checks::draws;
+use checks::draws::Call;
 use datatypes::Acceptance;
 use datatypes::ReaderAnswer;
 use datatypes::ReaderReply;

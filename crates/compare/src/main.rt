@@ -2,18 +2,18 @@
 // finished write both trees are walked together, every lookup's answer is held against its moments, and of every call it is foretold
 // whether it is refused, of a writer's turn whether it answers more, done or wait.
 mod calls;
-mod draws;
-mod model;
-mod print;
 mod reading;
-mod tally;
-mod walk;
 mod writing;
 
-use draws::Call;
+use checks::draws;
+use checks::draws::Call;
+use checks::model;
+use checks::print;
+use checks::tally;
+use checks::walk;
 
 // the words of 1,023 nodes
-const POOL_WORDS: usize = 8184;
+const POOL_WORDS: usize = numbers::MOST_NODES * numbers::NODE_WORDS;
 
 // What a call is compared by: the free nodes and the row of the store in hand before it, its answer, and the register's numbers after it.
 struct Said {
@@ -157,7 +157,7 @@ fn run_on(
     calls: u64,
     seed: u32,
 ) {
-    let words = nodes as usize * 8;
+    let words = nodes as usize * numbers::NODE_WORDS;
     if words <= pool.len() {
         run(&mut pool[0..words], tree, model, counts, calls, seed);
     }

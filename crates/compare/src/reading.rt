@@ -1,9 +1,9 @@
 // The readers' calls, each beside the plain list.
 use crate::calls;
-use crate::draws::Call;
-use crate::model;
-use crate::tally;
 use crate::writing;
+use checks::draws::Call;
+use checks::model;
+use checks::tally;
 
 fn begin_foretold(model: &[u32], s: u32) -> u32 {
     if 7 < s {

@@ -1,9 +1,9 @@
 // The writer's calls, each beside the reference tree and the plain list.
 use crate::calls;
-use crate::draws::Call;
-use crate::model;
-use crate::tally;
-use crate::walk;
+use checks::draws::Call;
+use checks::model;
+use checks::tally;
+use checks::walk;
 use datatypes::Purpose;
 use datatypes::Side;
 use datatypes::Step;

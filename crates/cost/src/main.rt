@@ -15,9 +15,9 @@ use libc::STDOUT_FILENO;
 ghost use mathlib.Core.Path.{_≡_};
 ghost use Prim.Native.Nat.{ℕ, _<_, _≤_};
 ghost use lib.ListN.{length};
-ghost use Rattle.spec.specs.Numbers.{slots};
+ghost use Rattle.spec.specs.Numbers.{leastNodes, mostNodes, slots};
 
-const MOST_WORDS: usize = 8184;
+const MOST_WORDS: usize = numbers::MOST_NODES * numbers::NODE_WORDS;
 
 // the most calls on the way to the wanted turn
 const MOST_STEPS: u32 = 10000;
@@ -37,13 +37,13 @@ fn argument(i: usize) -> u8 {
 }
 
 fn size_of(letter: u8) -> usize
-    ensures { λ r. ⌜ (8 ≤ r) × (r ≤ 1023) ⌝ }
+    ensures { λ r. ⌜ (leastNodes ≤ r) × (r ≤ mostNodes) ⌝ }
 {
     if letter == b'l' {
-        return 1023;
+        return numbers::MOST_NODES;
     }
     if letter == b's' {
-        return 8;
+        return numbers::LEAST_NODES;
     }
     128
 }
@@ -404,7 +404,7 @@ fn run_on(
 
 fn main() {
     let size = argument(2);
-    let n = size_of(size) * 8;
+    let n = size_of(size) * numbers::NODE_WORDS;
     let keys = keys_of(size);
     let mut words = [0u32; MOST_WORDS];
     let mut kept = [0u32; MOST_WORDS];

@@ -305,11 +305,11 @@ profiled takes listing awaits renames = record { takes = takes; listing = listin
 abbrev pub profile : Step → Profile
 profile Vacant = profiled false unlisted false false
 profile (Insert k v) = profiled true keyComes false false
-profile (DiagLower s c) = profiled true unlisted false false
-profile (DiagRaise s c) = profiled false unlisted false false
-profile (ZigLowerA s c) = profiled true unlisted false false
-profile (ZigLowerC s c) = profiled true unlisted false false
-profile (ZigRaise s c) = profiled false unlisted false false
+profile (DiagLower s purpose) = profiled true unlisted false false
+profile (DiagRaise s purpose) = profiled false unlisted false false
+profile (ZigLowerA s purpose) = profiled true unlisted false false
+profile (ZigLowerC s purpose) = profiled true unlisted false false
+profile (ZigRaise s purpose) = profiled false unlisted false false
 profile Unlink = profiled false keyGoes false false
 profile Adopt = profiled false unlisted false false
 profile Replace = profiled false keyGoes false false

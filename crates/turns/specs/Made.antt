@@ -1,7 +1,7 @@
 -- A writer's turn from the answer of its step: a publish moves the stores still to come to its copy, then the first store goes.
 use mathlib.Core.Path.{_≡_, ap, _∙_}
 use mathlib.Core.List.{List}
-use mathlib.Core.Bool.{Bool, true, false, cond}
+use mathlib.Core.Bool.{cond}
 use Prim.Native.Nat.{ℕ}
 use Rattle.datatypes.specs.declared.Link.{Link}
 use Rattle.datatypes.specs.declared.Head.{Head}
@@ -9,29 +9,14 @@ use Rattle.datatypes.specs.declared.Register.{Register}
 use Rattle.datatypes.specs.declared.StepResult.{StepResult}
 use Rattle.datatypes.specs.declared.Write.{Write}
 use Rattle.datatypes.specs.declared.Step.{Step}
-use Rattle.datatypes.specs.declared.Step.the-variants.{Vacant, Insert, DiagLower, DiagRaise, ZigLowerA, ZigLowerC, ZigRaise, Unlink, Adopt, Replace, Publish, Detach}
 use Rattle.spec.specs.Register.{State, state, storeOf, nodeAt, readingSlots, withWrite}
-use Rattle.spec.specs.Turn.{movedWrite}
+use Rattle.spec.specs.Turn.{movedWrite, profile}
 use Rattle.spec.specs.Calls.{Answer, Outcome, stored}
 use Rattle.heads.specs.Head.{at, left, Tells}
 
-abbrev pub publishes : Step → Bool
-publishes Vacant = false
-publishes (Insert k v) = false
-publishes (DiagLower s c) = false
-publishes (DiagRaise s c) = false
-publishes (ZigLowerA s c) = false
-publishes (ZigLowerC s c) = false
-publishes (ZigRaise s c) = false
-publishes Unlink = false
-publishes Adopt = false
-publishes Replace = false
-publishes (Publish c) = true
-publishes (Detach k) = false
-
 -- the write in hand after the step x, which put node n in the place of b if it is a publish
 abbrev pub movedBy : Step → ℕ → ℕ → Write → Write
-movedBy x b n w = cond (publishes x) (movedWrite b n w) w
+movedBy x b n w = cond (profile x .renames) (movedWrite b n w) w
 
 abbrev pub movedRest : Step → ℕ → ℕ → Register → Register
 movedRest x b n q = withWrite q (movedBy x b n (q .write))

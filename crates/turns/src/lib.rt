@@ -15,10 +15,11 @@ ghost use Prim.Native.Nat.{ℕ, _<_};
 ghost use lib.ListN.{length};
 ghost use Rattle.spec.specs.Numbers.{poolLimit};
 ghost use Rattle.spec.specs.Register.{state, withWrite, lessFirst};
+ghost use Rattle.spec.specs.Turn.{profile};
 ghost use Rattle.spec.specs.Calls.{writerSays, storeAnswer, stored, writeInHand, writerTurn};
 ghost use Rattle.laws.specs.Tests.{lentNumber};
 ghost use Rattle.heads.specs.Head.{left};
-ghost use Rattle.turns.specs.Made.{publishes, TriesAny, FirstTold};
+ghost use Rattle.turns.specs.Made.{TriesAny, FirstTold};
 
 // Tries the step x at the link l.
 pub fn try_step(pool: &mut [u32], h: Head, reading: u32, l: Link, x: Step) -> StepResult
@@ -57,9 +58,9 @@ pub fn less_first(w: Write) -> Write
     r
 }
 
-// whether the step x is a publish
-fn publishes(x: Step) -> bool
-    ensures { λ r. ⌜ r ≡ publishes x ⌝ }
+// whether the stores to come move to the copy that the step x puts in
+fn renames(x: Step) -> bool
+    ensures { λ r. ⌜ r ≡ profile x .renames ⌝ }
 {
     match x {
         Step::Vacant => false,
@@ -128,7 +129,7 @@ pub fn make_first(pool: &mut [u32], reg: Register) -> WriterReply
     let x = hand.stores[0];
     let link = x.link;
     let step = x.step;
-    if publishes(step) {
+    if renames(step) {
         let b = pool::node_at(pool, reg.root, link);
         let t = first_step(pool, reg);
         if !t.found {

@@ -11,10 +11,10 @@ use Rattle.compare.proofs.calls.call_index.Reads as call-index-reads
 use Rattle.compare.proofs.calls.set_up.Reads as calls-set-up-reads
 use Rattle.compare.proofs.calls.step_in_hand.Reads as step-in-hand-reads
 use Rattle.compare.proofs.compare.Reads as compare-reads
-use Rattle.compare.proofs.draws.after_call.Reads as after-call-reads
-use Rattle.compare.proofs.draws.draw_call.Reads as draw-call-reads
+use Rattle.checks.proofs.draws.after_call.Reads as after-call-reads
+use Rattle.checks.proofs.draws.draw_call.Reads as draw-call-reads
 use Rattle.compare.proofs.greater.Reads as greater-reads
-use Rattle.compare.proofs.walk.nodes.Reads as nodes-reads
+use Rattle.checks.proofs.walk.nodes.Reads as nodes-reads
 use Rattle.compare.proofs.writing.set_up.Reads as writing-set-up-reads
 use Rattle.compare.proofs.writing.step_row.Reads as step-row-reads
 

@@ -1,8 +1,8 @@
 use Prim.Native.Nat.{_≤_, _<_, _-_, _+_}
 use lib.ListN.{length, length-set}
 use Rattle.paths.specs.Upward.{mostLinks, upward, upward-push, upward-none}
-use Rattle.spec.specs.Numbers.{pathBound}
 use Rattle.laws.specs.Descend.{leftmost-deep, leftmost-here, leftmost-step}
+use Rattle.spec.specs.Numbers.{pathBound}
 use Rattle.spec.specs.Search.{leftmost}
 use Rattle.datatypes.specs.declared.Link.the-variants.{Left}
 use borrow.Author.Needs.{needs}

@@ -17,15 +17,15 @@ use Rattle.turns.proofs.make_first.Lts as lts
 use Rattle.pool.proofs.node_at.Reads as node-at-reads
 use Rattle.stores.proofs.moved_write.Reads as moved-write-reads
 use Rattle.turns.proofs.first_step.Reads as first-step-reads
-use Rattle.turns.proofs.publishes.Reads as publishes-reads
+use Rattle.turns.proofs.renames.Reads as renames-reads
 use Rattle.replies.proofs.refuses_writer.Reads as refuses-writer-reads
 use Rattle.turns.proofs.stored.Reads as stored-reads
 
 element-copy-out-x : tie.Need-element-copy-out-x
 element-copy-out-x c = search needs
 
-publishes-requires : tie.Need-publishes-requires
-publishes-requires c κs = search needs
+renames-requires : tie.Need-renames-requires
+renames-requires c κs = search needs
 
 node-at-requires : tie.Need-node-at-requires
 node-at-requires c κs = search needs
@@ -81,7 +81,7 @@ returns-2 c =
     let e = ap stored (z .1 (not-false _ (c .before .before .if2 .left))) ∙ sym (writer-stores st (c15 .pre .0) (c15 .pre .1) (c15 .pre .2) f) in
     turn-made (t .last .0) (t .result) (a .reg) (x .step) (nodeAt (a .pool .now) (a .reg .root) (x .link)) (a .reg .first) (c .before .moved-write .result) (writerSays (c .stored .result .answer))
     (state (t .last .0) (c .stored .result .register)) (writerTurn st) e
-    (rw (← (c11 .publishes .ensures), c10 .if1 .taken) (c .before .moved-write .ensures ∙ rw (c8 .node-at .ensures))) (c .stored .ensures (t .last .0))
+    (rw (← (c11 .renames .ensures), c10 .if1 .taken) (c .before .moved-write .ensures ∙ rw (c8 .node-at .ensures))) (c .stored .ensures (t .last .0))
 
 first-step-requires-2 : tie.Need-first-step-requires-2
 first-step-requires-2 c κs = let a = c .before .before .before .before .before .before .args in lent (state (a .pool .now) (a .reg)) (c .before .before .before .before .before .before .pre .0) .size
@@ -128,14 +128,14 @@ returns-4 c =
     let e = ap stored (z .1 (not-false _ (c .before .if3 .left))) ∙ sym (writer-stores st (c12 .pre .0) (c12 .pre .1) (c12 .pre .2) f) in
     turn-made (t .last .0) (t .result) (a .reg) (x .step) (nodeAt (a .pool .now) (a .reg .root) (x .link)) (a .reg .first) (a .reg .write) (writerSays (c .stored2 .result .answer))
     (state (t .last .0) (c .stored2 .result .register)) (writerTurn st) e
-    (rw (← (c8 .publishes .ensures), c7 .if1 .left)) (c .stored2 .ensures (t .last .0))
+    (rw (← (c8 .renames .ensures), c7 .if1 .left)) (c .stored2 .ensures (t .last .0))
 
 pub make-first-spec : {M : Type 1} → statement M
 make-first-spec =
     tie.close
     (tie.spec
     element-copy-out-x
-    publishes-requires
+    renames-requires
     node-at-requires
     first-step-requires
     refuses-writer-requires

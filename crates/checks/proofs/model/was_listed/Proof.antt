@@ -2,11 +2,11 @@ use borrow.Author.Needs.{needs}
 use mathlib.Core.Path.{_≡_}
 use Prim.Native.Nat.{_-_, _≤_}
 use lib.ListN.{length}
-use Rattle.compare.proofs.model.was_listed.Statement.{statement}
-use Rattle.compare.proofs.model.was_listed.Tie as tie
-use Rattle.compare.proofs.model.was_listed.Reads as reads
-use Rattle.compare.proofs.model.was_listed.Lts as lts
-use Rattle.compare.proofs.model.slot_word.Reads as slot-word-reads
+use Rattle.checks.proofs.model.was_listed.Statement.{statement}
+use Rattle.checks.proofs.model.was_listed.Tie as tie
+use Rattle.checks.proofs.model.was_listed.Reads as reads
+use Rattle.checks.proofs.model.was_listed.Lts as lts
+use Rattle.checks.proofs.model.slot_word.Reads as slot-word-reads
 
 abbrev Inv-loop : tie.InvT-loop
 Inv-loop model s v seen i₀ i = 0 ≤ 1

@@ -2,13 +2,13 @@
 // WORDS words; a word past the end reads 0, and setting one changes nothing.
 
 // The plain list has two words for each ticket number: whether it is there, and its record.
-const SLOTS: usize = 4096;
+const FIRST_SLOT: usize = 4096;
 
 const SLOT_SPAN: usize = 32;
 
-const HAND: usize = 4352;
+const HAND: usize = FIRST_SLOT + numbers::SLOTS * SLOT_SPAN;
 
-pub const WORDS: usize = 4360;
+pub const WORDS: usize = HAND + 8;
 
 // A slot's words: reading, the wanted ticket, awaited, whether the list lacked the ticket at some moment, how many records it was seen with, and
 // those records.
@@ -59,11 +59,11 @@ fn set_word(model: &mut [u32], at: usize, v: u32) {
 }
 
 fn slot_word(model: &[u32], s: u32, f: u32) -> u32 {
-    word(model, SLOTS + s as usize * SLOT_SPAN + f as usize)
+    word(model, FIRST_SLOT + s as usize * SLOT_SPAN + f as usize)
 }
 
 fn set_slot_word(model: &mut [u32], s: u32, f: u32, v: u32) {
-    set_word(model, SLOTS + s as usize * SLOT_SPAN + f as usize, v);
+    set_word(model, FIRST_SLOT + s as usize * SLOT_SPAN + f as usize, v);
 }
 
 fn hand_word(model: &[u32], f: u32) -> u32 {
@@ -172,7 +172,7 @@ fn observe_slot(model: &mut [u32], s: u32) -> bool {
 pub fn observe(model: &mut [u32]) -> bool {
     let mut ok = true;
     let mut s: u32 = 0;
-    while s < 8 {
+    while s < numbers::SLOT_LIMIT {
         ok = observe_slot(model, s) & ok;
         s += 1;
     }
@@ -211,7 +211,7 @@ pub fn is_lacking(model: &[u32], s: u32) -> bool {
 pub fn awaited(model: &[u32]) -> u32 {
     let mut bits: u32 = 0;
     let mut s: u32 = 0;
-    while s < 8 {
+    while s < numbers::SLOT_LIMIT {
         bits = bits % 128 * 2 + slot_word(model, 7 - s, AWAITED) % 2;
         s += 1;
     }
@@ -220,7 +220,7 @@ pub fn awaited(model: &[u32]) -> u32 {
 
 fn await_readers(model: &mut [u32]) {
     let mut s: u32 = 0;
-    while s < 8 {
+    while s < numbers::SLOT_LIMIT {
         let v = slot_word(model, s, READING);
         set_slot_word(model, s, AWAITED, v);
         s += 1;

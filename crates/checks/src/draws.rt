@@ -57,7 +57,7 @@ fn mood_at(i: u64, nodes: u32) -> Mood {
 
 // how many different keys a run draws from
 fn tickets(nodes: u32) -> u32 {
-    if nodes < 1024 {
+    if nodes <= numbers::MOST_NODES as u32 {
         nodes + nodes / 2
     } else {
         2048
@@ -74,16 +74,16 @@ fn key_of(t: u32, tickets: u32) -> u32 {
     t % 2048 * 2_097_152
 }
 
-// a slot, now and then above 7
+// a slot, now and then one too high
 fn slot_of(q: u32) -> u32 {
-    let spread = q / 8 % 32;
+    let spread = q / numbers::SLOT_LIMIT % 32;
     if spread == 0 {
-        return 8;
+        return numbers::SLOT_LIMIT;
     }
     if spread == 1 {
-        return 4_294_967_295 - q % 8;
+        return 4_294_967_295 - q % numbers::SLOT_LIMIT;
     }
-    q % 8
+    q % numbers::SLOT_LIMIT
 }
 
 fn write_kind(growing: bool, often: bool) -> u32 {

@@ -2,11 +2,11 @@ use borrow.Author.Needs.{needs}
 use mathlib.Core.Path.{_≡_}
 use Prim.Native.Nat.{_-_, _≤_}
 use lib.ListN.{length}
-use Rattle.compare.proofs.model.observe.Statement.{statement}
-use Rattle.compare.proofs.model.observe.Tie as tie
-use Rattle.compare.proofs.model.observe.Reads as reads
-use Rattle.compare.proofs.model.observe.Lts as lts
-use Rattle.compare.proofs.model.observe_slot.Reads as observe-slot-reads
+use Rattle.checks.proofs.model.observe.Statement.{statement}
+use Rattle.checks.proofs.model.observe.Tie as tie
+use Rattle.checks.proofs.model.observe.Reads as reads
+use Rattle.checks.proofs.model.observe.Lts as lts
+use Rattle.checks.proofs.model.observe_slot.Reads as observe-slot-reads
 
 abbrev Inv-loop : tie.InvT-loop
 Inv-loop model₀ ok₀ s₀ model ok s = (length model ≡ length model₀)

@@ -2,12 +2,12 @@ use borrow.Author.Needs.{needs}
 use mathlib.Core.Path.{_≡_}
 use Prim.Native.Nat.{_-_, _≤_}
 use lib.ListN.{length}
-use Rattle.compare.proofs.model.await_readers.Statement.{statement}
-use Rattle.compare.proofs.model.await_readers.Tie as tie
-use Rattle.compare.proofs.model.await_readers.Reads as reads
-use Rattle.compare.proofs.model.await_readers.Lts as lts
-use Rattle.compare.proofs.model.set_slot_word.Reads as set-slot-word-reads
-use Rattle.compare.proofs.model.slot_word.Reads as slot-word-reads
+use Rattle.checks.proofs.model.await_readers.Statement.{statement}
+use Rattle.checks.proofs.model.await_readers.Tie as tie
+use Rattle.checks.proofs.model.await_readers.Reads as reads
+use Rattle.checks.proofs.model.await_readers.Lts as lts
+use Rattle.checks.proofs.model.set_slot_word.Reads as set-slot-word-reads
+use Rattle.checks.proofs.model.slot_word.Reads as slot-word-reads
 
 abbrev Inv-loop : tie.InvT-loop
 Inv-loop model₀ s₀ model s = (length model ≡ length model₀)

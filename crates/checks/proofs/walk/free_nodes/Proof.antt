@@ -4,12 +4,12 @@ use borrow.Author.Needs.{needs}
 use mathlib.Core.Path.{_≡_}
 use Prim.Native.Nat.{_-_, _≤_}
 use lib.ListN.{length}
-use Rattle.compare.proofs.walk.free_nodes.Statement.{statement}
-use Rattle.compare.proofs.walk.free_nodes.Tie as tie
-use Rattle.compare.proofs.walk.free_nodes.Reads as reads
-use Rattle.compare.proofs.walk.free_nodes.Lts as lts
-use Rattle.compare.proofs.walk.nodes.Reads as nodes-reads
-use Rattle.compare.proofs.walk.word.Reads as word-reads
+use Rattle.checks.proofs.walk.free_nodes.Statement.{statement}
+use Rattle.checks.proofs.walk.free_nodes.Tie as tie
+use Rattle.checks.proofs.walk.free_nodes.Reads as reads
+use Rattle.checks.proofs.walk.free_nodes.Lts as lts
+use Rattle.checks.proofs.walk.nodes.Reads as nodes-reads
+use Rattle.checks.proofs.walk.word.Reads as word-reads
 
 abbrev Inv-loop : tie.InvT-loop
 Inv-loop pool capacity free₀ n₀ free n = free ≤ n

@@ -23,13 +23,13 @@ fn word(pool: &[u32], n: u32, f: usize) -> u32 {
     if 7 < f {
         return 0;
     }
-    let at = (n as usize - 1) * 8 + f;
+    let at = (n as usize - 1) * numbers::NODE_WORDS + f;
     if at < pool.len() { pool[at] } else { 0 }
 }
 
 pub fn nodes(pool: &[u32]) -> u32 {
-    if pool.len() < 8192 {
-        (pool.len() / 8) as u32
+    if pool.len() < numbers::POOL_WORDS {
+        (pool.len() / numbers::NODE_WORDS) as u32
     } else {
         0
     }

@@ -2,10 +2,10 @@ use borrow.Author.Needs.{needs}
 use mathlib.Core.Path.{_≡_}
 use Prim.Native.Nat.{_-_, _≤_}
 use lib.ListN.{length}
-use Rattle.compare.proofs.model.clear.Statement.{statement}
-use Rattle.compare.proofs.model.clear.Tie as tie
-use Rattle.compare.proofs.model.clear.Reads as reads
-use Rattle.compare.proofs.model.clear.Lts as lts
+use Rattle.checks.proofs.model.clear.Statement.{statement}
+use Rattle.checks.proofs.model.clear.Tie as tie
+use Rattle.checks.proofs.model.clear.Reads as reads
+use Rattle.checks.proofs.model.clear.Lts as lts
 
 abbrev Inv-loop : tie.InvT-loop
 Inv-loop model₀ i₀ model i = (length model ≡ length model₀)

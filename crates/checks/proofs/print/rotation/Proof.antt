@@ -2,11 +2,11 @@ use borrow.Author.Needs.{needs}
 use mathlib.Core.Path.{_≡_}
 use Prim.Native.Nat.{_-_, _≤_}
 use lib.ListN.{length}
-use Rattle.compare.proofs.print.rotation.Statement.{statement}
-use Rattle.compare.proofs.print.rotation.Tie as tie
-use Rattle.compare.proofs.print.rotation.Reads as reads
-use Rattle.compare.proofs.print.rotation.Lts as lts
-use Rattle.compare.proofs.tally.get.Reads as get-reads
+use Rattle.checks.proofs.print.rotation.Statement.{statement}
+use Rattle.checks.proofs.print.rotation.Tie as tie
+use Rattle.checks.proofs.print.rotation.Reads as reads
+use Rattle.checks.proofs.print.rotation.Lts as lts
+use Rattle.checks.proofs.tally.get.Reads as get-reads
 use Rattle.io.proofs.print_decimal.Reads as print-decimal-reads
 use Rattle.io.proofs.write_all.Reads as write-all-reads
 
