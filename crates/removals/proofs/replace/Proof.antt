@@ -97,9 +97,8 @@ slice-aggregate-colour-and-retire c = search needs
 
 colour-and-retire-requires : tie.Need-colour-and-retire-requires
 colour-and-retire-requires c κs =
-    let c4 = c .before .before .before .before in
-    let c29 = c4 .before .before .before .before .before .before .before .before .before .before .before .before .before .before .before .before .before .before .before .before .before .before .before .before .before in
-    (omega (arith, c29 .pre, c4 .store-successor .kept .0), search needs)
+    (omega (arith, c .before .before .before .before .store-successor .kept .0,
+    (let d = c .before .before .before .before .before .before .before .before .before .before .before .before in d .before .before .before .before .before .before .before .before .before .before .before .before .before .before .before .before .before .pre)), search needs)
 
 same-length-2 : tie.Need-same-length-2
 same-length-2 c = search needs

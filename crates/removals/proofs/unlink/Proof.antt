@@ -80,9 +80,8 @@ slice-aggregate-colour-and-retire c = search needs
 
 colour-and-retire-requires : tie.Need-colour-and-retire-requires
 colour-and-retire-requires c κs =
-    let c4 = c .before .before .before .before in
-    let c22 = c4 .before .before .before .before .before .before .before .before .before .before .before .before .before .before .before .before .before .before in
-    (omega (arith, c22 .pre, c4 .store-one-less .kept .0), search needs)
+    (omega (arith, c .before .before .before .before .store-one-less .kept .0,
+    c .before .before .before .before .before .before .before .before .before .before .before .before .before .before .before .before .before .before .before .before .before .before .pre), search needs)
 
 same-length-2 : tie.Need-same-length-2
 same-length-2 c = search needs
