@@ -5,7 +5,7 @@ use datatypes::Reply;
 use datatypes::Write;
 ghost use mathlib.Core.Path.{_≡_};
 ghost use mathlib.Core.Bool.{false};
-ghost use Prim.Native.Nat.{ℕ, _<_, _≤_};
+ghost use Prim.Native.Nat.{_<_};
 ghost use Rattle.datatypes.specs.declared.Place.the-variants.{Held, Empty};
 ghost use Rattle.spec.specs.Register.{state, withWrite};
 ghost use Rattle.laws.specs.Tests.{lentNumber};

@@ -13,7 +13,7 @@ use datatypes::Step;
 use datatypes::Store;
 use libc::STDOUT_FILENO;
 ghost use mathlib.Core.Path.{_≡_};
-ghost use Prim.Native.Nat.{ℕ, _<_, _≤_};
+ghost use Prim.Native.Nat.{_<_, _≤_};
 ghost use lib.ListN.{length};
 ghost use Rattle.spec.specs.Numbers.{leastNodes, mostNodes, slots};
 

@@ -8,7 +8,7 @@ use datatypes::Rotation;
 use datatypes::Side;
 ghost use mathlib.Core.Path.{_≡_};
 ghost use mathlib.Core.Bool.{cond};
-ghost use Prim.Native.Nat.{ℕ, _<_, _≤_, _+_};
+ghost use Prim.Native.Nat.{_<_, _≤_, _+_};
 ghost use lib.ListN.{length};
 ghost use Rattle.datatypes.specs.declared.Form.the-variants.{Diag, Zig};
 ghost use Rattle.datatypes.specs.Side.{sameSide};

@@ -4,7 +4,7 @@ use datatypes::Link;
 use datatypes::ReaderAnswer;
 use datatypes::WriterAnswer;
 ghost use mathlib.Core.Path.{_≡_};
-ghost use mathlib.Core.List.{[], _∷_, _++_};
+ghost use mathlib.Core.List.{_∷_, _++_};
 ghost use Prim.Native.Nat.{_≤_, _<_, _+_};
 ghost use lib.ListN.{length};
 ghost use Rattle.spec.specs.Calls.{accepts, writerSays, readerSays};

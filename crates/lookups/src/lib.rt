@@ -3,7 +3,7 @@ use datatypes::Head;
 use datatypes::Reader;
 use datatypes::ReaderAnswer;
 ghost use mathlib.Core.Path.{_≡_};
-ghost use Prim.Native.Nat.{ℕ, _<_};
+ghost use Prim.Native.Nat.{_<_};
 ghost use lib.ListN.{length};
 ghost use Rattle.spec.specs.Numbers.{poolLimit, slots};
 ghost use Rattle.spec.specs.Calls.{readerSays};

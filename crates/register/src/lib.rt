@@ -6,7 +6,7 @@ use datatypes::Step;
 use datatypes::Store;
 use datatypes::Write;
 ghost use mathlib.Core.Path.{_≡_};
-ghost use Prim.Native.Nat.{ℕ, _<_, _≤_, _+_, _*_};
+ghost use Prim.Native.Nat.{_<_, _+_};
 ghost use mathlib.Core.Bool.{cond, _&&_};
 ghost use Rattle.spec.specs.Numbers.{slots, wordBits, mostStores};
 ghost use Rattle.spec.specs.Register.{noReader, begunReader, movedReader, vacant, noWrite, withWrite, hasSlot, putSlot, dropSlot, readingSlots, nodeNumber, linkInRange, stepInRange, isRoot, isVacant, storeInRange, readerInRange, registerInRange};

@@ -3,8 +3,7 @@ use datatypes::Link;
 use datatypes::Place;
 use datatypes::Side;
 ghost use mathlib.Core.Path.{_≡_};
-ghost use Prim.Native.Nat.{ℕ, _<_, _≤_, _+_, _*_};
-ghost use Rattle.datatypes.specs.Side.{linkAt};
+ghost use Prim.Native.Nat.{_<_};
 ghost use Rattle.spec.specs.Pool.{child};
 ghost use Rattle.spec.specs.Search.{towards, seek};
 

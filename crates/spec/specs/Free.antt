@@ -1,5 +1,5 @@
 -- 01, 'Pool and register' and 'Calls': the free queue, retire, the end of a reading.
-use Prim.Native.Nat.{ℕ, _+_, _-_}
+use Prim.Native.Nat.{ℕ, _+_}
 use mathlib.Core.Bool.{Bool, cond}
 use mathlib.Core.List.{List}
 use lib.Dec.{eqb, ltb}

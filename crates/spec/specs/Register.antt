@@ -14,7 +14,7 @@ use Rattle.datatypes.specs.declared.Write.{Write}
 use Rattle.datatypes.specs.declared.Reader.{Reader}
 use Rattle.datatypes.specs.declared.Register.{Register}
 use Rattle.spec.specs.Numbers.{slots, allSlots, mostStores}
-use Rattle.spec.specs.Pool.{word, setWord, leftWord, rightWord, nodes, freshPool}
+use Rattle.spec.specs.Pool.{word, setWord, leftWord, rightWord, freshPool}
 
 -- a pool with its register
 pub record State : Type 0 where

@@ -9,7 +9,7 @@ use datatypes::Store;
 use datatypes::Write;
 ghost use mathlib.Core.Path.{_≡_};
 ghost use mathlib.Core.Bool.{true, false};
-ghost use Prim.Native.Nat.{ℕ, _<_};
+ghost use Prim.Native.Nat.{_<_};
 ghost use lib.ListN.{length};
 ghost use Rattle.datatypes.specs.declared.Register.{Register};
 ghost use Rattle.datatypes.specs.declared.Side.the-variants.{L};

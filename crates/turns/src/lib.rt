@@ -4,7 +4,6 @@ use datatypes::Link;
 use datatypes::Register;
 use datatypes::Step;
 use datatypes::StepResult;
-use datatypes::Store;
 use datatypes::Write;
 use datatypes::WriterAnswer;
 use datatypes::WriterReply;

@@ -3,9 +3,8 @@ use Rattle.spec.specs.Plan.{deletePlan}
 use Rattle.spec.specs.Register.{state}
 use Rattle.laws.specs.Deletes.{delete-few, delete-missing, delete-goes}
 use mathlib.Core.Bool.{true, false}
-use mathlib.Core.Path.{_≡_, refl, sym, ap, _∙_}
-use native.Mathlib.Omega.{arith}
-use borrow.Author.Tests.{eq-eqb, ne-eqb, lt-ltb, le-ltb, lt-leb, le-leb, not-true, not-false}
+use mathlib.Core.Path.{_≡_, sym, ap, _∙_}
+use borrow.Author.Tests.{lt-ltb, le-ltb, not-true, not-false}
 use borrow.Author.Needs.{needs}
 use Rattle.accepts.proofs.delete_at.Statement.{statement}
 use Rattle.accepts.proofs.delete_at.Tie as tie

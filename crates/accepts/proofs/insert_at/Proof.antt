@@ -5,9 +5,8 @@ use Rattle.spec.specs.Pool.{nodes}
 use Rattle.laws.specs.Inserts.{insert-full, insert-few, insert-missing, insert-goes, reserve-true, reserve-false}
 use Rattle.laws.specs.Tests.{lent}
 use mathlib.Core.Bool.{true, false}
-use mathlib.Core.Path.{_≡_, refl, sym, ap, _∙_}
-use native.Mathlib.Omega.{arith}
-use borrow.Author.Tests.{eq-eqb, ne-eqb, lt-ltb, le-ltb, lt-leb, le-leb, not-true, not-false}
+use mathlib.Core.Path.{_≡_, sym, ap, _∙_}
+use borrow.Author.Tests.{lt-ltb, le-ltb, not-true, not-false}
 use borrow.Author.Needs.{needs}
 use Rattle.accepts.proofs.insert_at.Statement.{statement}
 use Rattle.accepts.proofs.insert_at.Tie as tie

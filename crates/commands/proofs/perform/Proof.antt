@@ -6,9 +6,7 @@ use Rattle.spec.specs.Calls.{Outcome}
 use Rattle.spec.specs.Register.{State}
 use Rattle.lines.specs.Text.{says}
 use Rattle.commands.specs.Performed.{tried-fits, performed-on, keptWords, triedWords}
-use mathlib.Core.Path.{_≡_, refl, sym, ap, _∙_}
-use native.Mathlib.Omega.{arith}
-use borrow.Author.Tests.{eq-eqb, ne-eqb, lt-ltb, le-ltb, lt-leb, le-leb, not-true, not-false}
+use mathlib.Core.Path.{sym, ap, _∙_}
 use borrow.Author.Needs.{needs}
 use Rattle.commands.proofs.perform.Statement.{statement}
 use Rattle.commands.proofs.perform.Tie as tie

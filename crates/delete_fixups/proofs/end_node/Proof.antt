@@ -1,8 +1,6 @@
 use Rattle.spec.specs.Register.{nodeAt}
 use Rattle.fixups.specs.DeleteFixups.{link-at-level, link-past}
-use mathlib.Core.Path.{_≡_, refl, sym, ap, _∙_}
-use native.Mathlib.Omega.{arith}
-use borrow.Author.Tests.{eq-eqb, ne-eqb, lt-ltb, le-ltb, lt-leb, le-leb, not-true, not-false}
+use borrow.Author.Tests.{eq-eqb, ne-eqb}
 use borrow.Author.Needs.{needs}
 use Rattle.delete_fixups.proofs.end_node.Statement.{statement}
 use Rattle.delete_fixups.proofs.end_node.Tie as tie

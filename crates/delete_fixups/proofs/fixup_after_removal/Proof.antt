@@ -1,9 +1,7 @@
 use mathlib.Core.Bool.{true, false}
 use Rattle.spec.specs.Pool.{isRed}
 use Rattle.spec.specs.Plan.{fixupAfterRemoval}
-use mathlib.Core.Path.{_≡_, refl, sym, ap, _∙_}
-use native.Mathlib.Omega.{arith}
-use borrow.Author.Tests.{eq-eqb, ne-eqb, lt-ltb, le-ltb, lt-leb, le-leb, not-true, not-false}
+use mathlib.Core.Path.{_≡_, sym, _∙_}
 use borrow.Author.Needs.{needs}
 use Rattle.delete_fixups.proofs.fixup_after_removal.Statement.{statement}
 use Rattle.delete_fixups.proofs.fixup_after_removal.Tie as tie

@@ -1,7 +1,4 @@
 use Rattle.spec.specs.Plan.{paintDeleteFixup}
-use mathlib.Core.Path.{_≡_, refl, sym, ap, _∙_}
-use native.Mathlib.Omega.{arith}
-use borrow.Author.Tests.{eq-eqb, ne-eqb, lt-ltb, le-ltb, lt-leb, le-leb, not-true, not-false}
 use borrow.Author.Needs.{needs}
 use Rattle.delete_fixups.proofs.paint_delete_fixup.Statement.{statement}
 use Rattle.delete_fixups.proofs.paint_delete_fixup.Tie as tie

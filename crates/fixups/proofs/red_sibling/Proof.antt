@@ -3,9 +3,8 @@ use Rattle.spec.specs.Pool.{child}
 use Rattle.datatypes.specs.Side.{other}
 use lib.Dec.{eqb}
 use mathlib.Core.Bool.{true, false}
-use mathlib.Core.Path.{_≡_, refl, sym, ap, _∙_}
-use native.Mathlib.Omega.{arith}
-use borrow.Author.Tests.{eq-eqb, ne-eqb, lt-ltb, le-ltb, lt-leb, le-leb, not-true, not-false}
+use mathlib.Core.Path.{_≡_}
+use borrow.Author.Tests.{eq-eqb, ne-eqb}
 use borrow.Author.Needs.{needs}
 use Rattle.fixups.proofs.red_sibling.Statement.{statement}
 use Rattle.fixups.proofs.red_sibling.Tie as tie

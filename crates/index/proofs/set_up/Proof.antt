@@ -3,9 +3,8 @@ use Rattle.spec.specs.Register.{fresh}
 use Rattle.spec.specs.Pool.{lengthRight}
 use Rattle.laws.specs.Tests.{right-length, whole-length}
 use mathlib.Core.Bool.{true, false}
-use mathlib.Core.Path.{_≡_, refl, sym, ap, _∙_}
-use native.Mathlib.Omega.{arith}
-use borrow.Author.Tests.{eq-eqb, ne-eqb, lt-ltb, le-ltb, lt-leb, le-leb, not-true, not-false}
+use mathlib.Core.Path.{_≡_, refl, sym, _∙_}
+use borrow.Author.Tests.{not-true, not-false}
 use borrow.Author.Needs.{needs}
 use Rattle.index.proofs.set_up.Statement.{statement}
 use Rattle.index.proofs.set_up.Tie as tie

@@ -2,9 +2,8 @@ use Rattle.spec.specs.Calls.{Outcome, writeInHand}
 use Rattle.spec.specs.Register.{state}
 use Rattle.laws.specs.Writers.{writer-lent, writer-idle, writer-waits}
 use mathlib.Core.Bool.{true, false}
-use mathlib.Core.Path.{_≡_, refl, sym, ap, _∙_}
-use native.Mathlib.Omega.{arith}
-use borrow.Author.Tests.{eq-eqb, ne-eqb, lt-ltb, le-ltb, lt-leb, le-leb, not-true, not-false}
+use mathlib.Core.Path.{_≡_, sym, ap, _∙_}
+use borrow.Author.Tests.{eq-eqb, ne-eqb}
 use borrow.Author.Needs.{needs}
 use Rattle.index.proofs.writer_turn.Statement.{statement}
 use Rattle.index.proofs.writer_turn.Tie as tie

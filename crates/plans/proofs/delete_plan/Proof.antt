@@ -2,9 +2,7 @@ use Rattle.plans.specs.Deletes.{delete-two, delete-one}
 use Rattle.spec.specs.Plan.{twoChildren}
 use Rattle.spec.specs.Register.{state}
 use mathlib.Core.Bool.{true, false}
-use mathlib.Core.Path.{_≡_, refl, sym, ap, _∙_}
-use native.Mathlib.Omega.{arith}
-use borrow.Author.Tests.{eq-eqb, ne-eqb, lt-ltb, le-ltb, lt-leb, le-leb, not-true, not-false}
+use mathlib.Core.Path.{_≡_, sym, _∙_}
 use borrow.Author.Needs.{needs}
 use Rattle.plans.proofs.delete_plan.Statement.{statement}
 use Rattle.plans.proofs.delete_plan.Tie as tie

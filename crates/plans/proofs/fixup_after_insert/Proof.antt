@@ -1,9 +1,8 @@
 use Rattle.spec.specs.Pool.{isRed}
 use Rattle.datatypes.specs.Side.{owner}
 use mathlib.Core.Bool.{true, false}
-use mathlib.Core.Path.{_≡_, refl, sym, ap, _∙_}
-use native.Mathlib.Omega.{arith}
-use borrow.Author.Tests.{eq-eqb, ne-eqb, lt-ltb, le-ltb, lt-leb, le-leb, not-true, not-false}
+use mathlib.Core.Path.{_≡_}
+use borrow.Author.Tests.{not-true, not-false}
 use borrow.Author.Needs.{needs}
 use Rattle.plans.proofs.fixup_after_insert.Statement.{statement}
 use Rattle.plans.proofs.fixup_after_insert.Tie as tie

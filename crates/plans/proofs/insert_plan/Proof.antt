@@ -3,9 +3,7 @@ use Rattle.spec.specs.Plan.{store, endingStores, fixupAfterInsert, insertPlan}
 use Rattle.spec.specs.Register.{writeOf, state}
 use Rattle.datatypes.specs.declared.Step.the-variants.{Insert}
 use mathlib.Core.List.{[], _∷_}
-use mathlib.Core.Path.{_≡_, refl, sym, ap, _∙_}
 use native.Mathlib.Omega.{arith}
-use borrow.Author.Tests.{eq-eqb, ne-eqb, lt-ltb, le-ltb, lt-leb, le-leb, not-true, not-false}
 use borrow.Author.Needs.{needs}
 use Rattle.plans.proofs.insert_plan.Statement.{statement}
 use Rattle.plans.proofs.insert_plan.Tie as tie

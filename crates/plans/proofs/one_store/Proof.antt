@@ -2,9 +2,8 @@ use Rattle.spec.specs.Register.{writeOf}
 use Rattle.spec.specs.Plan.{store}
 use Rattle.plans.specs.Pushed.{no-stores, push-write}
 use mathlib.Core.List.{[], _∷_}
-use mathlib.Core.Path.{_≡_, refl, sym, ap, _∙_}
+use mathlib.Core.Path.{sym, _∙_}
 use native.Mathlib.Omega.{arith}
-use borrow.Author.Tests.{eq-eqb, ne-eqb, lt-ltb, le-ltb, lt-leb, le-leb, not-true, not-false}
 use borrow.Author.Needs.{needs}
 use Rattle.plans.proofs.one_store.Statement.{statement}
 use Rattle.plans.proofs.one_store.Tie as tie

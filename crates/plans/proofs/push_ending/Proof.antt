@@ -1,9 +1,8 @@
 use Rattle.plans.specs.Pushed.{push-append, push-count}
 use Rattle.spec.specs.Plan.{rotationStores}
 use lib.ListN.{length, length-append}
-use mathlib.Core.Path.{_≡_, refl, sym, ap, _∙_}
+use mathlib.Core.Path.{sym, ap}
 use native.Mathlib.Omega.{arith}
-use borrow.Author.Tests.{eq-eqb, ne-eqb, lt-ltb, le-ltb, lt-leb, le-leb, not-true, not-false}
 use borrow.Author.Needs.{needs}
 use Rattle.plans.proofs.push_ending.Statement.{statement}
 use Rattle.plans.proofs.push_ending.Tie as tie

@@ -7,9 +7,8 @@ use Rattle.paths.specs.Upward.{upward, upward-zero, upward-some}
 use Rattle.datatypes.specs.declared.Side.the-variants.{L, R}
 use Rattle.datatypes.specs.declared.Step.the-variants.{Adopt, Replace, Publish, Detach}
 use mathlib.Core.List.{[], _∷_}
-use mathlib.Core.Path.{_≡_, refl, sym, ap, _∙_}
+use mathlib.Core.Path.{_≡_, refl, sym, _∙_}
 use native.Mathlib.Omega.{arith}
-use borrow.Author.Tests.{eq-eqb, ne-eqb, lt-ltb, le-ltb, lt-leb, le-leb, not-true, not-false}
 use borrow.Author.Needs.{needs}
 use Rattle.plans.proofs.successor_plan.Statement.{statement}
 use Rattle.plans.proofs.successor_plan.Tie as tie

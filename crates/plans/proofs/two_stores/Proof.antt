@@ -2,9 +2,7 @@ use Rattle.spec.specs.Register.{writeOf}
 use Rattle.spec.specs.Plan.{store}
 use Rattle.plans.specs.Pushed.{push-write}
 use mathlib.Core.List.{[], _∷_}
-use mathlib.Core.Path.{_≡_, refl, sym, ap, _∙_}
 use native.Mathlib.Omega.{arith}
-use borrow.Author.Tests.{eq-eqb, ne-eqb, lt-ltb, le-ltb, lt-leb, le-leb, not-true, not-false}
 use borrow.Author.Needs.{needs}
 use Rattle.plans.proofs.two_stores.Statement.{statement}
 use Rattle.plans.proofs.two_stores.Tie as tie

@@ -4,9 +4,7 @@ use Rattle.spec.specs.Register.{writeOf}
 use Rattle.paths.specs.Upward.{upward}
 use Rattle.datatypes.specs.declared.Step.the-variants.{Unlink}
 use mathlib.Core.List.{[], _∷_}
-use mathlib.Core.Path.{_≡_, refl, sym, ap, _∙_}
 use native.Mathlib.Omega.{arith}
-use borrow.Author.Tests.{eq-eqb, ne-eqb, lt-ltb, le-ltb, lt-leb, le-leb, not-true, not-false}
 use borrow.Author.Needs.{needs}
 use Rattle.plans.proofs.unlink_plan.Statement.{statement}
 use Rattle.plans.proofs.unlink_plan.Tie as tie

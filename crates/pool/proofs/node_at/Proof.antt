@@ -1,7 +1,4 @@
 use Rattle.spec.specs.Register.{nodeAt}
-use mathlib.Core.Path.{_≡_, refl, sym, ap, _∙_}
-use native.Mathlib.Omega.{arith}
-use borrow.Author.Tests.{eq-eqb, ne-eqb, lt-ltb, le-ltb, lt-leb, le-leb, not-true, not-false}
 use borrow.Author.Needs.{needs}
 use Rattle.pool.proofs.node_at.Statement.{statement}
 use Rattle.pool.proofs.node_at.Tie as tie

@@ -1,8 +1,6 @@
 use Rattle.laws.specs.Slots.{shifted, bit-in, bit-le}
 use Rattle.spec.specs.Register.{dropSlot}
-use mathlib.Core.Path.{_≡_, refl, sym, ap, _∙_}
-use native.Mathlib.Omega.{arith}
-use borrow.Author.Tests.{eq-eqb, ne-eqb, lt-ltb, le-ltb, lt-leb, le-leb, not-true, not-false}
+use mathlib.Core.Path.{sym, _∙_}
 use borrow.Author.Needs.{needs}
 use Rattle.register.proofs.drop_slot.Statement.{statement}
 use Rattle.register.proofs.drop_slot.Tie as tie

@@ -1,9 +1,8 @@
-use Prim.Native.Nat.{ℕ, _<_, _^_}
+use Prim.Native.Nat.{_<_, _^_}
 use Rattle.laws.specs.Slots.{shifted, bit-out, add-below}
 use Rattle.spec.specs.Register.{putSlot}
-use mathlib.Core.Path.{_≡_, refl, sym, ap, _∙_}
+use mathlib.Core.Path.{sym, _∙_}
 use native.Mathlib.Omega.{arith}
-use borrow.Author.Tests.{eq-eqb, ne-eqb, lt-ltb, le-ltb, lt-leb, le-leb, not-true, not-false}
 use borrow.Author.Needs.{needs}
 use Rattle.register.proofs.put_slot.Statement.{statement}
 use Rattle.register.proofs.put_slot.Tie as tie

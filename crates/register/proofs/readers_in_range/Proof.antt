@@ -2,10 +2,8 @@ use Rattle.spec.specs.Numbers.{slots}
 use Rattle.spec.specs.Register.{readerInRange}
 use Rattle.base.specs.Walk.{allIn, all-and, all-end, and-assoc, and-true}
 use mathlib.Core.Bool.{_&&_}
-use Prim.Native.Nat.{ℕ, _≤_, _+_, _-_}
+use Prim.Native.Nat.{_≤_, _-_}
 use mathlib.Core.Path.{_≡_, refl, sym, ap, _∙_}
-use native.Mathlib.Omega.{arith}
-use borrow.Author.Tests.{eq-eqb, ne-eqb, lt-ltb, le-ltb, lt-leb, le-leb, not-true, not-false}
 use borrow.Author.Needs.{needs}
 use Rattle.register.proofs.readers_in_range.Statement.{statement}
 use Rattle.register.proofs.readers_in_range.Tie as tie

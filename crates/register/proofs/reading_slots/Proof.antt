@@ -1,10 +1,8 @@
 use Rattle.spec.specs.Numbers.{slots}
 use Rattle.spec.specs.Register.{addReading, readingSlots}
 use Rattle.base.specs.Walk.{foldIn, fold-step, fold-end}
-use Prim.Native.Nat.{ℕ, _≤_, _+_, _-_}
-use mathlib.Core.Path.{_≡_, refl, sym, ap, _∙_}
-use native.Mathlib.Omega.{arith}
-use borrow.Author.Tests.{eq-eqb, ne-eqb, lt-ltb, le-ltb, lt-leb, le-leb, not-true, not-false}
+use Prim.Native.Nat.{_≤_, _-_}
+use mathlib.Core.Path.{_≡_, refl, sym, _∙_}
 use borrow.Author.Needs.{needs}
 use Rattle.register.proofs.reading_slots.Statement.{statement}
 use Rattle.register.proofs.reading_slots.Tie as tie

@@ -1,7 +1,4 @@
 use Rattle.spec.specs.Register.{withWrite}
-use mathlib.Core.Path.{_≡_, refl, sym, ap, _∙_}
-use native.Mathlib.Omega.{arith}
-use borrow.Author.Tests.{eq-eqb, ne-eqb, lt-ltb, le-ltb, lt-leb, le-leb, not-true, not-false}
 use borrow.Author.Needs.{needs}
 use Rattle.register.proofs.with_write.Statement.{statement}
 use Rattle.register.proofs.with_write.Tie as tie

@@ -79,9 +79,14 @@ slice-aggregate-colour-and-retire : tie.Need-slice-aggregate-colour-and-retire
 slice-aggregate-colour-and-retire c = search needs
 
 colour-and-retire-requires : tie.Need-colour-and-retire-requires
-colour-and-retire-requires c κs =
-    (omega (arith, c .before .before .before .before .store-one-less .kept .0,
-    c .before .before .before .before .before .before .before .before .before .before .before .before .before .before .before .before .before .before .before .before .before .before .pre), search needs)
+colour-and-retire-requires c κs = (
+  omega (
+    arith,
+    c .before .before .before .before .store-one-less .kept .0,
+    c .before .before .before .before .before .before .before .before .before .before .before .before .before .before .before .before .before .before .before .before .before .before .pre,
+  ),
+  search needs,
+)
 
 same-length-2 : tie.Need-same-length-2
 same-length-2 c = search needs

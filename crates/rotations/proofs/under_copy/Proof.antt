@@ -1,10 +1,7 @@
-use Rattle.spec.specs.Turn.{underCopy}
 use Rattle.spec.specs.Plan.{redChild}
 use Rattle.spec.specs.Pool.{child}
 use mathlib.Core.Bool.{true, false}
-use mathlib.Core.Path.{_≡_, refl, sym, ap, _∙_}
-use native.Mathlib.Omega.{arith}
-use borrow.Author.Tests.{eq-eqb, ne-eqb, lt-ltb, le-ltb, lt-leb, le-leb, not-true, not-false}
+use mathlib.Core.Path.{_≡_}
 use borrow.Author.Needs.{needs}
 use Rattle.rotations.proofs.under_copy.Statement.{statement}
 use Rattle.rotations.proofs.under_copy.Tie as tie

@@ -2,9 +2,9 @@ use Rattle.spec.specs.Pool.{word, keyWord}
 use lib.Dec.{eqb}
 use mathlib.Core.Bool.{false}
 use Rattle.laws.specs.Descend.{seek-empty, seek-deep, seek-step}
-use mathlib.Core.Path.{_≡_, refl, sym, ap, _∙_}
+use mathlib.Core.Path.{_≡_, sym, _∙_}
 use native.Mathlib.Omega.{arith}
-use borrow.Author.Tests.{eq-eqb, ne-eqb, lt-ltb, le-ltb, lt-leb, le-leb, not-true, not-false}
+use borrow.Author.Tests.{eq-eqb, ne-eqb}
 use borrow.Author.Needs.{needs}
 use Prim.Native.Nat.{ℕ, _<_}
 use borrow.Fn.Kinds.{In}

@@ -3,10 +3,9 @@ use Rattle.spec.specs.Turn.{movedStore, movedWrite}
 use Rattle.stores.specs.Moved.{mapFrom, map-all, map-next, map-none}
 use lib.ListN.{length, length-map, length-set}
 use mathlib.Core.List.{map}
-use Prim.Native.Nat.{ℕ, _≤_, _-_}
+use Prim.Native.Nat.{_≤_, _-_}
 use mathlib.Core.Path.{_≡_, refl, sym, ap, _∙_}
 use native.Mathlib.Omega.{arith}
-use borrow.Author.Tests.{eq-eqb, ne-eqb, lt-ltb, le-ltb, lt-leb, le-leb, not-true, not-false}
 use borrow.Author.Needs.{needs}
 use Rattle.stores.proofs.moved_write.Statement.{statement}
 use Rattle.stores.proofs.moved_write.Tie as tie

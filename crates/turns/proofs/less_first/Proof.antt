@@ -1,9 +1,7 @@
 use Rattle.spec.specs.Register.{lessFirst}
 use Rattle.turns.specs.Shift.{shift-up}
 use lib.ListN.{length-map}
-use mathlib.Core.Path.{_≡_, refl, sym, ap, _∙_}
-use native.Mathlib.Omega.{arith}
-use borrow.Author.Tests.{eq-eqb, ne-eqb, lt-ltb, le-ltb, lt-leb, le-leb, not-true, not-false}
+use mathlib.Core.Path.{ap}
 use borrow.Author.Needs.{needs}
 use Rattle.turns.proofs.less_first.Statement.{statement}
 use Rattle.turns.proofs.less_first.Tie as tie

@@ -1,8 +1,5 @@
-use mathlib.Core.Path.{_≡_, refl}
-use borrow.Author.Tests.{eq-eqb, ne-eqb}
-use mathlib.Core.Bool.{true, false}
-use lib.Dec.{eqb}
-use Rattle.spec.specs.Register.{withWrite, lessFirst}
+use mathlib.Core.Path.{refl}
+use Rattle.spec.specs.Register.{withWrite}
 use Rattle.spec.specs.Calls.{stored}
 use borrow.Author.Needs.{needs}
 use Rattle.turns.proofs.stored.Statement.{statement}

@@ -1,9 +1,7 @@
 use native.Mathlib.Omega.{arith}
 use mathlib.Core.Logic.{⊎-elim}
 use borrow.Author.Needs.{needs}
-use mathlib.Core.Path.{_≡_}
 use Prim.Native.Nat.{_-_, _≤_}
-use lib.ListN.{length}
 use Rattle.checks.proofs.walk.free_nodes.Statement.{statement}
 use Rattle.checks.proofs.walk.free_nodes.Tie as tie
 use Rattle.checks.proofs.walk.free_nodes.Reads as reads
