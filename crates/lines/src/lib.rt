@@ -4,7 +4,7 @@ use datatypes::Link;
 use datatypes::ReaderAnswer;
 use datatypes::WriterAnswer;
 ghost use mathlib.Core.Path.{_≡_};
-ghost use mathlib.Core.List.{_∷_, _++_};
+ghost use mathlib.Core.List.{[], _∷_, _++_};
 ghost use Prim.Native.Nat.{_≤_, _<_, _+_};
 ghost use lib.ListN.{length};
 ghost use Rattle.spec.specs.Calls.{accepts, writerSays, readerSays};
@@ -557,7 +557,7 @@ pub fn write_node(out: &mut [u8], at: usize, pool: &[u32], n: u32) -> usize
         return at;
     }
     let key = pool::word(pool, n, pool::KEY);
-    let record = pool::word(pool, n, pool::RECORD);
+    let record = pool::record(pool, n);
     let colour = pool::word(pool, n, pool::COLOUR);
     let left = pool::word(pool, n, pool::LEFT);
     let right = pool::word(pool, n, pool::RIGHT);

@@ -40,7 +40,7 @@ pub fn look(pool: &[u32], root: u32, k: u32, n: u32) -> Looked
     }
     let held = pool::word(pool, n, pool::KEY);
     if k == held {
-        let record = pool::word(pool, n, pool::RECORD);
+        let record = pool::record(pool, n);
         return Looked {
             answer: ReaderAnswer::Found(record),
             node: 0,

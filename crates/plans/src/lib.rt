@@ -10,7 +10,7 @@ use datatypes::Step;
 use datatypes::Store;
 use datatypes::Write;
 ghost use mathlib.Core.Path.{_≡_};
-ghost use mathlib.Core.List.{_∷_};
+ghost use mathlib.Core.List.{[], _∷_};
 ghost use mathlib.Core.Bool.{not, cond};
 ghost use Rattle.datatypes.specs.declared.Ending.the-variants.{Balanced};
 ghost use Rattle.datatypes.specs.Side.{owner};

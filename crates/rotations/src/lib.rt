@@ -21,7 +21,7 @@ pub fn take_copy(pool: &mut [u32], h: Head, n: u32, s: Side, x: u32, y: u32, col
     ensures { λ r. ⌜ Follows (λ st. copyNode st n s x y colour) (now (pool .entry)) h (now (pool .exit)) r ⌝ }
 {
     let k = pool::word(pool, n, pool::KEY);
-    let v = pool::word(pool, n, pool::RECORD);
+    let v = pool::record(pool, n);
     queue::take_node(pool, h, k, v, s, x, y, colour)
 }
 

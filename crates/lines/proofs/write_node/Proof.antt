@@ -10,6 +10,7 @@ use Rattle.lines.proofs.write_node.Reads as reads
 use Rattle.lines.proofs.write_node.Lts as lts
 use Rattle.lines.proofs.put_three.Reads as put-three-reads
 use Rattle.pool.proofs.word.Reads as word-reads
+use Rattle.pool.proofs.record.Reads as record-reads
 
 word-requires : tie.Need-word-requires
 word-requires c κs = search needs
@@ -21,6 +22,9 @@ returns c = rw (← (c .before .word .ensures), ne-eqb _ _ (c .if1 .taken)) (put
 word-requires-2 : tie.Need-word-requires-2
 word-requires-2 c κs = search needs
 
+record-requires : tie.Need-record-requires
+record-requires c κs = search needs
+
 word-requires-3 : tie.Need-word-requires-3
 word-requires-3 c κs = search needs
 
@@ -29,9 +33,6 @@ word-requires-4 c κs = search needs
 
 word-requires-5 : tie.Need-word-requires-5
 word-requires-5 c κs = search needs
-
-word-requires-6 : tie.Need-word-requires-6
-word-requires-6 c κs = search needs
 
 put-three-requires : tie.Need-put-three-requires
 put-three-requires c κs = search needs
@@ -54,8 +55,8 @@ returns-2 c =
     let c13 = c12 .before in
     let c14 = c13 .before in
     let c17 = c14 .before .before .before in
-    rw (← (c14 .word .ensures), eq-eqb _ _ (c13 .if1 .left), ← (c12 .word2 .ensures), ← (c11 .word3 .ensures), ← (c10 .word4 .ensures), ← (c9 .word5 .ensures), ← (c8 .word6 .ensures))
-    (put-six (decimal (c17 .args .n)) (decimal (c12 .word2 .result)) (decimal (c11 .word3 .result)) (c6 .put-three .ensures .0) (c .before .before .put-three2 .ensures .0))
+    rw (← (c14 .word .ensures), eq-eqb _ _ (c13 .if1 .left), ← (c12 .word2 .ensures), ← (c11 .record .ensures), ← (c10 .word3 .ensures), ← (c9 .word4 .ensures), ← (c8 .word5 .ensures))
+    (put-six (decimal (c17 .args .n)) (decimal (c12 .word2 .result)) (decimal (c11 .record .result)) (c6 .put-three .ensures .0) (c .before .before .put-three2 .ensures .0))
 
 pub write-node-spec : {M : Type 1} → statement M
 write-node-spec =
@@ -64,10 +65,10 @@ write-node-spec =
     word-requires
     returns
     word-requires-2
+    record-requires
     word-requires-3
     word-requires-4
     word-requires-5
-    word-requires-6
     put-three-requires
     put-three-requires-2
     same-length

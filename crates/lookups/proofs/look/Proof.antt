@@ -7,6 +7,7 @@ use Rattle.lookups.proofs.look.Reads as reads
 use Rattle.lookups.proofs.look.Lts as lts
 use Rattle.lookups.proofs.load.Reads as load-reads
 use Rattle.pool.proofs.word.Reads as word-reads
+use Rattle.pool.proofs.record.Reads as record-reads
 use Rattle.search.proofs.child_towards.Reads as child-towards-reads
 
 load-requires : tie.Need-load-requires
@@ -18,11 +19,11 @@ returns c = rw (eq-eqb _ _ (c .before .if1 .taken)) (c .load .ensures)
 word-requires : tie.Need-word-requires
 word-requires c κs = search needs
 
-word-requires-2 : tie.Need-word-requires-2
-word-requires-2 c κs = search needs
+record-requires : tie.Need-record-requires
+record-requires c κs = search needs
 
 returns-2 : tie.Need-returns-2
-returns-2 c = rw (ne-eqb _ _ (c .before .before .before .if1 .left), ← (c .before .before .word .ensures), eq-eqb _ _ (c .before .if2 .taken)) (rw (c .word2 .ensures), refl)
+returns-2 c = rw (ne-eqb _ _ (c .before .before .before .if1 .left), ← (c .before .before .word .ensures), eq-eqb _ _ (c .before .if2 .taken)) (rw (c .record .ensures), refl)
 
 child-towards-requires : tie.Need-child-towards-requires
 child-towards-requires c κs = search needs
@@ -43,7 +44,7 @@ look-spec =
     load-requires
     returns
     word-requires
-    word-requires-2
+    record-requires
     returns-2
     child-towards-requires
     load-requires-2

@@ -5,13 +5,14 @@ use Rattle.rotations.proofs.take_copy.Tie as tie
 use Rattle.rotations.proofs.take_copy.Reads as reads
 use Rattle.rotations.proofs.take_copy.Lts as lts
 use Rattle.pool.proofs.word.Reads as word-reads
+use Rattle.pool.proofs.record.Reads as record-reads
 use Rattle.queue.proofs.take_node.Reads as take-node-reads
 
 word-requires : tie.Need-word-requires
 word-requires c κs = search needs
 
-word-requires-2 : tie.Need-word-requires-2
-word-requires-2 c κs = search needs
+record-requires : tie.Need-record-requires
+record-requires c κs = search needs
 
 take-node-requires : tie.Need-take-node-requires
 take-node-requires c κs = search needs
@@ -20,8 +21,8 @@ same-length : tie.Need-same-length
 same-length c = search needs
 
 returns : tie.Need-returns
-returns c = λ q. c .before .before .take-node .ensures q ∙ rw (c .before .before .before .before .word2 .ensures, c .before .before .before .before .before .before .word .ensures)
+returns c = λ q. c .before .before .take-node .ensures q ∙ rw (c .before .before .before .before .record .ensures, c .before .before .before .before .before .before .word .ensures)
 
 pub take-copy-spec : {M : Type 1} → statement M
 take-copy-spec =
-    tie.close (tie.spec word-requires word-requires-2 take-node-requires same-length returns)
+    tie.close (tie.spec word-requires record-requires take-node-requires same-length returns)
