@@ -9,7 +9,8 @@ ghost use mathlib.Core.Path.{_≡_};
 ghost use Prim.Native.Nat.{_<_, _+_};
 ghost use mathlib.Core.Bool.{cond, _&&_};
 ghost use Rattle.spec.specs.Numbers.{slots, wordBits, mostStores};
-ghost use Rattle.spec.specs.Register.{noReader, begunReader, movedReader, vacant, noWrite, withWrite, hasSlot, putSlot, dropSlot, readingSlots, nodeNumber, linkInRange, stepInRange, isRoot, isVacant, storeInRange, readerInRange, registerInRange};
+ghost use Rattle.spec.specs.Register.{noReader, begunReader, movedReader, vacant, noWrite, withWrite, hasSlot, putSlot, dropSlot};
+ghost use Rattle.spec.specs.Register.{readingSlots, nodeNumber, linkInRange, stepInRange, isRoot, isVacant, storeInRange, readerInRange, registerInRange};
 ghost use Rattle.base.specs.Walk.{allIn};
 
 // A reader record: of a slot that doesn't read; as begin makes it; after a turn that loaded node n.

@@ -6,12 +6,14 @@ use mathlib.Core.List.{List, [], _∷_, _++_}
 use Rattle.datatypes.specs.declared.Link.the-variants.{Root, Left, Right}
 use Rattle.base.specs.Walk.{allFrom, allIn, foldFrom, foldIn}
 use Rattle.spec.specs.Pool.{word, setWord, nodeInRange, poolInRange, lengthRight, freshNodes, freshPool}
-use Rattle.spec.specs.Register.{withRoot, withQueue, withHeld, withReader, withAwaited, withWrite, nodeAt, setLink, putSlot, dropSlot, readingSlots, storeInRange, registerInRange, freshRegister, fresh, writeOf, lessFirst}
+use Rattle.spec.specs.Register.{withRoot, withQueue, withHeld, withReader, withAwaited, withWrite, nodeAt, setLink}
+use Rattle.spec.specs.Register.{putSlot, dropSlot, readingSlots, storeInRange, registerInRange, freshRegister, fresh, writeOf, lessFirst}
 use Rattle.spec.specs.Free.{takeFree, fillNode, takeNode, freeNode, retire, retireTwo, release, endReading}
 use Rattle.spec.specs.Search.{seek, trail, leftmost}
 use Rattle.spec.specs.Plan.{insertFixup, fixupAfterInsert, paintInsertFixup, redSibling, deleteFixup, fixupAfterRemoval, paintDeleteLevels, paintDeleteFixup, insertPlan, unlinkPlan, deletePlan}
 use Rattle.spec.specs.Turn.{insertStore, diagLower, diagRaise, zigLowerA, zigLowerC, zigRaise, unlinkStore, adoptStore, replaceStore, movedWrite, publishStore, detachStore, stepFinds, stepMade}
-use Rattle.spec.specs.Calls.{setUp, insert, delete, stored, writerTurn, begin, readerStep, readerTurn, giveUp, Answer, ok, go, absent, wait, found, more, done, refused, Call, inserting, deleting, writing, beginning, turning, givingUp}
+use Rattle.spec.specs.Calls.{setUp, insert, delete, stored, writerTurn, begin, readerStep, readerTurn, giveUp, Answer, ok, go}
+use Rattle.spec.specs.Calls.{absent, wait, found, more, done, refused, Call, inserting, deleting, writing, beginning, turning, givingUp}
 use Rattle.table.specs.Entry.{Asked, Row, Entry, unseen, holds, allPass}
 
 abbrev is : Call → Answer → Asked
@@ -154,5 +156,10 @@ table =
 
 -- every entry's run answers and leaves what 01 says
 pub table-passes : allPass table ≡ true
-unfolding allFrom allIn foldFrom foldIn word setWord nodeInRange poolInRange lengthRight freshNodes freshPool withRoot withQueue withHeld withReader withAwaited withWrite nodeAt setLink putSlot dropSlot readingSlots storeInRange registerInRange freshRegister fresh writeOf lessFirst takeFree fillNode takeNode freeNode retire retireTwo release endReading seek trail leftmost insertFixup fixupAfterInsert paintInsertFixup redSibling deleteFixup fixupAfterRemoval paintDeleteLevels paintDeleteFixup insertPlan unlinkPlan deletePlan insertStore diagLower diagRaise zigLowerA zigLowerC zigRaise unlinkStore adoptStore replaceStore movedWrite publishStore detachStore stepFinds stepMade setUp insert delete stored writerTurn begin readerStep readerTurn giveUp
+unfolding allFrom allIn foldFrom foldIn word setWord nodeInRange poolInRange lengthRight freshNodes freshPool withRoot withQueue withHeld withReader
+    withAwaited withWrite nodeAt setLink putSlot dropSlot readingSlots storeInRange registerInRange freshRegister fresh writeOf lessFirst takeFree
+    fillNode takeNode freeNode retire retireTwo release endReading seek trail leftmost insertFixup fixupAfterInsert paintInsertFixup redSibling
+    deleteFixup fixupAfterRemoval paintDeleteLevels paintDeleteFixup insertPlan unlinkPlan deletePlan insertStore diagLower diagRaise zigLowerA
+    zigLowerC zigRaise unlinkStore adoptStore replaceStore movedWrite publishStore detachStore stepFinds stepMade setUp insert delete stored
+    writerTurn begin readerStep readerTurn giveUp
 table-passes = refl

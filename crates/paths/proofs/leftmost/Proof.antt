@@ -16,7 +16,8 @@ use Rattle.paths.proofs.code_of.Reads as code-of-reads
 use Rattle.pool.proofs.child.Reads as child-reads
 
 abbrev Inv-loop : tie.InvT-loop
-Inv-loop pool n path₀ c node₀ d₀ path node d = (d ≤ mostLinks) × (node < 4294967296) × (length path ≡ mostLinks) × (leftmost pool (pathBound + 1 - d) node (upward path d) ≡ leftmost pool (pathBound + 1 - d₀) node₀ (upward path₀ d₀))
+Inv-loop pool n path₀ c node₀ d₀ path node d = (d ≤ mostLinks) × (node < 4294967296) × (length path ≡ mostLinks) × (leftmost pool (pathBound + 1 - d) node (upward path d) ≡ leftmost pool
+    (pathBound + 1 - d₀) node₀ (upward path₀ d₀))
 
 abbrev μ-loop : tie.MeasureT-loop
 μ-loop pool n path₀ c node₀ d₀ path node d = mostLinks - d
@@ -68,7 +69,8 @@ loop-again c =
       search needs,
       length-set (l .path) (l .d) (c .code-of .result) ∙ l .inv .2,
       rw (c .code-of .ensures, upward-push (l .path) (l .d) (Left (l .node)) (omega arith) (l .inv .1), c .before .before .child .ensures)
-          (sym (leftmost-step (a .pool .now) (l .node) (upward (l .path) (l .d)) (pathBound + 1 - l .d) (pathBound + 1 - (l .d + 1)) (omega arith) (λ z. c .before .if1 .left (c .before .before .child .ensures ∙ z)))
+          (sym (leftmost-step (a .pool .now) (l .node) (upward (l .path) (l .d)) (pathBound + 1 - l .d) (pathBound + 1 - (l .d + 1)) (omega arith)
+          (λ z. c .before .if1 .left (c .before .before .child .ensures ∙ z)))
           ∙ l .inv .3),
     )
 

@@ -100,7 +100,8 @@ colour-and-retire-requires c κs = (
   omega (
     arith,
     c .before .before .before .before .store-successor .kept .0,
-    (let d = c .before .before .before .before .before .before .before .before .before .before .before .before in d .before .before .before .before .before .before .before .before .before .before .before .before .before .before .before .before .before .pre),
+    (let d = c .before .before .before .before .before .before .before .before .before .before .before .before in
+        d .before .before .before .before .before .before .before .before .before .before .before .before .before .before .before .before .before .pre),
   ),
   search needs,
 )

@@ -16,7 +16,9 @@ use Rattle.session.proofs.show_node.Reads as show-node-reads
 use Rattle.spec.specs.Numbers.{poolLimit}
 
 abbrev Inv-loop : tie.InvT-loop
-Inv-loop words₀ out₀ input register₀ session₀ from₀ at₀ words out register session from at = Sound session × (at ≤ length out) × (from ≤ length input) × (length words ≡ poolLimit) × (length words ≡ length words₀) × (length out ≡ length out₀) × Done (workLeft (session₀ .pending) (length input) from₀) at₀ (workLeft (session .pending) (length input) from) at
+Inv-loop words₀ out₀ input register₀ session₀ from₀ at₀ words out register session from at =
+    Sound session × (at ≤ length out) × (from ≤ length input) × (length words ≡ poolLimit) × (length words ≡ length words₀) × (length out ≡ length out₀)
+    × Done (workLeft (session₀ .pending) (length input) from₀) at₀ (workLeft (session .pending) (length input) from) at
 
 abbrev μ-loop : tie.MeasureT-loop
 μ-loop words₀ out₀ input register₀ session₀ from₀ at₀ words out register session from at = workLeft (session .pending) (length input) from
