@@ -6,7 +6,7 @@ use lib.ListN.{length, set, take, replicate, length-append}
 use lib.Seq.{take-set-lt, set-append-seam, take-append-le}
 use lib.Dec.{eqb}
 use native.Mathlib.Omega.{arith}
-use Prim.Native.Nat.{ℕ, _+_, _<_, _≤_}
+use Prim.Native.Nat.{ℕ, _+_, _-_, _<_, _≤_}
 use Rattle.datatypes.specs.declared.Link.{Link}
 use Rattle.datatypes.specs.declared.Side.{Side}
 use Rattle.datatypes.specs.declared.Form.{Form}
@@ -41,17 +41,17 @@ pub push-append : (w : Write) (a b : List Store) → pushAll w (a ++ b) ≡ push
 push-append w [] b = refl
 push-append w (x ∷ a) b = push-append (pushed w x) a b
 
-six : List Store
-six = replicate 6 vacant
+others : List Store
+others = replicate (mostStores - 1) vacant
 
 push-one : (a : List Store) (x : Store) → length a < mostStores → pushed (writeOf a) x ≡ writeOf (a ++ x ∷ [])
-unfolding writeOf six
+unfolding writeOf others
 push-one a x h =
-    let e : set (take mostStores (a ++ vacant ∷ six)) (length a) x ≡ take mostStores ((a ++ x ∷ []) ++ replicate mostStores vacant) =
-    sym (take-set-lt mostStores (a ++ vacant ∷ six) (length a) x h)
-    ∙ (ap (take mostStores) (set-append-seam a vacant six x)
-    ∙ (sym (take-append-le mostStores (a ++ x ∷ six) (vacant ∷ []) (rw length-append (omega arith)))
-    ∙ ap (take mostStores) (append-assoc a (x ∷ six) (vacant ∷ []) ∙ sym (append-assoc a (x ∷ []) (replicate mostStores vacant))))) in
+    let e : set (take mostStores (a ++ vacant ∷ others)) (length a) x ≡ take mostStores ((a ++ x ∷ []) ++ replicate mostStores vacant) =
+    sym (take-set-lt mostStores (a ++ vacant ∷ others) (length a) x h)
+    ∙ (ap (take mostStores) (set-append-seam a vacant others x)
+    ∙ (sym (take-append-le mostStores (a ++ x ∷ others) (vacant ∷ []) (rw length-append (omega arith)))
+    ∙ ap (take mostStores) (append-assoc a (x ∷ others) (vacant ∷ []) ∙ sym (append-assoc a (x ∷ []) (replicate mostStores vacant))))) in
     let n : length a + 1 ≡ length (a ++ x ∷ []) = sym (length-append a (x ∷ [])) in
     λ i. record { stores = e i; count = n i }
 
