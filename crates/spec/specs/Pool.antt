@@ -80,6 +80,10 @@ recordAt p n = word p n recordWord
 abbrev pub setRecord : List ℕ → ℕ → ℕ → List ℕ
 setRecord p n v = setWord p n recordWord v
 
+-- the pool with node n's ticket, key and record, changed
+abbrev pub setTicket : List ℕ → ℕ → ℕ → ℕ → List ℕ
+setTicket p n k v = setRecord (setWord p n keyWord k) n v
+
 -- node n's child on a side
 abbrev pub child : List ℕ → Side → ℕ → ℕ
 child p s n = word p n (linkWord s)
