@@ -39,7 +39,7 @@ chain-word p d f v a (m ∷ l) hf h = (
   rw (word-other p d m f nextWord v (omega arith) (omega arith) (inr (omega arith))) (chain-word p d f v (word p m nextWord) l hf (h .2)),
 )
 
--- the links are among the first four words
+-- the links stand before the colour
 pub link-low : (s : Side) → linkWord s < colourWord
 link-low L = omega arith
 link-low R = omega arith

@@ -31,7 +31,7 @@ node-high p n h = let a = h .high in omega arith
 pub node-in : (p : List ℕ) (n : ℕ) → 1 ≤ n → n ≤ nodes p → InPool p n
 node-in p n a b = record { low = a; high = omega arith }
 
--- Eight words a node and no more: what has a word that is not 0 is a node.
+-- A node's words for each node and no more: what has a word that is not 0 is a node.
 abbrev pub Whole : List ℕ → Type 0
 Whole p = length p ≡ nodes p * nodeWords
 

@@ -95,7 +95,7 @@ isRed p n = eqb (word p n colourWord) redColour
 abbrev pub paint : List ℕ → ℕ → ℕ → List ℕ
 paint p n colour = setWord p n colourWord colour
 
--- Key and record are any 32-bit numbers. Links are 0 to N; colour 0 or 1; standing 0 to 2; holders 0 to 255; next free a link.
+-- Key and record are any 32-bit numbers. Links are 0 to N; colour 0 or 1; standing 0 to 2; holders a mask of slots; next free a link.
 unfoldable pub nodeInRange : List ℕ → ℕ → ℕ → Bool
 nodeInRange p capacity n =
     leb (word p n leftWord) capacity && leb (word p n rightWord) capacity
@@ -105,7 +105,7 @@ nodeInRange p capacity n =
 unfoldable pub poolInRange : List ℕ → Bool
 poolInRange p = allIn (nodeInRange p (nodes p)) 1 (nodes p + 1)
 
--- N is 8 to 1,023, and the length is 8 × N words.
+-- N is from the least to the largest, and the length is N times a node's words.
 unfoldable pub lengthRight : List ℕ → Bool
 lengthRight p = eqb (length p % nodeWords) 0 && leb leastNodes (nodes p) && leb (nodes p) mostNodes
 
