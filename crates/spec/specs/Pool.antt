@@ -10,30 +10,30 @@ use Rattle.datatypes.specs.declared.Side.{Side}
 use Rattle.datatypes.specs.declared.Side.the-variants.{L, R}
 use Rattle.spec.specs.Numbers.{nodeWords, leastNodes, mostNodes, allSlots}
 
--- A node's words in order.
+-- A node's words in order, each after the one before.
 abbrev pub keyWord : ℕ
 keyWord = 0
 
 abbrev pub recordWord : ℕ
-recordWord = 1
+recordWord = keyWord + 1
 
 abbrev pub leftWord : ℕ
-leftWord = 2
+leftWord = recordWord + 1
 
 abbrev pub rightWord : ℕ
-rightWord = 3
+rightWord = leftWord + 1
 
 abbrev pub colourWord : ℕ
-colourWord = 4
+colourWord = rightWord + 1
 
 abbrev pub standingWord : ℕ
-standingWord = 5
+standingWord = colourWord + 1
 
 abbrev pub holdersWord : ℕ
-holdersWord = 6
+holdersWord = standingWord + 1
 
 abbrev pub nextWord : ℕ
-nextWord = 7
+nextWord = holdersWord + 1
 
 -- the word of a node's link on a side
 abbrev pub linkWord : Side → ℕ
