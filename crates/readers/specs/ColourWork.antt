@@ -77,7 +77,7 @@ own-recoloured a b l t h =
       good = λ n hn. rw (t .readers, t .tint .words n standingWord (omega arith) (omega arith), t .tint .words n holdersWord (omega arith) (omega arith))
           (h .good n (node-length q p n (sym (t .tint .size)) hn));
       awaited = rw (t .readers, t .awaited) (h .awaited);
-      eight = ap length (t .readers) ∙ h .eight;
+      perSlot = ap length (t .readers) ∙ h .perSlot;
     }
 
 pub stored-recoloured : (st a b : State) (came : List ℕ) (l : Link) (v : ℕ) → Recoloured a b → Stored st a came l v → Stored st b came l v

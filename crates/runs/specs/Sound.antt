@@ -19,7 +19,7 @@ use Rattle.spec.specs.Calls.{more, done, Outcome, stored, Call}
 use Rattle.spec.specs.PlainList.{Plain, carriedOut, noticeOf, feed}
 use Rattle.base.specs.Lists.{_∈_}
 use Rattle.tree.specs.Linked.{Linked, nodes}
-use Rattle.heap.specs.Rep.{Rep, alike-refl}
+use Rattle.heap.specs.Rep.{Rep, alike-refl, upToColour}
 use Rattle.readers.specs.Release.{ended, freedBelow, end-released}
 use Rattle.readers.specs.Reach.{HasStanding, Kept, LinkedClosed, leads-on, leads-in, in-leads, kept-child, end-linked, linked-end}
 use Rattle.readers.specs.CallCase.{CallCase, refuses, plansInsert, plansDelete, waits, stores, begins, loads, misses, finds, leaves, Loads, atRoot, atNode, Passed}
@@ -40,7 +40,7 @@ module _ (p : List ℕ) (root : ℕ) (T : Linked) (h : Rep p root T) (l : (n : �
 -- What the calls of readers leave alone.
 leavesTree-reader : (st : State) (s : ℕ) (x : Reader) → LeavesTree st (state (st .pool) (withReader (st .register) s x))
 unfolding withReader
-leavesTree-reader st s x = record { words = alike-refl 5 (st .pool); linked = λ n. (λ e. e, λ e. e); root = refl; held = refl; write = refl; free = omega arith }
+leavesTree-reader st s x = record { words = alike-refl upToColour (st .pool); linked = λ n. (λ e. e, λ e. e); root = refl; held = refl; write = refl; free = omega arith }
 
 ended-fields : (st : State) (s : ℕ) → (ended st s .register .root ≡ st .register .root) × (ended st s .register .held ≡ st .register .held) × (ended st s .register .write ≡ st .register .write)
 unfolding withReader withAwaited
