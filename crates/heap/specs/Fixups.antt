@@ -28,9 +28,8 @@ use Rattle.tree.specs.Sorted.{NotLeaf, colour-case}
 use Rattle.tree.specs.Linked.{Node, Linked, nil, cell}
 use Rattle.tree.specs.Zipper.{Frame, hole}
 use Rattle.tree.specs.Erase.{erase, eraseWay}
-use Rattle.tree.specs.InsertFixup as InsertFixup
-use Rattle.tree.specs.InsertFixup.{InsertFixupEnd, balanced, rotate, rootRed}
-use Rattle.tree.specs.DeleteFixup.{Nephew, noNephew, nephew, DeleteFixupEnd, darken, blackSiblingOf, passed, nephewOf}
+use Rattle.tree.specs.InsertFixup.{InsertFixup, InsertFixupEnd, balanced, rotate, rootRed, insertFixupOn}
+use Rattle.tree.specs.DeleteFixup.{Nephew, noNephew, nephew, DeleteFixupEnd, darken, atBlackSibling, atRedSibling, nephewOf}
 use Rattle.heap.specs.Rep.{Rep, Alike, rep-alike, upToLinks}
 use Rattle.heap.specs.Sites.{linkTo, links, Way}
 use Rattle.heap.specs.Colours.{redly, colours, red-is, red-tree}
@@ -58,7 +57,10 @@ sides-alike {p} {q} a (hole s N y ∷ fs) w =
     kept L = a .words (N .num) rightWord (omega arith)
     kept R = a .words (N .num) leftWord (omega arith)
 
--- Insert's climb.
+-- The insert fix-up: the tree's own, on a way with the colours f; the way above m levels.
+abbrev pub insertFixupOf : (ℕ → Colour) → List Frame → InsertFixup
+insertFixupOf f fs = insertFixupOn (eraseWay f fs)
+
 abbrev pub pairsUp : ℕ → List Frame → List Frame
 pairsUp zero fs = fs
 pairsUp (suc m) [] = []
@@ -84,7 +86,7 @@ form-cond true = refl
 form-cond false = refl
 
 pub insertFixup-links : (p : List ℕ) (m : ℕ) (fs : List Frame) → Sides p fs
-    → insertFixup p m (links fs) ≡ fixupResult (m + InsertFixup.insertFixup (eraseWay (colours p) fs) .levels) (insertFixupEnding (InsertFixup.insertFixup (eraseWay (colours p) fs) .end) (pairsUp (InsertFixup.insertFixup (eraseWay (colours p) fs) .levels) fs))
+    → insertFixup p m (links fs) ≡ fixupResult (m + insertFixupOf (colours p) fs .levels) (insertFixupEnding (insertFixupOf (colours p) fs .end) (pairsUp (insertFixupOf (colours p) fs .levels) fs))
 unfolding insertFixup
 insertFixup-links p m [] w = rw (add-zero m)
 insertFixup-links p m (hole s N y ∷ []) w =
@@ -94,7 +96,7 @@ insertFixup-links p m (hole s N y ∷ []) w =
 insertFixup-links p m (hole s N y ∷ hole z G a ∷ fs) w =
     let t = red-tree p (child p (other z) (G .num)) a (w .2 .1) in
     let i = insertFixup-links p (m + 1) fs (w .2 .2) in
-    let r = InsertFixup.insertFixup (eraseWay (colours p) fs) .levels in
+    let r = insertFixupOf (colours p) fs .levels in
     let more : m + 1 + r ≡ m + suc r = omega arith in
     colour-case (colours p (N .num))
     (λ e. colour-case (colourOf (erase (colours p) a))
@@ -103,7 +105,7 @@ insertFixup-links p m (hole s N y ∷ hole z G a ∷ fs) w =
     (λ e. rw (owner-at s (N .num), red-is p (N .num), e, add-zero m))
 
 -- each level is two frames of the way
-pub insertFixup-room : (f : ℕ → Colour) (fs : List Frame) → InsertFixup.insertFixup (eraseWay f fs) .levels + InsertFixup.insertFixup (eraseWay f fs) .levels ≤ length fs
+pub insertFixup-room : (f : ℕ → Colour) (fs : List Frame) → insertFixupOf f fs .levels + insertFixupOf f fs .levels ≤ length fs
 insertFixup-room f [] = omega arith
 insertFixup-room f (hole s N y ∷ []) = colour-case (f (N .num)) (λ e. rw e (omega arith)) (λ e. rw e (omega arith))
 insertFixup-room f (hole s N y ∷ hole z G a ∷ fs) =
@@ -182,16 +184,16 @@ nephewEnding (nephew b) l s w = RotateTwice (rotation l Diag (other s) RedSiblin
 
 abbrev pub deleteFixupEnding : DeleteFixupEnd → Colour → List Frame → Ending
 deleteFixupEnding darken c fs = cond (redly c) Blacken Balanced
-deleteFixupEnding (blackSiblingOf b) c [] = Missing
-deleteFixupEnding (blackSiblingOf b) c (hole s N y ∷ fs) = Rotate (rotation (linkTo fs) (formOf b) (other s) BlackSibling)
-deleteFixupEnding (passed o) c [] = Missing
-deleteFixupEnding (passed o) c (hole s N y ∷ fs) = nephewEnding o (linkTo fs) s (numOf y)
+deleteFixupEnding (atBlackSibling b) c [] = Missing
+deleteFixupEnding (atBlackSibling b) c (hole s N y ∷ fs) = Rotate (rotation (linkTo fs) (formOf b) (other s) BlackSibling)
+deleteFixupEnding (atRedSibling o) c [] = Missing
+deleteFixupEnding (atRedSibling o) c (hole s N y ∷ fs) = nephewEnding o (linkTo fs) s (numOf y)
 
 -- what holds there
 pub data Stop (f : ℕ → Colour) : Colour → List Frame → DeleteFixupEnd → Type 0 where
   stop-root : {c : Colour} → Stop f c [] darken
   stop-red : {h : Frame} {fs : List Frame} → Stop f red (h ∷ fs) darken
   stop-turn : {s : Side} {N : Node} {y : Linked} {fs : List Frame} {b : Bool} → NotLeaf (erase f y) → colourOf (erase f y) ≡ black → nephewOf s (erase f y) ≡ nephew b
-      → Stop f black (hole s N y ∷ fs) (blackSiblingOf b)
-  stop-pass : {s : Side} {N : Node} {y : Linked} {fs : List Frame} {o : Nephew} → f (N .num) ≡ black → colourOf (erase f y) ≡ red → NotLeaf (Seq.child s (erase f y))
-      → colourOf (Seq.child s (erase f y)) ≡ black → nephewOf s (Seq.child s (erase f y)) ≡ o → Stop f black (hole s N y ∷ fs) (passed o)
+      → Stop f black (hole s N y ∷ fs) (atBlackSibling b)
+  stop-redSibling : {s : Side} {N : Node} {y : Linked} {fs : List Frame} {o : Nephew} → f (N .num) ≡ black → colourOf (erase f y) ≡ red → NotLeaf (Seq.child s (erase f y))
+      → colourOf (Seq.child s (erase f y)) ≡ black → nephewOf s (Seq.child s (erase f y)) ≡ o → Stop f black (hole s N y ∷ fs) (atRedSibling o)

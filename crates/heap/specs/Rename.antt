@@ -19,7 +19,7 @@ use Rattle.sequential.specs.Tree.{Colour, red, black}
 use Rattle.tree.specs.Linked.{Node, Linked, nil, cell, nodes}
 use Rattle.tree.specs.Zipper.{Frame, hole, plug, plug-append}
 use Rattle.tree.specs.Erase.{eraseWay}
-use Rattle.tree.specs.DeleteFixup.{noNephew, nephew, DeleteFixupEnd, darken, blackSiblingOf, passed}
+use Rattle.tree.specs.DeleteFixup.{noNephew, nephew, DeleteFixupEnd, darken, atBlackSibling, atRedSibling}
 use Rattle.tree.specs.Occurs.{one, one-same, occ, occWay}
 use Rattle.heap.specs.Sites.{linkTo, Site, site-of, of-site}
 use Rattle.heap.specs.Fixups.{framesUp, numOf, deleteFixupEnding, formOf}
@@ -78,16 +78,16 @@ module _ (b n : ℕ) (low : 1 ≤ b) where
       → map (movedStore b n) (endingStores (deleteFixupEnding e c (hole s M y ∷ fs))) ≡ endingStores (deleteFixupEnding e c (hole s N y ∷ gs))
   head-stores darken red s M N y o r = refl
   head-stores darken black s M N y o r = refl
-  head-stores (blackSiblingOf q) c s M N y {fs} o r = moved-turn (formOf q) (linkTo fs) _ _ ∙ rw (moved-link r)
-  head-stores (passed noNephew) c s M N y o r = rw (moved-link r)
-  head-stores (passed (nephew q)) c s M N y o r = rw (moved-link r, moved-turn (formOf q) (linkAt s (numOf y)) _ _, moved-other s (numOf y) (num-apart y o))
+  head-stores (atBlackSibling q) c s M N y {fs} o r = moved-turn (formOf q) (linkTo fs) _ _ ∙ rw (moved-link r)
+  head-stores (atRedSibling noNephew) c s M N y o r = rw (moved-link r)
+  head-stores (atRedSibling (nephew q)) c s M N y o r = rw (moved-link r, moved-turn (formOf q) (linkAt s (numOf y)) _ _, moved-other s (numOf y) (num-apart y o))
 
   pub moved-stores : (e : DeleteFixupEnd) (c : Colour) {fs gs : List Frame} → Renamed fs gs
       → map (movedStore b n) (endingStores (deleteFixupEnding e c fs)) ≡ endingStores (deleteFixupEnding e c gs)
   moved-stores darken red (same [] o) = refl
   moved-stores darken black (same [] o) = refl
-  moved-stores (blackSiblingOf q) c (same [] o) = refl
-  moved-stores (passed q) c (same [] o) = refl
+  moved-stores (atBlackSibling q) c (same [] o) = refl
+  moved-stores (atRedSibling q) c (same [] o) = refl
   moved-stores e c (same (hole s P y ∷ fs) o) = head-stores e c s P P y (omega arith) (same fs (omega arith))
   moved-stores e c (swapped M N l fs a d o w) = head-stores e c R M N l o (same fs w)
   moved-stores e c (above s P y a o r) = head-stores e c s P P y o r

@@ -56,10 +56,10 @@ words-agree p q e h w = record {
 pub rep-agree : (p q : List ℕ) → length q ≡ length p → (t : Linked) (a : ℕ) → ((n : ℕ) → 0 < occ n (nodes t) → Agree p q n) → Rep p a t → Rep q a t
 rep-agree p q e nil a h r = r
 rep-agree p q e (cell N l r) a h w =
-    let capacity = h (N .num) (let x = one-same (N .num) in omega arith) in (
-      words-agree p q e capacity (w .0),
-      rw (capacity leftWord (omega arith)) (rep-agree p q e l _ (λ n i. h n (let x = occ-append n (nodes l) (nodes r) in omega arith)) (w .1)),
-      rw (capacity rightWord (omega arith)) (rep-agree p q e r _ (λ n i. h n (let x = occ-append n (nodes l) (nodes r) in omega arith)) (w .2)),
+    let top = h (N .num) (let x = one-same (N .num) in omega arith) in (
+      words-agree p q e top (w .0),
+      rw (top leftWord (omega arith)) (rep-agree p q e l _ (λ n i. h n (let x = occ-append n (nodes l) (nodes r) in omega arith)) (w .1)),
+      rw (top rightWord (omega arith)) (rep-agree p q e r _ (λ n i. h n (let x = occ-append n (nodes l) (nodes r) in omega arith)) (w .2)),
     )
 
 -- q has the same words below the k-th of each node
@@ -125,9 +125,9 @@ small-free p d big hb (cell N l r) a (w, hl, hr) s =
 pub not-below : (p : List ℕ) (a : ℕ) (N : Node) (l r : Linked) → Rep p a (cell N l r) → (occ (N .num) (nodes l) ≡ 0) × (occ (N .num) (nodes r) ≡ 0)
 not-below p a N l r h =
     let i = h .0 .is in
-    let capacity : Rep p (N .num) (cell N l r) = rw i at h in
+    let top : Rep p (N .num) (cell N l r) = rw i at h in
     let len = length-append (nodes l) (nodes r) in
-    (small-free p (N .num) (cell N l r) capacity l (child p L (N .num)) (h .1) (omega arith), small-free p (N .num) (cell N l r) capacity r (child p R (N .num)) (h .2) (omega arith))
+    (small-free p (N .num) (cell N l r) top l (child p L (N .num)) (h .1) (omega arith), small-free p (N .num) (cell N l r) top r (child p R (N .num)) (h .2) (omega arith))
 
 pub not-below-at : (p : List ℕ) (a : ℕ) (s : Side) (N : Node) (x y : Linked) → Rep p a (at s N x y) → (occ (N .num) (nodes x) ≡ 0) × (occ (N .num) (nodes y) ≡ 0)
 not-below-at p a L N x y h = not-below p a N x y h

@@ -71,8 +71,8 @@ pub data Shift : Linked → Linked → Link → ℕ → List ℕ → List ℕ �
       → Shift (plug fs (third₁ L B C n l y gs)) (plug fs (third₂ L B C n l y gs)) (linkTo (gs ++ (hole R (copy C n) l ∷ fs))) (numOf y) [] (C .num ∷ []) false false
 
 -- Of a step, read off its profile. The list stores:
-abbrev pub listStore : Step → Bool
-listStore x = isListed (profile x .listing)
+abbrev pub isListStore : Step → Bool
+isListStore x = isListed (profile x .listing)
 
 -- the node that it takes, if it takes one
 abbrev pub takenIf : Bool → ℕ → List ℕ
@@ -118,7 +118,7 @@ pub record FieldsAfter (x : Step) (b : ℕ) (r q : Register) : Type 0 where
 pub record Next (st : State) (G : Tree) (T : Linked) (m : Made) (x : Store) (rest : List Store) : Type 0 where
   pub tree : Linked
   pub gone : List ℕ
-  pub shift : Shift T tree (m .link) (m .node) (takenBy (x .step) (st .register .first)) gone (listStore (x .step)) (profile (x .step) .awaits)
+  pub shift : Shift T tree (m .link) (m .node) (takenBy (x .step) (st .register .first)) gone (isListStore (x .step)) (profile (x .step) .awaits)
   pub phase : Phase (m .after .pool) (m .after .register .root) G tree rest
   pub parts : Parts st m (takenBy (x .step) (st .register .first)) gone
   pub size : length (m .after .pool) ≡ length (st .pool)

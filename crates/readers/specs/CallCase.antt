@@ -84,25 +84,25 @@ pub not-false : (b : Bool) → not b ≡ false → b ≡ true
 not-false true e = refl
 not-false false e = sym e
 
-load-callCase : (st : State) (s n : ℕ) → Passed st s → Loads st s n → CallCase st (turning s) (loaded st s (readerOf (st .register) s) n)
-load-callCase st s n p l = elim (ℕ-discrete n 0) [
+load-case : (st : State) (s n : ℕ) → Passed st s → Loads st s n → CallCase st (turning s) (loaded st s (readerOf (st .register) s) n)
+load-case st s n p l = elim (ℕ-discrete n 0) [
   | yes e ↦ rw (load-none st s (readerOf (st .register) s) n e) (misses s n p l e)
   | no d ↦ rw (load-some st s (readerOf (st .register) s) n d) (loads s n p l d)
 ]
 
-step-callCase : (st : State) (s : ℕ) → Passed st s → CallCase st (turning s) (readerStep st s)
-step-callCase st s p =
+step-case : (st : State) (s : ℕ) → Passed st s → CallCase st (turning s) (readerStep st s)
+step-case st s p =
     let x = readerOf (st .register) s in
     elim (ℕ-discrete (x .node) 0) [
-      | yes e ↦ rw (step-root st s x refl e) (load-callCase st s (st .register .root) p (atRoot e refl))
+      | yes e ↦ rw (step-root st s x refl e) (load-case st s (st .register .root) p (atRoot e refl))
       | no d ↦ elim (ℕ-discrete (x .key) (word (st .pool) (x .node) keyWord)) [
         | yes e ↦ rw (step-found st s x refl d e) (finds s p d e)
-        | no e ↦ rw (step-child st s x refl d e) (load-callCase st s _ p (atNode d e refl))
+        | no e ↦ rw (step-child st s x refl d e) (load-case st s _ p (atNode d e refl))
       ]
     ]
 
-turn-callCase : (st : State) → firstOf (writerTests st) ≡ 0 → CallCase st writing (cond (waiting st) (outcome wait st) (stored (stepMade st (storeOf (st .register) 0 .link) (storeOf (st .register) 0 .step))))
-turn-callCase st e =
+turn-case : (st : State) → firstOf (writerTests st) ≡ 0 → CallCase st writing (cond (waiting st) (outcome wait st) (stored (stepMade st (storeOf (st .register) 0 .link) (storeOf (st .register) 0 .step))))
+turn-case st e =
     let c = clear (writerTests st) (omega arith, (omega arith, (omega arith, (omega arith, tt)))) e in
     go (eqb (st .register .awaited) 0) refl (not-false (writeInHand st) (c .1 .1 .0)) (c .1 .1 .1 .0)
   where
@@ -116,17 +116,17 @@ passed st s e =
     let c = clear (readerTests st s) (omega arith, (omega arith, (omega arith, (omega arith, tt)))) e in
     record { low = leb-false slots s (c .1 .1 .0); reads = not-false (reading st s) (c .1 .1 .1 .0) }
 
-begin-callCase : (st : State) (s k : ℕ) → firstOf (beginTests st s) ≡ 0
+begin-case : (st : State) (s k : ℕ) → firstOf (beginTests st s) ≡ 0
     → CallCase st (beginning s k) (outcome ok (state (st .pool) (withReader (st .register) s (begunReader k))))
-begin-callCase st s k e =
+begin-case st s k e =
     let c = clear (beginTests st s) (omega arith, (omega arith, (omega arith, (omega arith, tt)))) e in
     begins s k (leb-false slots s (c .1 .1 .0)) (c .1 .1 .1 .0)
 
-pub callCase : (st : State) (c : Call) → CallCase st c (call st c)
+pub call-case : (st : State) (c : Call) → CallCase st c (call st c)
 unfolding insert delete writerTurn begin readerTurn giveUp
-callCase st (inserting k v) = tested st (inserting k v) (outcome ok (state (st .pool) (withWrite (st .register) (writeOf (insertAt st k v (placeOf st k) .stores))))) (plansInsert k v)
-callCase st (deleting k) = tested st (deleting k) (outcome ok (state (st .pool) (withWrite (st .register) (writeOf (deleteAt st (placeOf st k) .stores))))) (plansDelete k)
-callCase st writing = tested st writing (cond (waiting st) (outcome wait st) (stored (stepMade st (storeOf (st .register) 0 .link) (storeOf (st .register) 0 .step)))) (turn-callCase st)
-callCase st (beginning s k) = tested st (beginning s k) (outcome ok (state (st .pool) (withReader (st .register) s (begunReader k)))) (begin-callCase st s k)
-callCase st (turning s) = tested st (turning s) (readerStep st s) (λ e. step-callCase st s (passed st s e))
-callCase st (givingUp s) = tested st (givingUp s) (outcome ok (endReading st s)) (λ e. leaves s (passed st s e))
+call-case st (inserting k v) = tested st (inserting k v) (outcome ok (state (st .pool) (withWrite (st .register) (writeOf (insertAt st k v (placeOf st k) .stores))))) (plansInsert k v)
+call-case st (deleting k) = tested st (deleting k) (outcome ok (state (st .pool) (withWrite (st .register) (writeOf (deleteAt st (placeOf st k) .stores))))) (plansDelete k)
+call-case st writing = tested st writing (cond (waiting st) (outcome wait st) (stored (stepMade st (storeOf (st .register) 0 .link) (storeOf (st .register) 0 .step)))) (turn-case st)
+call-case st (beginning s k) = tested st (beginning s k) (outcome ok (state (st .pool) (withReader (st .register) s (begunReader k)))) (begin-case st s k)
+call-case st (turning s) = tested st (turning s) (readerStep st s) (λ e. step-case st s (passed st s e))
+call-case st (givingUp s) = tested st (givingUp s) (outcome ok (endReading st s)) (λ e. leaves s (passed st s e))

@@ -12,7 +12,7 @@ use Rattle.spec.specs.Register.{State, state, withHeld}
 use Rattle.spec.specs.Turn.{painted, oneMore, endInsert}
 use Rattle.spec.specs.FreeQueue.{Chain}
 use Rattle.laws.specs.Queue.{link-low}
-use Rattle.heap.specs.ColourWork.{ColoursOnly, colours-refl, colours-trans, colours-paint}
+use Rattle.heap.specs.ColourWork.{ColoursOnly, coloursOnly-refl, coloursOnly-trans, coloursOnly-paint}
 use Rattle.readers.specs.Words.{node-length}
 use Rattle.readers.specs.QueueExact.{pool-exact, field-exact}
 use Rattle.readers.specs.Owned.{Owned}
@@ -20,7 +20,7 @@ use Rattle.readers.specs.Stored.{Stored}
 
 -- Only colours differ (heap: Tints), and keys held.
 pub record Recoloured (a b : State) : Type 0 where
-  pub tint : ColoursOnly (a .pool) (b .pool)
+  pub only : ColoursOnly (a .pool) (b .pool)
   pub root : b .register .root ≡ a .register .root
   pub first : b .register .first ≡ a .register .first
   pub last : b .register .last ≡ a .register .last
@@ -30,7 +30,7 @@ pub record Recoloured (a b : State) : Type 0 where
 
 pub recoloured-trans : {a b c : State} → Recoloured a b → Recoloured b c → Recoloured a c
 recoloured-trans x y = record {
-  tint = colours-trans (x .tint) (y .tint);
+  only = coloursOnly-trans (x .only) (y .only);
   root = y .root ∙ x .root;
   first = y .first ∙ x .first;
   last = y .last ∙ x .last;
@@ -41,17 +41,17 @@ recoloured-trans x y = record {
 
 -- a pool that is tinted, under the same register
 pub recoloured-pool : (st : State) (q : List ℕ) → ColoursOnly (st .pool) q → Recoloured st (state q (st .register))
-recoloured-pool st q t = record { tint = t; root = refl; first = refl; last = refl; free = refl; readers = refl; awaited = refl }
+recoloured-pool st q t = record { only = t; root = refl; first = refl; last = refl; free = refl; readers = refl; awaited = refl }
 
 pub recoloured-refl : (st : State) → Recoloured st st
-recoloured-refl st = recoloured-pool st (st .pool) (colours-refl (st .pool))
+recoloured-refl st = recoloured-pool st (st .pool) (coloursOnly-refl (st .pool))
 
 pub recoloured-paint : (st : State) (n c : ℕ) → Recoloured st (painted st n c)
-recoloured-paint st n c = recoloured-pool st (paint (st .pool) n c) (colours-paint (st .pool) n c)
+recoloured-paint st n c = recoloured-pool st (paint (st .pool) n c) (coloursOnly-paint (st .pool) n c)
 
 pub recoloured-more : (st : State) → Recoloured st (oneMore st)
 unfolding withHeld
-recoloured-more st = record { tint = colours-refl (st .pool); root = refl; first = refl; last = refl; free = refl; readers = refl; awaited = refl }
+recoloured-more st = record { only = coloursOnly-refl (st .pool); root = refl; first = refl; last = refl; free = refl; readers = refl; awaited = refl }
 
 pub recoloured-insert : (e : Ending) (st : State) → Recoloured st (endInsert e st)
 recoloured-insert Balanced st = recoloured-paint st (st .register .root) blackColour
@@ -72,23 +72,23 @@ own-recoloured a b l t h =
     let r = a .register in
     record {
       exact = field-exact q r (b .register) l (t .first) (t .last) (t .free)
-          (pool-exact p q r l (t .tint .size) (chain-same p q (t .tint .size) (λ n. t .tint .words n nextWord (omega arith) (omega arith)) (r .first) l (h .exact .queued .chain))
-          (λ m hm. rw (t .tint .words m standingWord (omega arith) (omega arith)) (λ z. z, λ z. z)) (h .exact));
-      good = λ n hn. rw (t .readers, t .tint .words n standingWord (omega arith) (omega arith), t .tint .words n holdersWord (omega arith) (omega arith))
-          (h .good n (node-length q p n (sym (t .tint .size)) hn));
+          (pool-exact p q r l (t .only .size) (chain-same p q (t .only .size) (λ n. t .only .words n nextWord (omega arith) (omega arith)) (r .first) l (h .exact .queued .chain))
+          (λ m hm. rw (t .only .words m standingWord (omega arith) (omega arith)) (λ z. z, λ z. z)) (h .exact));
+      good = λ n hn. rw (t .readers, t .only .words n standingWord (omega arith) (omega arith), t .only .words n holdersWord (omega arith) (omega arith))
+          (h .good n (node-length q p n (sym (t .only .size)) hn));
       awaited = rw (t .readers, t .awaited) (h .awaited);
       eight = ap length (t .readers) ∙ h .eight;
     }
 
 pub stored-recoloured : (st a b : State) (came : List ℕ) (l : Link) (v : ℕ) → Recoloured a b → Stored st a came l v → Stored st b came l v
 stored-recoloured st a b came l v t h = record {
-  size = t .tint .size ∙ h .size;
-  standing = λ n i. t .tint .words n standingWord (omega arith) (omega arith) ∙ h .standing n i;
-  holders = λ n i. t .tint .words n holdersWord (omega arith) (omega arith) ∙ h .holders n i;
-  keys = λ n i. t .tint .words n keyWord (omega arith) (omega arith) ∙ h .keys n i;
-  records = λ n i. t .tint .words n recordWord (omega arith) (omega arith) ∙ h .records n i;
-  links = λ n z i. t .tint .words n (linkWord z) (let u = link-low z in omega arith) (let u = link-low z in omega arith) ∙ h .links n z i;
-  new = λ n i. (let e = h .new n i in (e .0, t .tint .words n standingWord (omega arith) (omega arith) ∙ e .1));
+  size = t .only .size ∙ h .size;
+  standing = λ n i. t .only .words n standingWord (omega arith) (omega arith) ∙ h .standing n i;
+  holders = λ n i. t .only .words n holdersWord (omega arith) (omega arith) ∙ h .holders n i;
+  keys = λ n i. t .only .words n keyWord (omega arith) (omega arith) ∙ h .keys n i;
+  records = λ n i. t .only .words n recordWord (omega arith) (omega arith) ∙ h .records n i;
+  links = λ n z i. t .only .words n (linkWord z) (let u = link-low z in omega arith) (let u = link-low z in omega arith) ∙ h .links n z i;
+  new = λ n i. (let e = h .new n i in (e .0, t .only .words n standingWord (omega arith) (omega arith) ∙ e .1));
   root = t .root ∙ h .root;
   readers = t .readers ∙ h .readers;
   free = let a = h .free in let b = t .free in omega arith;

@@ -53,9 +53,9 @@ pub data Compared (p : List ℕ) (n k : ℕ) (t : Linked) : Type 0 where
   met : k ≡ word p n keyWord → find t k ≡ some (word p n recordWord) → Compared p n k t
   on : k ≢ word p n keyWord → (u : Linked) → Rep p (child p (towards p k n) n) u → find u k ≡ find t k → path t k ≡ n ∷ path u k → Compared p n k t
 
-pub compared : (p : List ℕ) (n k : ℕ) (t : Linked) → n ≢ 0 → Rep p n t → Compared p n k t
-compared p n k nil d h = absurd (d h)
-compared p n k (cell N l r) d h =
+pub compared-at : (p : List ℕ) (n k : ℕ) (t : Linked) → n ≢ 0 → Rep p n t → Compared p n k t
+compared-at p n k nil d h = absurd (d h)
+compared-at p n k (cell N l r) d h =
     let w = h .0 in
     let key : word p n keyWord ≡ N .key = rw (w .is) (w .key-is) in
     tri-case L k (N .key)
@@ -65,7 +65,7 @@ compared p n k (cell N l r) d h =
 
 -- R1 and R2 go on.
 pub turn-finds : (p : List ℕ) (A : Option ℕ → Type 0) (n k : ℕ) → n ≢ 0 → k ≢ word p n keyWord → Finds p A n k → Finds p A (child p (towards p k n) n) k
-turn-finds p A n k d e f = case (compared p n k (f .tree) d (f .unfolds))
+turn-finds p A n k d e f = case (compared-at p n k (f .tree) d (f .unfolds))
   where
     case : Compared p n k (f .tree) → Finds p A (child p (towards p k n) n) k
     case (met i j) = absurd (e i)
@@ -73,7 +73,7 @@ turn-finds p A n k d e f = case (compared p n k (f .tree) d (f .unfolds))
 
 pub turn-way : (p : List ℕ) (root : ℕ) (seen : List ℕ) (n k : ℕ) → n ≢ 0 → k ≢ word p n keyWord → OnWay p root seen n k
     → OnWay p root (seen ++ n ∷ []) (child p (towards p k n) n) k
-turn-way p root seen n k d e w = case (compared p n k (w .tree) d (w .unfolds))
+turn-way p root seen n k d e w = case (compared-at p n k (w .tree) d (w .unfolds))
   where
     case : Compared p n k (w .tree) → OnWay p root (seen ++ n ∷ []) (child p (towards p k n) n) k
     case (met i j) = absurd (e i)
@@ -87,7 +87,7 @@ turn-way p root seen n k d e w = case (compared p n k (w .tree) d (w .unfolds))
 
 -- The answer is right: one of those possible so far.
 pub turn-found : (p : List ℕ) (A : Option ℕ → Type 0) (n k : ℕ) → n ≢ 0 → k ≡ word p n keyWord → Finds p A n k → A (some (word p n recordWord))
-turn-found p A n k d e f = case (compared p n k (f .tree) d (f .unfolds))
+turn-found p A n k d e f = case (compared-at p n k (f .tree) d (f .unfolds))
   where
     case : Compared p n k (f .tree) → A (some (word p n recordWord))
     case (met i j) = subst A j (f .answer)

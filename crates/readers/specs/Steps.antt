@@ -16,7 +16,7 @@ use Rattle.spec.specs.Plan.{fixupAfterInsert, paintInsertFixup}
 use Rattle.spec.specs.Turn.{oneMore, endInsert, insertStore}
 use Rattle.readers.specs.Words.{Whole}
 use Rattle.readers.specs.Owned.{Owned}
-use Rattle.heap.specs.ColourWork.{colours-insertFixup}
+use Rattle.heap.specs.ColourWork.{coloursOnly-insertFixup}
 use Rattle.readers.specs.Reach.{HasStanding}
 use Rattle.readers.specs.Stored.{OwnerLinked, taking-stored}
 use Rattle.readers.specs.ColourWork.{Recoloured, recoloured-trans, recoloured-pool, recoloured-more, recoloured-insert, stored-recoloured}
@@ -54,11 +54,11 @@ module _ (st : State) (n : ℕ) (q : List ℕ) (w : Whole (st .pool)) (h : Owned
       let base = setLink (takeNode st k v L 0 0 redColour) l first in
       let linked = oneMore base in
       let coloured = state (paintInsertFixup (c .levels) path (linked .pool)) (linked .register) in
-      let tint : Recoloured base (endInsert (c .ending) coloured) =
-      recoloured-trans (recoloured-more base) (recoloured-trans (recoloured-pool linked (paintInsertFixup (c .levels) path (linked .pool)) (colours-insertFixup (c .levels) path (linked .pool)))
+      let only : Recoloured base (endInsert (c .ending) coloured) =
+      recoloured-trans (recoloured-more base) (recoloured-trans (recoloured-pool linked (paintInsertFixup (c .levels) path (linked .pool)) (coloursOnly-insertFixup (c .levels) path (linked .pool)))
       (recoloured-insert (c .ending) coloured)) in
       record {
         turn = turn-none st (endInsert (c .ending) coloured) (n ∷ q) (n ∷ []) l first w o h
-            (stored-recoloured st base (endInsert (c .ending) coloured) (n ∷ []) l first tint (taking-stored st n q k v L 0 0 redColour l first w o h));
-        awaited = tint .awaited ∙ awaited-link (takeNode st k v L 0 0 redColour) l first ∙ awaited-take st k v L 0 0 redColour;
+            (stored-recoloured st base (endInsert (c .ending) coloured) (n ∷ []) l first only (taking-stored st n q k v L 0 0 redColour l first w o h));
+        awaited = only .awaited ∙ awaited-link (takeNode st k v L 0 0 redColour) l first ∙ awaited-take st k v L 0 0 redColour;
       }

@@ -73,7 +73,7 @@ owner-linked p (Right m) n z o d e = d (subst (λ i. HasStanding p i standingLin
 -- What was stored, then the nodes of `gone` retired.
 module _ (st mid after : State) (q came gone : List ℕ) (l : Link) (v : ℕ) (w : Whole (st .pool)) (o : OwnerLinked (st .pool) l) (h : Owned st q) (s : Stored st mid came l v)
     (quiet : Quiet mid after) (each : (n : ℕ) → Retires (mid .pool) (after .pool) (Reads mid) n)
-    (carriedOut : (n : ℕ) → n ∈ gone → HasStanding (st .pool) n standingLinked × (owner l ≢ n) × (word (after .pool) n standingWord ≢ standingLinked))
+    (was-linked : (n : ℕ) → n ∈ gone → HasStanding (st .pool) n standingLinked × (owner l ≢ n) × (word (after .pool) n standingWord ≢ standingLinked))
     (kept : (n : ℕ) → ¬ (n ∈ gone) → word (after .pool) n standingWord ≡ word (mid .pool) n standingWord)
     (grows : mid .register .free ≤ after .register .free) (l′ : List ℕ) (owned : Owned after l′) where
   -- who came was free, who went was linked
@@ -83,8 +83,8 @@ module _ (st mid after : State) (q came gone : List ℕ) (l : Link) (v : ℕ) (w
   same-link : (n : ℕ) (z : Side) → child (after .pool) z n ≡ child (mid .pool) z n
   same-link n z = quiet .words .words n (linkWord z) (let u = link-low z in omega arith)
 
-  leavesTree : (n : ℕ) (z : Side) → ¬ (n ∈ came) → owner l ≢ n → child (after .pool) z n ≡ child (st .pool) z n
-  leavesTree n z i d = same-link n z ∙ s .links n z i ∙ rw (not-hit l n z d)
+  links-stay : (n : ℕ) (z : Side) → ¬ (n ∈ came) → owner l ≢ n → child (after .pool) z n ≡ child (st .pool) z n
+  links-stay n z i d = same-link n z ∙ s .links n z i ∙ rw (not-hit l n z d)
 
   change-of : (n : ℕ) → NodeChange (st .pool) (after .pool) (Reads st) n
   change-of n = go (each n) (in-dec n gone) (in-dec n came)
@@ -94,7 +94,7 @@ module _ (st mid after : State) (q came gone : List ℕ) (l : Link) (v : ℕ) (w
       plain i a b = change-same (st .pool) (after .pool) (Reads st) n (ranked st q w h n) (a ∙ s .standing n i)
           (λ e. (
             b ∙ s .holders n i,
-            λ z. leavesTree n z i (owner-linked (st .pool) l n
+            λ z. links-stay n z i (owner-linked (st .pool) l n
                 (λ x. let y = subst (λ m. HasStanding (st .pool) m standingRetired) x e in let k = word-none (st .pool) standingWord in omega arith) o (λ x. let y = x in omega arith)),
           ))
 
@@ -103,18 +103,18 @@ module _ (st mid after : State) (q came gone : List ℕ) (l : Link) (v : ℕ) (w
       go (stays a b) g (no i) = plain i a b
       go (out a b bits) (no j) c = absurd (let z = kept n j in omega arith)
       go (out a b bits) (yes j) c =
-          let e = carriedOut n j in
-          leaves (e .0) b (λ t u r. bits t u (subst (λ xs. readingIn xs t ≡ true) (sym (s .readers)) r)) (λ z. leavesTree n z (not-both n (e .0)) (e .1))
+          let e = was-linked n j in
+          leaves (e .0) b (λ t u r. bits t u (subst (λ xs. readingIn xs t ≡ true) (sym (s .readers)) r)) (λ z. links-stay n z (not-both n (e .0)) (e .1))
       go (off a b none) (no j) c = absurd (let z = kept n j in omega arith)
       go (off a b none) (yes j) c =
-          let e = carriedOut n j .0 in
+          let e = was-linked n j .0 in
           goes (omega arith) b (λ _ t u r. none t u (subst (λ xs. readingIn xs t ≡ true) (sym (s .readers)) r))
 
   linked-of : (n : ℕ) → HasStanding (after .pool) n standingLinked ↔ ((HasStanding (st .pool) n standingLinked ⊎ (n ∈ came)) × (¬ (n ∈ gone)))
   linked-of n = (there (in-dec n gone) (in-dec n came), λ x. back (x .1) (x .0))
     where
       there : Dec (n ∈ gone) → Dec (n ∈ came) → HasStanding (after .pool) n standingLinked → (HasStanding (st .pool) n standingLinked ⊎ (n ∈ came)) × (¬ (n ∈ gone))
-      there (yes j) c e = absurd (carriedOut n j .2 e)
+      there (yes j) c e = absurd (was-linked n j .2 e)
       there (no j) (yes i) e = (inr i, j)
       there (no j) (no i) e = (inl (sym (s .standing n i) ∙ sym (kept n j) ∙ e), j)
 

@@ -27,7 +27,7 @@ use Rattle.readers.specs.Release.{end-released}
 use Rattle.readers.specs.Reach.{HasStanding, Kept, retired-end, NodeChange, comes, leaves, rests, goes}
 use Rattle.readers.specs.Turns.{Turn}
 use Rattle.readers.specs.CallCase as CallCase
-use Rattle.readers.specs.CallCase.{CallCase, callCase, refuses, plansInsert, plansDelete, waits, stores, begins, loads, misses, finds}
+use Rattle.readers.specs.CallCase.{CallCase, call-case, refuses, plansInsert, plansDelete, waits, stores, begins, loads, misses, finds}
 use Rattle.readers.specs.Safe.{Safe}
 use Rattle.runs.specs.Writer.{Writer, afterStore}
 use Rattle.runs.specs.Sound.{Sound, Starts}
@@ -146,13 +146,13 @@ module _ (W : State → Plain → Linked → Type 0) (writer : Writer W) (S : St
       × (recordFor (word (thenPerhaps (after S cs j) c .index .pool) m keyWord) (ticketsAfter S cs t) ≡ some (word (thenPerhaps (after S cs j) c .index .pool) m recordWord))
   held-perhaps s m i j none e f h = moved i j m (at j .pool) refl refl (f (inr h))
   held-perhaps s m i j (some c) e f h =
-      let w = held-before W writer (at j) (plainAfter S cs j) c (call (at j) c) (callCase (at j) c) (sound-at W writer S starts cs j) s m h in
+      let w = held-before W writer (at j) (plainAfter S cs j) c (call (at j) c) (call-case (at j) c) (sound-at W writer S starts cs j) s m h in
       moved i j m (call (at j) c .after .pool) (w .key) (w .value) (f (w .kept))
 
   begun-perhaps : (s k m i : ℕ) (c : Option Call) → callAt cs i ≡ c → Begins S cs s k i → ¬ (Held (thenPerhaps (after S cs i) c .index .pool) s m)
   begun-perhaps s k m i none e g h = let z : _≡_ {A = ℕ} 0 1 = (let x = sym e ∙ g .0 in cc) in omega arith
   begun-perhaps s k m i (some c) e g h =
-      begun-none (at i) c (call (at i) c) s k m (callCase (at i) c) (sound-at W writer S starts cs i .safe) (by-call S cs i c (beginning s k) ok e g) h
+      begun-none (at i) c (call (at i) c) s k m (call-case (at i) c) (sound-at W writer S starts cs i .safe) (by-call S cs i c (beginning s k) ok e g) h
 
   pub kept-ticket : (s k i j m : ℕ) → Reading S cs s k i j → Kept (at j .pool) s m → (t : ℕ) × (i < t) × (t ≤ j) × TicketAt S cs j m t
   unfolding after

@@ -31,7 +31,7 @@ use Rattle.spec.specs.Calls.{insertTests, deleteTests, writerTests, firstFinds,
 use Rattle.readers.specs.CallCase.{CallCase, refuses, plansInsert, plansDelete, waits, stores, begins, loads, misses, finds, leaves, testsOf}
 use Rattle.readers.specs.CallCase.{Clear, not-false}
 use Rattle.readers.specs.Safe.{Safe}
-use Rattle.runs.specs.Sound.{store-carriedOut}
+use Rattle.runs.specs.Sound.{store-notice}
 use Rattle.runs.specs.Answers.{toldOf}
 
 -- a mask that is not 0 has a slot
@@ -242,7 +242,7 @@ turn-goes st c o (refuses d x) e z = absurd (x e)
 turn-goes st c o (plansInsert j v f) e z = refl
 turn-goes st c o (plansDelete j f) e z = refl
 turn-goes st c o (waits d) e z = absurd (d z)
-turn-goes st c o (stores a w f) e z = store-carriedOut (stepMade st (storeOf (st .register) 0 .link) (storeOf (st .register) 0 .step))
+turn-goes st c o (stores a w f) e z = store-notice (stepMade st (storeOf (st .register) 0 .link) (storeOf (st .register) 0 .step))
 turn-goes st c o (begins t j u f) e z = refl
 turn-goes st c o (loads t n p l f) e z = refl
 turn-goes st c o (misses t n p l f) e z = refl

@@ -65,9 +65,9 @@ leavesTree-end st s u h =
     }
 
 -- a store is heard as a store
-pub store-carriedOut : (m : Made) → noticeOf (stored m .answer) ≡ carriedOut
+pub store-notice : (m : Made) → noticeOf (stored m .answer) ≡ carriedOut
 unfolding stored
-store-carriedOut m = go (eqb (lessFirst (m .after .register .write) .count) 0)
+store-notice m = go (eqb (lessFirst (m .after .register .write) .count) 0)
   where
     go : (b : Bool) → noticeOf (cond b (done (m .link) (m .node)) (more (m .link) (m .node))) ≡ carriedOut
     go true = refl
@@ -99,7 +99,7 @@ module _ (W : State → Plain → Linked → Type 0) (writer : Writer W) where
   sound-next st x c o (waits d) h = h
   sound-next st x c o (stores a w f) h =
       let s = writer .store st x (h .tree) (h .safe) (h .holds) a w f in
-      rw (store-carriedOut (stepMade st (storeOf (st .register) 0 .link) (storeOf (st .register) 0 .step)))
+      rw (store-notice (stepMade st (storeOf (st .register) 0 .link) (storeOf (st .register) 0 .step)))
       (record { safe = safe-store st (afterStore st) _ (h .tree) (h .safe) s; tree = s .tree; holds = s .kept })
   sound-next st x c o (begins s k u e) h =
       record { safe = safe-reader st s _ u refl (λ d. absurd (d refl)) (h .safe); tree = h .tree; holds = writer .leavesTree st _ x (h .tree) (h .holds) (leavesTree-reader st s _) }

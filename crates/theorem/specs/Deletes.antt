@@ -42,7 +42,7 @@ use Rattle.tree.specs.Erase.{erase, eraseWay, erase-plug, erase-find, erase-int
 use Rattle.heap.specs.Rep.{Rep}
 use Rattle.heap.specs.Sites.{linkTo, site-of}
 use Rattle.heap.specs.Colours.{colours}
-use Rattle.heap.specs.Shift.{listStore, heldAfter}
+use Rattle.heap.specs.Shift.{isListStore, heldAfter}
 use Rattle.heap.specs.Plans.{Rest, Placed, empty-at, held-at, placed}
 use Rattle.heap.specs.Writes.{InHand}
 use Rattle.heap.specs.Accept.{accepted-in-hand, searched, heldOf, delete-possible}
@@ -85,8 +85,8 @@ few-removal p n x path = cond-both {A = Fixup} Few (isRed p n) {x = fixupResult 
 
 -- The form of a delete: its list store is the first or the second.
 data Shape (w : Plan) : ℕ → Type 0 where
-  at-once : (s : Store) (l : List Store) → w .stores ≡ s ∷ l → listStore (s .step) ≡ true → ((capacity h : ℕ) → heldAfter (s .step) capacity h ≡ h - 1) → takesAll (s ∷ l) ≤ 4 → Shape w 1
-  second : (s t : Store) (l : List Store) → w .stores ≡ s ∷ t ∷ l → listStore (s .step) ≡ false → listStore (t .step) ≡ true → ((capacity h : ℕ) → heldAfter (t .step) capacity h ≡ h - 1)
+  at-once : (s : Store) (l : List Store) → w .stores ≡ s ∷ l → isListStore (s .step) ≡ true → ((capacity h : ℕ) → heldAfter (s .step) capacity h ≡ h - 1) → takesAll (s ∷ l) ≤ 4 → Shape w 1
+  second : (s t : Store) (l : List Store) → w .stores ≡ s ∷ t ∷ l → isListStore (s .step) ≡ false → isListStore (t .step) ≡ true → ((capacity h : ℕ) → heldAfter (t .step) capacity h ≡ h - 1)
       → takesAll (s ∷ t ∷ l) ≤ 4 → Shape w 2
 
 cell-there : (p : List ℕ) (i : ℕ) (K : Node) (u w : Linked) → Rep p i (cell K u w) → i ≢ 0

@@ -27,7 +27,7 @@ use Rattle.tree.specs.Thin.{Thin}
 use Rattle.tree.specs.Zipper.{Thins}
 use Rattle.tree.specs.Occurs.{occ-in}
 use Rattle.heap.specs.Rep.{Rep}
-use Rattle.heap.specs.Shift.{Shift, listStore, takenBy, awaitedAfter, Ready, Next, later}
+use Rattle.heap.specs.Shift.{Shift, isListStore, takenBy, awaitedAfter, Ready, Next, later}
 use Rattle.heap.specs.Effects.{shift-thin}
 use Rattle.heap.specs.Phase.{phase-rep}
 use Rattle.heap.specs.Writes.{InHand, turn}
@@ -41,7 +41,7 @@ use Rattle.readers.specs.Safe.{Safe}
 use Rattle.runs.specs.Writer.{Stores}
 use Rattle.theorem.specs.Nodes.{Moves, shift-moves}
 use Rattle.theorem.specs.Ways.{shift-owner, shift-gone}
-use Rattle.theorem.specs.Steps.{QueueKept, parts-turn}
+use Rattle.theorem.specs.Steps.{QueueHas, parts-turn}
 
 -- the link of a tree's node unfolds
 sub-rep : (p : List ℕ) (t : Linked) (a d : ℕ) (z : Side) → Rep p a t → d ∈ nodes t → (u : Linked) × Rep p (child p z d) u
@@ -77,7 +77,7 @@ unfolding stored
 after-is m = refl
 
 module _ (st : State) (G : Tree) (T : Linked) (x : Store) (l : List Store) (safe : Safe st) (hand : InHand st G T (x ∷ l)) (lk : (n : ℕ) → HasStanding (st .pool) n standingLinked ↔ (n ∈ nodes T))
-    (ready : Ready st T (takenBy (x .step) (st .register .first))) (exactOf : QueueKept st (takenBy (x .step) (st .register .first))) where
+    (ready : Ready st T (takenBy (x .step) (st .register .first))) (exactOf : QueueHas st (takenBy (x .step) (st .register .first))) where
   abbrev pub made : Made
   made = stepMade st (x .link) (x .step)
 
@@ -123,7 +123,7 @@ module _ (st : State) (G : Tree) (T : Linked) (x : Store) (l : List Store) (safe
   ways : Thins (Unlinked (stored made .after .pool)) T (next .tree) ⊎ (stored made .after .register .awaited ≡ readingSlots (st .register))
   ways = go (profile (x .step) .awaits) (next .shift) (next .fields .awaited)
     where
-      go : (a : Bool) → Shift T (next .tree) (made .link) (made .node) (takenBy (x .step) (st .register .first)) (next .gone) (listStore (x .step)) a
+      go : (a : Bool) → Shift T (next .tree) (made .link) (made .node) (takenBy (x .step) (st .register .first)) (next .gone) (isListStore (x .step)) a
           → made .after .register .awaited ≡ cond a (readingSlots (st .register)) (st .register .awaited)
           → Thins (Unlinked (stored made .after .pool)) T (next .tree) ⊎ (stored made .after .register .awaited ≡ readingSlots (st .register))
       go true sh e = inr (rw (after-is made) (write-awaited (made .after .register) _ ∙ e))

@@ -60,8 +60,8 @@ module _ (p : List ℕ) (root : ℕ) where
   there : (fs : List Frame) (t : Linked) (i : ℕ) → 0 < occ i (nodes t) → 0 < occ i (nodes (plug fs t))
   there fs t i u = let a = occ-plug fs t i in omega arith
 
-  capacity : (s : Side) (N : Node) (x y : Linked) → 0 < occ (N .num) (nodes (at s N x y))
-  capacity s N x y = let a = occ-at s N x y (N .num) in let b = one-same (N .num) in omega arith
+  top : (s : Side) (N : Node) (x y : Linked) → 0 < occ (N .num) (nodes (at s N x y))
+  top s N x y = let a = occ-at s N x y (N .num) in let b = one-same (N .num) in omega arith
 
   near-in : (s : Side) (N : Node) (x y : Linked) (i : ℕ) → 0 < occ i (nodes x) → 0 < occ i (nodes (at s N x y))
   near-in s N x y i u = let a = occ-at s N x y i in omega arith
@@ -71,45 +71,45 @@ module _ (p : List ℕ) (root : ℕ) where
 
   pub shift-owner : {T T′ : Linked} {l : Link} {v : ℕ} {came gone : List ℕ} {b w : Bool} → Shift T T′ l v came gone b w → ((n : ℕ) → 0 < occ n (nodes T) → HasStanding p n standingLinked) → OwnerLinked p l
   shift-owner (by-insert fs Z i w) lk = link-owner fs nil lk
-  shift-owner (by-diag-lower fs s B C n o x r ord w z) lk = owner-at p (other s) (B .num) (lk (B .num) (there fs _ (B .num) (near-in s C (at s B o x) r (B .num) (capacity s B o x))))
+  shift-owner (by-diag-lower fs s B C n o x r ord w z) lk = owner-at p (other s) (B .num) (lk (B .num) (there fs _ (B .num) (near-in s C (at s B o x) r (B .num) (top s B o x))))
   shift-owner (by-diag-raise fs s B C n o x r ord w z) lk = link-owner fs _ lk
   shift-owner (by-zig-A fs s A B C m a x y r ord w z) lk =
-      owner-at p s (B .num) (lk (B .num) (there fs _ (B .num) (near-in s C (at s A a (at s B x y)) r (B .num) (far-in s A a (at s B x y) (B .num) (capacity s B x y)))))
+      owner-at p s (B .num) (lk (B .num) (there fs _ (B .num) (near-in s C (at s A a (at s B x y)) r (B .num) (far-in s A a (at s B x y) (B .num) (top s B x y)))))
   shift-owner (by-zig-C fs s A B C m n a x y r ord w z q d) lk =
-      owner-at p (other s) (B .num) (lk (B .num) (there fs _ (B .num) (near-in s C _ r (B .num) (far-in s A a _ (B .num) (capacity s B (at s (copy A m) a x) y)))))
+      owner-at p (other s) (B .num) (lk (B .num) (there fs _ (B .num) (near-in s C _ r (B .num) (far-in s A a _ (B .num) (top s B (at s (copy A m) a x) y)))))
   shift-owner (by-zig-raise fs s A B C m n a x y r ord w z q d) lk = link-owner fs _ lk
   shift-owner (by-unlink fs s B x ord w) lk = link-owner fs _ lk
-  shift-owner (by-adopt fs B C l y ord w) lk = lk (C .num) (there fs _ (C .num) (far-in L B l (at L C nil y) (C .num) (capacity L C nil y)))
+  shift-owner (by-adopt fs B C l y ord w) lk = lk (C .num) (there fs _ (C .num) (far-in L B l (at L C nil y) (C .num) (top L C nil y)))
   shift-owner (by-replace fs B C l y ord w) lk = link-owner fs _ lk
   shift-owner (by-publish fs gs B C n l y al ord w z) lk = link-owner fs _ lk
   shift-owner (by-detach fs gs B C n l y al ord w z) lk = link-owner (gs ++ (hole R (copy C n) l ∷ fs)) (at L C nil y)
       (λ i u. lk i (subst (λ t. 0 < occ i (nodes t)) (plug-append gs (hole R (copy C n) l ∷ fs) (at L C nil y)) u))
 
   -- the nodes that go stand in the tree, and the link is not theirs
-  abbrev pub Going : Linked → Link → ℕ → Type 0
-  Going T l i = (0 < occ i (nodes T)) × (owner l ≢ i)
+  abbrev pub Leaving : Linked → Link → ℕ → Type 0
+  Leaving T l i = (0 < occ i (nodes T)) × (owner l ≢ i)
 
-  at-place : (fs : List Frame) (t : Linked) (c : ℕ) → Rep p root (plug fs t) → 0 < occ c (nodes t) → (i : ℕ) → i ∈ (c ∷ []) → Going (plug fs t) (linkTo fs) i
-  at-place fs t c h u i (inl e) = subst (λ j. Going (plug fs t) (linkTo fs) j) (sym e) (there fs t c u, owner-apart p root fs t c h u)
+  at-place : (fs : List Frame) (t : Linked) (c : ℕ) → Rep p root (plug fs t) → 0 < occ c (nodes t) → (i : ℕ) → i ∈ (c ∷ []) → Leaving (plug fs t) (linkTo fs) i
+  at-place fs t c h u i (inl e) = subst (λ j. Leaving (plug fs t) (linkTo fs) j) (sym e) (there fs t c u, owner-apart p root fs t c h u)
   at-place fs t c h u i (inr e) = absurd e
 
-  pub shift-gone : {T T′ : Linked} {l : Link} {v : ℕ} {came gone : List ℕ} {b w : Bool} → Shift T T′ l v came gone b w → Rep p root T → (i : ℕ) → i ∈ gone → Going T l i
+  pub shift-gone : {T T′ : Linked} {l : Link} {v : ℕ} {came gone : List ℕ} {b w : Bool} → Shift T T′ l v came gone b w → Rep p root T → (i : ℕ) → i ∈ gone → Leaving T l i
   shift-gone (by-insert fs Z k w) h i j = absurd j
   shift-gone (by-diag-lower fs s B C n o x r ord w z) h i j = absurd j
-  shift-gone (by-diag-raise fs s B C n o x r ord w z) h i j = at-place fs (diag₁ s B C n o x r) (C .num) h (capacity s C _ r) i j
+  shift-gone (by-diag-raise fs s B C n o x r ord w z) h i j = at-place fs (diag₁ s B C n o x r) (C .num) h (top s C _ r) i j
   shift-gone (by-zig-A fs s A B C m a x y r ord w z) h i j = absurd j
   shift-gone (by-zig-C fs s A B C m n a x y r ord w z q d) h i j = absurd j
   shift-gone (by-zig-raise fs s A B C m n a x y r ord w z q d) h i (inl e) =
-      at-place fs (zig₂ s A B C m n a x y r) (A .num) h (near-in s C (at s A a (at s B (at s (copy A m) a x) (at s (copy C n) y r))) r (A .num) (capacity s A a _)) i (inl e)
-  shift-gone (by-zig-raise fs s A B C m n a x y r ord w z q d) h i (inr j) = at-place fs (zig₂ s A B C m n a x y r) (C .num) h (capacity s C _ r) i j
-  shift-gone (by-unlink fs s B x ord w) h i j = at-place fs (at s B x nil) (B .num) h (capacity s B x nil) i j
+      at-place fs (zig₂ s A B C m n a x y r) (A .num) h (near-in s C (at s A a (at s B (at s (copy A m) a x) (at s (copy C n) y r))) r (A .num) (top s A a _)) i (inl e)
+  shift-gone (by-zig-raise fs s A B C m n a x y r ord w z q d) h i (inr j) = at-place fs (zig₂ s A B C m n a x y r) (C .num) h (top s C _ r) i j
+  shift-gone (by-unlink fs s B x ord w) h i j = at-place fs (at s B x nil) (B .num) h (top s B x nil) i j
   shift-gone (by-adopt fs B C l y ord w) h i j = absurd j
-  shift-gone (by-replace fs B C l y ord w) h i j = at-place fs (form₁ L B C l y) (B .num) h (capacity L B l (at L C l y)) i j
-  shift-gone (by-publish fs gs B C n l y al ord w z) h i j = at-place fs (third₀ L B C n l y gs) (B .num) h (capacity L B l (plug gs (at L C nil y))) i j
+  shift-gone (by-replace fs B C l y ord w) h i j = at-place fs (form₁ L B C l y) (B .num) h (top L B l (at L C l y)) i j
+  shift-gone (by-publish fs gs B C n l y al ord w z) h i j = at-place fs (third₀ L B C n l y gs) (B .num) h (top L B l (plug gs (at L C nil y))) i j
   shift-gone (by-detach fs gs B C n l y al ord w z) h i j =
       let W = gs ++ (hole R (copy C n) l ∷ fs) in
       let e = plug-append gs (hole R (copy C n) l ∷ fs) (at L C nil y) in
-      subst (λ t. Going t (linkTo W) i) e (at-place W (at L C nil y) (C .num) (subst (λ t. Rep p root t) (sym e) h) (capacity L C nil y) i j)
+      subst (λ t. Leaving t (linkTo W) i) e (at-place W (at L C nil y) (C .num) (subst (λ t. Rep p root t) (sym e) h) (top L C nil y) i j)
 
   -- two that go are two
   abbrev pub Two : List ℕ → Type 0
@@ -127,7 +127,7 @@ module _ (p : List ℕ) (root : ℕ) where
       let low = at s A a (at s B (at s (copy A m) a x) (at s (copy C n) y r)) in
       let site = site-of p root fs (zig₂ s A B C m n a x y r) h in
       let z = not-below-at p _ s C low r (site .sub) .0 in
-      let b = capacity s A a (at s B (at s (copy A m) a x) (at s (copy C n) y r)) in
+      let b = top s A a (at s B (at s (copy A m) a x) (at s (copy C n) y r)) in
       let c : occ (A .num) (nodes low) ≡ occ (C .num) (nodes low) = ap (λ i. occ i (nodes low)) e in
       absurd (omega arith)
   shift-two (by-unlink fs s B x ord w) h = tt
