@@ -8,7 +8,6 @@ use mathlib.Core.Option.{Option, none, some}
 use lib.ListN.{length}
 use native.Mathlib.Omega.{arith}
 use Rattle.datatypes.specs.declared.Side.{Side}
-use Rattle.datatypes.specs.declared.Side.the-variants.{R}
 use Rattle.datatypes.specs.declared.Link.{Link}
 use Rattle.datatypes.specs.declared.Form.{Form}
 use Rattle.datatypes.specs.declared.Form.the-variants.{Diag, Zig}
@@ -26,7 +25,7 @@ use Rattle.sequential.specs.Insert as SeqInsert
 use Rattle.sequential.specs.Delete as SeqDelete
 use Rattle.tree.specs.Linked.{Linked, find}
 use Rattle.tree.specs.Zipper.{Frame, hole}
-use Rattle.tree.specs.Erase.{erase, eraseWay}
+use Rattle.tree.specs.Erase.{erase}
 use Rattle.tree.specs.InsertFixup.{InsertFixupEnd, balanced, rotate, rootRed}
 use Rattle.tree.specs.DeleteFixup.{noNephew, nephew, DeleteFixupEnd, darken, atBlackSibling, atRedSibling}
 use Rattle.heap.specs.Sites.{linkTo}

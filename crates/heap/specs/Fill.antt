@@ -15,7 +15,7 @@ use Rattle.datatypes.specs.declared.Register.{Register}
 use Rattle.datatypes.specs.Side.{other}
 use Rattle.base.specs.Walk.{cond-both}
 use Rattle.spec.specs.Numbers.{nodeWords}
-use Rattle.spec.specs.Pool.{word, setWord, child, keyWord, recordWord, colourWord, standingWord, holdersWord, nextWord, standingFree, standingRetired}
+use Rattle.spec.specs.Pool.{word, setWord, child, keyWord, recordAt, colourWord, standingWord, holdersWord, nextWord, standingFree, standingRetired}
 use Rattle.spec.specs.Register.{State, withQueue, readingSlots}
 use Rattle.spec.specs.Free.{queueEmpty, takeFree, fillNode, takeNode, freeNode, retire, retireTwo}
 use Rattle.spec.specs.FreeQueue.{InPool}
@@ -30,7 +30,7 @@ pub record Filled (p q : List ℕ) (n k v : ℕ) (s : Side) (x y c : ℕ) : Type
   pub size : length q ≡ length p
   pub others : (m f : ℕ) → n ≢ m → f < nodeWords → word q m f ≡ word p m f
   pub key-is : word q n keyWord ≡ k
-  pub val-is : word q n recordWord ≡ v
+  pub val-is : recordAt q n ≡ v
   pub near-is : child q s n ≡ x
   pub far-is : child q (other s) n ≡ y
   pub colour-is : colours q n ≡ hue c

@@ -18,7 +18,6 @@ use Rattle.spec.specs.Plan.{endingStores, paintInsertFixup, store}
 use Rattle.spec.specs.Turn.{made, oneMore, blackRoot, endInsert, insertStore, stepFinds}
 use Rattle.sequential.specs.Tree as Seq
 use Rattle.sequential.specs.Tree.{Colour, red, black, Tree, node, leaf}
-use Rattle.sequential.specs.Insert as SeqInsert
 use Rattle.sequential.specs.Delete.{insertion}
 use Rattle.tree.specs.Sorted.{NotLeaf}
 use Rattle.tree.specs.Changes.{Proper, changed-proper}

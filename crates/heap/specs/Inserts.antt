@@ -12,7 +12,7 @@ use Rattle.datatypes.specs.declared.Side.{Side}
 use Rattle.datatypes.specs.Side.{other, sameSide, owner-at}
 use Rattle.spec.specs.Numbers.{nodeWords, mostNodes, pathBound}
 use Rattle.spec.specs.Register.{State}
-use Rattle.spec.specs.Plan.{fixupResult, endingStores, missing, insertFixup, fixupAfterInsert}
+use Rattle.spec.specs.Plan.{fixupResult, endingStores, missing, fixupAfterInsert}
 use Rattle.spec.specs.FreeQueue.{InPool}
 use Rattle.sequential.specs.Tree as Seq
 use Rattle.sequential.specs.Tree.{Colour, red, black, Tree, mk, colourOf}

@@ -6,7 +6,7 @@ use mathlib.Core.Logic.{_≢_}
 use mathlib.Core.Bool.{Bool, true, false}
 use mathlib.Core.List.{List, [], _∷_}
 use Rattle.datatypes.specs.declared.Side.{Side}
-use Rattle.datatypes.specs.declared.Side.the-variants.{L, R}
+use Rattle.datatypes.specs.declared.Side.the-variants.{L}
 use Rattle.datatypes.specs.declared.Purpose.{Purpose}
 use Rattle.datatypes.specs.declared.Purpose.the-variants.{ForInsert, RedSibling, BlackSibling}
 use Rattle.datatypes.specs.declared.Ending.{Ending}

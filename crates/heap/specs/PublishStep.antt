@@ -15,7 +15,6 @@ use Rattle.spec.specs.Free.{takeNode, retire}
 use Rattle.spec.specs.Plan.{store, endingStores}
 use Rattle.spec.specs.Turn.{made, colourOf as colourWordOf, oneLess, movedStore, movedWrite, publishStore, stepFinds}
 use Rattle.sequential.specs.Tree.{Colour, red, black, Tree, colourOf}
-use Rattle.sequential.specs.Delete.{delete}
 use Rattle.tree.specs.Linked.{Node, copy, Linked, nil, cell, at, nodes}
 use Rattle.tree.specs.LinkedOrder.{ordered-bare, ordered-within, into-top}
 use Rattle.tree.specs.Zipper.{Frame, hole, plug, plug-append, sameBut-lift}

@@ -10,7 +10,7 @@ use Rattle.datatypes.specs.declared.Side.{Side}
 use Rattle.datatypes.specs.declared.Side.the-variants.{L, R}
 use Rattle.datatypes.specs.Side.{other}
 use Rattle.spec.specs.Numbers.{nodeWords}
-use Rattle.spec.specs.Pool.{word, setWord, child, keyWord, recordWord, rightWord, colourWord, leftWord}
+use Rattle.spec.specs.Pool.{word, setWord, child, keyWord, recordAt, recordWord, rightWord, colourWord, leftWord}
 use Rattle.spec.specs.FreeQueue.{InPool}
 use Rattle.laws.specs.Words.{length-setWord, word-other}
 use Rattle.tree.specs.Linked.{Node, Linked, nil, cell, at, nodes}
@@ -21,7 +21,7 @@ pub record Words (p : List ℕ) (a : ℕ) (N : Node) : Type 0 where
   pub is : a ≡ N .num
   pub within : InPool p (N .num)
   pub key-is : word p (N .num) keyWord ≡ N .key
-  pub val-is : word p (N .num) recordWord ≡ N .val
+  pub val-is : recordAt p (N .num) ≡ N .val
 
 -- the link value a unfolds to the tree
 abbrev pub Rep : List ℕ → ℕ → Linked → Type 0
@@ -97,7 +97,7 @@ same-node : (p : List ℕ) (a b : ℕ) (N M : Node) → a ≡ b → Words p a N 
 same-node p a b N M e w x =
     let n : N .num ≡ M .num = sym (w .is) ∙ e ∙ x .is in
     let k : N .key ≡ M .key = sym (w .key-is) ∙ ap (λ m. word p m keyWord) n ∙ x .key-is in
-    let v : N .val ≡ M .val = sym (w .val-is) ∙ ap (λ m. word p m recordWord) n ∙ x .val-is in
+    let v : N .val ≡ M .val = sym (w .val-is) ∙ ap (λ m. recordAt p m) n ∙ x .val-is in
     λ i. record { num = n i; key = k i; val = v i }
 
 pub rep-unique : (p : List ℕ) (t u : Linked) (a b : ℕ) → a ≡ b → Rep p a t → Rep p b u → t ≡ u

@@ -20,8 +20,8 @@ use Rattle.spec.specs.Plan.{fixupResult, endingStores, fixupAfterRemoval, paint
 use Rattle.spec.specs.Turn.{made, painted, colourOf as colourWordOf, oneLess, replaceStore, stepFinds}
 use Rattle.sequential.specs.Tree as Seq
 use Rattle.sequential.specs.Tree.{Colour, red, black, Tree, colourOf}
-use Rattle.sequential.specs.Delete.{afterRemoval, rbDeleteFixup, delete}
-use Rattle.tree.specs.Linked.{Node, Linked, nil, at, nodes}
+use Rattle.sequential.specs.Delete.{afterRemoval, rbDeleteFixup}
+use Rattle.tree.specs.Linked.{Linked, nil, at, nodes}
 use Rattle.tree.specs.LinkedOrder.{ordered-bare, ordered-within, into-top}
 use Rattle.tree.specs.Zipper.{Frame, hole, plug, Into, same-lift, sameBut-lift}
 use Rattle.tree.specs.Erase.{erase, eraseWay, erase-plug, erase-find}

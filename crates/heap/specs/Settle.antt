@@ -6,7 +6,6 @@ use mathlib.Core.List.{List, [], _∷_, _++_, map}
 use Rattle.base.specs.Walk.{cond-both}
 use Rattle.datatypes.specs.declared.Link.{Link}
 use Rattle.datatypes.specs.declared.Side.{Side}
-use Rattle.datatypes.specs.declared.Side.the-variants.{R}
 use Rattle.datatypes.specs.declared.Form.{Form}
 use Rattle.datatypes.specs.declared.Form.the-variants.{Diag, Zig}
 use Rattle.datatypes.specs.declared.Purpose.{Purpose}

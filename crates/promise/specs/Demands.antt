@@ -17,7 +17,7 @@ use Rattle.sequential.specs.Tree.{Colour, red, black, Tree, leaf, node}
 use Rattle.sequential.specs.Delete.{changedBy}
 use Rattle.base.specs.Lists.{_∈_, Distinct}
 use Rattle.spec.specs.Numbers.{slots, mostStores}
-use Rattle.spec.specs.Pool.{word, child, nodes, keyWord, recordWord, colourWord, standingWord, standingFree, blackColour, redColour}
+use Rattle.spec.specs.Pool.{word, child, nodes, keyWord, recordAt, colourWord, standingWord, standingFree, blackColour, redColour}
 use Rattle.spec.specs.Register.{State, state, withReader, readerOf, storeOf, hasSlot, readingAt}
 use Rattle.spec.specs.Turn.{profile}
 use Rattle.spec.specs.Calls.{Answer, go, absent, found, more, done, wait, refused, Outcome, Call, writing, call, reading, writeInHand, readerStep}
@@ -107,7 +107,7 @@ Stands p a leaf = a ≡ 0
 Stands p a (node c k v l r) =
     (1 ≤ a) × (a ≤ nodes p)
     × (word p a keyWord ≡ k)
-    × (word p a recordWord ≡ v)
+    × (recordAt p a ≡ v)
     × (word p a colourWord ≡ colourNumber c)
     × Stands p (child p L a) l
     × Stands p (child p R a) r

@@ -9,14 +9,14 @@ use native.Mathlib.Decide.{ℕ-discrete}
 use lib.Dec.{eqb}
 use borrow.Author.Tests.{eqb-true, eqb-false, leb-false}
 use Rattle.spec.specs.Numbers.{slots}
-use Rattle.spec.specs.Pool.{word, child, keyWord, recordWord}
+use Rattle.spec.specs.Pool.{word, child, keyWord, recordAt}
 use Rattle.spec.specs.Register.{State, state, readerOf, storeOf, withReader, withWrite, writeOf, begunReader, movedReader}
 use Rattle.spec.specs.Free.{endReading}
 use Rattle.spec.specs.Search.{towards}
 use Rattle.spec.specs.Turn.{stepFinds, stepMade}
-use Rattle.spec.specs.Calls.{ok, go, absent, wait, found, refused, Outcome, outcome, Test, _gives_, firstOf, unless, wrongLength, outOfRange}
+use Rattle.spec.specs.Calls.{ok, go, absent, wait, found, refused, Outcome, outcome, Test, _gives_, firstOf, unless}
 use Rattle.spec.specs.Calls.{insertTests, deleteTests, waiting, firstFinds, writerTests, beginTests, reading, writeInHand, placeOf, insertAt, deleteAt, insert, delete, stored, writerTurn, begin, loaded}
-use Rattle.spec.specs.Calls.{readerStep, readerTests, tooDeep, isHeld, full, fewerFree, readerTurn, giveUp, Call, inserting, deleting, writing}
+use Rattle.spec.specs.Calls.{readerStep, readerTests, readerTurn, giveUp, Call, inserting, deleting, writing}
 use Rattle.spec.specs.Calls.{beginning, turning, givingUp, call}
 use Rattle.promise.specs.Run.{Reads}
 use Rattle.readers.specs.Descends.{step-root, step-found, step-child, load-none, load-some}
@@ -55,7 +55,7 @@ pub data CallCase (st : State) : Call → Outcome → Type 0 where
       → CallCase st (turning s) (outcome go (state (st .pool) (withReader (st .register) s (movedReader (readerOf (st .register) s) n))))
   misses : (s n : ℕ) → Passed st s → Loads st s n → n ≡ 0 → CallCase st (turning s) (outcome absent (endReading st s))
   finds : (s : ℕ) → Passed st s → readerOf (st .register) s .node ≢ 0 → readerOf (st .register) s .key ≡ word (st .pool) (readerOf (st .register) s .node) keyWord
-      → CallCase st (turning s) (outcome (found (word (st .pool) (readerOf (st .register) s .node) recordWord)) (endReading st s))
+      → CallCase st (turning s) (outcome (found (recordAt (st .pool) (readerOf (st .register) s .node))) (endReading st s))
   leaves : (s : ℕ) → Passed st s → CallCase st (givingUp s) (outcome ok (endReading st s))
 
 -- a call with tests: refused, or all tests passed

@@ -5,20 +5,17 @@ use mathlib.Core.List.{List, [], _∷_}
 use native.Mathlib.Omega.{arith}
 use lib.ListN.{length}
 use Rattle.datatypes.specs.declared.Link.{Link}
-use Rattle.datatypes.specs.declared.Ending.{Ending}
-use Rattle.datatypes.specs.declared.Ending.the-variants.{Balanced, Blacken, Rotate, RotateTwice, Missing}
-use Rattle.spec.specs.Pool.{word, paint, keyWord, recordWord, linkWord, standingWord, holdersWord, nextWord, blackColour}
-use Rattle.spec.specs.Register.{State, state, withHeld}
-use Rattle.spec.specs.Turn.{painted, oneMore, endInsert}
+use Rattle.spec.specs.Pool.{word, keyWord, recordWord, linkWord, standingWord, holdersWord, nextWord}
+use Rattle.spec.specs.Register.{State, state}
 use Rattle.spec.specs.FreeQueue.{Chain}
 use Rattle.laws.specs.Queue.{link-low}
-use Rattle.heap.specs.ColourWork.{ColoursOnly, coloursOnly-refl, coloursOnly-trans, coloursOnly-paint}
+use Rattle.heap.specs.ColourWork.{ColoursOnly}
 use Rattle.readers.specs.Words.{node-length}
 use Rattle.readers.specs.QueueExact.{pool-exact, field-exact}
 use Rattle.readers.specs.Owned.{Owned}
 use Rattle.readers.specs.Stored.{Stored}
 
--- Only colours differ (heap: Tints), and keys held.
+-- Only colours differ (heap: ColourWork), and keys held.
 pub record Recoloured (a b : State) : Type 0 where
   pub only : ColoursOnly (a .pool) (b .pool)
   pub root : b .register .root ≡ a .register .root
@@ -28,37 +25,9 @@ pub record Recoloured (a b : State) : Type 0 where
   pub readers : b .register .readers ≡ a .register .readers
   pub awaited : b .register .awaited ≡ a .register .awaited
 
-pub recoloured-trans : {a b c : State} → Recoloured a b → Recoloured b c → Recoloured a c
-recoloured-trans x y = record {
-  only = coloursOnly-trans (x .only) (y .only);
-  root = y .root ∙ x .root;
-  first = y .first ∙ x .first;
-  last = y .last ∙ x .last;
-  free = y .free ∙ x .free;
-  readers = y .readers ∙ x .readers;
-  awaited = y .awaited ∙ x .awaited;
-}
-
--- a pool that is tinted, under the same register
+-- another pool that differs in colours alone, under the same register
 pub recoloured-pool : (st : State) (q : List ℕ) → ColoursOnly (st .pool) q → Recoloured st (state q (st .register))
 recoloured-pool st q t = record { only = t; root = refl; first = refl; last = refl; free = refl; readers = refl; awaited = refl }
-
-pub recoloured-refl : (st : State) → Recoloured st st
-recoloured-refl st = recoloured-pool st (st .pool) (coloursOnly-refl (st .pool))
-
-pub recoloured-paint : (st : State) (n c : ℕ) → Recoloured st (painted st n c)
-recoloured-paint st n c = recoloured-pool st (paint (st .pool) n c) (coloursOnly-paint (st .pool) n c)
-
-pub recoloured-more : (st : State) → Recoloured st (oneMore st)
-unfolding withHeld
-recoloured-more st = record { only = coloursOnly-refl (st .pool); root = refl; first = refl; last = refl; free = refl; readers = refl; awaited = refl }
-
-pub recoloured-insert : (e : Ending) (st : State) → Recoloured st (endInsert e st)
-recoloured-insert Balanced st = recoloured-paint st (st .register .root) blackColour
-recoloured-insert Blacken st = recoloured-refl st
-recoloured-insert (Rotate t) st = recoloured-refl st
-recoloured-insert (RotateTwice t u) st = recoloured-refl st
-recoloured-insert Missing st = recoloured-refl st
 
 -- Who has which node stays.
 chain-same : (p q : List ℕ) → length q ≡ length p → ((n : ℕ) → word q n nextWord ≡ word p n nextWord) → (a : ℕ) (l : List ℕ) → Chain p a l → Chain q a l

@@ -9,7 +9,7 @@ use lib.ListN.{length}
 use borrow.Author.Tests.{ne-eqb}
 use Rattle.datatypes.specs.declared.Side.{Side}
 use Rattle.datatypes.specs.declared.Side.the-variants.{L, R}
-use Rattle.spec.specs.Pool.{word, child, keyWord, recordWord}
+use Rattle.spec.specs.Pool.{word, child, keyWord, recordAt}
 use Rattle.tree.specs.Linked.{Linked, nil, cell}
 use Rattle.tree.specs.Graft.{hits, graft, All, Keyed}
 use Rattle.heap.specs.Rep.{Rep}
@@ -18,7 +18,7 @@ use Rattle.heap.specs.Rep.{Rep}
 pub record Redirects (p q : List ℕ) (U : ℕ → Type 0) (d : ℕ) (s : Side) (b : ℕ) : Type 0 where
   pub size : length q ≡ length p
   pub keys : (n : ℕ) → U n → word q n keyWord ≡ word p n keyWord
-  pub records : (n : ℕ) → U n → word q n recordWord ≡ word p n recordWord
+  pub records : (n : ℕ) → U n → recordAt q n ≡ recordAt p n
   pub links : (n : ℕ) (z : Side) → U n → child q z n ≡ cond (hits d s n z) b (child p z n)
 
 module _ (p q : List ℕ) (U : ℕ → Type 0) (d : ℕ) (s : Side) (b : ℕ) (tb : Linked) (h : Redirects p q U d s b) (hb : Rep q b tb) where

@@ -26,7 +26,7 @@ use Rattle.readers.specs.Words.{node-length, node-high, free-length, fre
 use Rattle.readers.specs.Words.{marked-length, marked-other, marked-standing, marked-holders, fill-length, fill-other, fill-standing}
 use Rattle.readers.specs.Words.{fill-holders}
 use Rattle.readers.specs.QueueExact.{QueueExact, free-exact, take-exact, mark-exact, word-exact, field-exact}
-use Rattle.readers.specs.Release.{else-free, retired, freedBelow, end-released}
+use Rattle.readers.specs.Release.{else-free, freedBelow, end-released}
 
 abbrev pub readingIn : List Reader → ℕ → Bool
 readingIn xs s = getD xs s noReader .reading

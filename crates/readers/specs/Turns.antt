@@ -15,7 +15,7 @@ use Rattle.datatypes.specs.declared.Link.{Link}
 use Rattle.datatypes.specs.declared.Link.the-variants.{Root, Left, Right}
 use Rattle.datatypes.specs.declared.Write.{Write}
 use Rattle.datatypes.specs.Side.{owner}
-use Rattle.spec.specs.Pool.{word, child, linkWord, keyWord, recordWord, standingWord, holdersWord, standingFree, standingLinked, standingRetired}
+use Rattle.spec.specs.Pool.{word, child, linkWord, keyWord, recordAt, recordWord, standingWord, holdersWord, standingFree, standingLinked, standingRetired}
 use Rattle.spec.specs.Register.{State, state, withWrite}
 use Rattle.spec.specs.Free.{retire, retireTwo}
 use Rattle.base.specs.Lists.{_∈_}
@@ -49,7 +49,7 @@ pub record Turn (st after : State) (came gone : List ℕ) (l : Link) (v : ℕ) :
   pub linked : (n : ℕ) → HasStanding (after .pool) n standingLinked ↔ ((HasStanding (st .pool) n standingLinked ⊎ (n ∈ came)) × (¬ (n ∈ gone)))
   pub new : (n : ℕ) → n ∈ came → HasStanding (st .pool) n standingFree
   pub keys : (n : ℕ) → ¬ (n ∈ came) → word (after .pool) n keyWord ≡ word (st .pool) n keyWord
-  pub records : (n : ℕ) → ¬ (n ∈ came) → word (after .pool) n recordWord ≡ word (st .pool) n recordWord
+  pub records : (n : ℕ) → ¬ (n ∈ came) → recordAt (after .pool) n ≡ recordAt (st .pool) n
   pub links : (n : ℕ) (z : Side) → ¬ (n ∈ came) → child (after .pool) z n ≡ cond (hitsLink l n z) v (child (st .pool) z n)
   pub root : after .register .root ≡ rootAfter l v (st .register .root)
   pub readers : after .register .readers ≡ st .register .readers

@@ -6,7 +6,7 @@ use mathlib.Core.List.{List}
 use mathlib.Core.Logic.{_≢_, inl, inr}
 use native.Mathlib.Omega.{arith}
 use native.Mathlib.Decide.{ℕ-discrete, decLe}
-use lib.ListN.{length, getD}
+use lib.ListN.{length}
 use borrow.Author.Tests.{eq-eqb, ne-eqb}
 use Rattle.base.specs.Lists.{getD-past}
 use Rattle.datatypes.specs.declared.Side.{Side}
@@ -167,7 +167,3 @@ module _ (p : List ℕ) (n k v : ℕ) (s : Side) (x y c : ℕ) where
   fill-holders h =
       word-other _ n n nextWord holdersWord 0 (omega arith) (omega arith) (inr (omega arith))
       ∙ word-same _ n holdersWord 0 (node-length p _ n (simp length-setWord) h) (omega arith)
-
-  pub fill-next : InPool p n → word (fillNode p n k v s x y c) n nextWord ≡ 0
-  unfolding fillNode
-  fill-next h = word-same _ n nextWord 0 (node-length p _ n (simp length-setWord) h) (omega arith)

@@ -14,7 +14,7 @@ use Rattle.spec.specs.Pool.{standingLinked}
 use Rattle.spec.specs.Register.{State, state, noReader, readerOf, storeOf, withReader, withAwaited, withWrite, hasSlot, dropSlot, movedReader, readingAt}
 use Rattle.spec.specs.Free.{endReading}
 use Rattle.spec.specs.Turn.{stepMade}
-use Rattle.spec.specs.Calls.{Answer, ok, go, absent, found, Outcome, reading, Call, beginning, turning, givingUp}
+use Rattle.spec.specs.Calls.{Answer, ok, absent, found, Outcome, Call, beginning, turning, givingUp}
 use Rattle.spec.specs.PlainList.{Plain, recordFor, noticeOf, feed, storeMade}
 use Rattle.laws.specs.Slots.{drop-other}
 use Rattle.promise.specs.Run.{Reads}

@@ -7,7 +7,6 @@ use mathlib.Core.Logic.{_≢_, inl, _↔_}
 use native.Mathlib.Omega.{arith}
 use lib.ListN.{length-append}
 use lib.Dec.{eqb}
-use Rattle.datatypes.specs.declared.Side.the-variants.{L, R}
 use Rattle.datatypes.specs.declared.Reader.{Reader}
 use Rattle.spec.specs.Numbers.{leastNodes, mostNodes, slots}
 use Rattle.spec.specs.Pool.{child, standingLinked, nodes as poolNodes}

@@ -34,7 +34,6 @@ use Rattle.spec.specs.Calls.{firstOf, placeOf, isHeld, deleteAt}
 use Rattle.spec.specs.PlainList.{Ticket, Plain, recordFor, without, updated, acceptedWrites, begun, adopts}
 use Rattle.laws.specs.Turns.{and-false}
 use Rattle.tree.specs.Sorted.{Ordered}
-use Rattle.tree.specs.Descent as Descent
 use Rattle.tree.specs.Descent.{descend-place}
 use Rattle.tree.specs.Changes.{changedBy-proper, find-delete, find-delete-other}
 use Rattle.tree.specs.Linked.{Node, Linked, nil, cell, find}

@@ -23,7 +23,6 @@ use Rattle.spec.specs.Calls.{stored}
 use Rattle.sequential.specs.Tree.{Tree}
 use Rattle.base.specs.Lists.{_∈_, in-append}
 use Rattle.tree.specs.Linked.{Linked, nil, cell, nodes}
-use Rattle.tree.specs.Thin.{Thin}
 use Rattle.tree.specs.Zipper.{Thins}
 use Rattle.tree.specs.Occurs.{occ-in}
 use Rattle.heap.specs.Rep.{Rep}

@@ -3,12 +3,9 @@
 use Prim.Native.Nat.{ℕ, zero, suc}
 use mathlib.Core.Path.{_≡_}
 use mathlib.Core.List.{List, [], _∷_}
-use Rattle.sequential.specs.Tree as Seq
 use Rattle.sequential.specs.Tree.{Colour, red, black, paint}
 use Rattle.tree.specs.Zipper.{Frame, hole}
 use Rattle.tree.specs.Erase.{erase, eraseWay}
-use Rattle.tree.specs.InsertFixup as InsertFixup
-use Rattle.tree.specs.DeleteFixup as DeleteFixup
 
 -- insert: on each level the parent and the aunt turn black, the grandparent red; above, the colours stay
 abbrev pub InsertColours : ℕ → (ℕ → Colour) → (ℕ → Colour) → List Frame → Type 0
