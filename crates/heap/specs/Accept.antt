@@ -40,9 +40,9 @@ use Rattle.heap.specs.DeletePlans.{delete-planned}
 use Rattle.heap.specs.Writes.{InHand, with-root, with-write}
 
 -- The stores to come are at most seven.
-turn-room : (f : Form) (l : Link) (s : Side) (c : Purpose) → length (turnStores f l s c) ≤ 3
-turn-room Diag l s c = omega arith
-turn-room Zig l s c = omega arith
+pub turn-room : (f : Form) (l : Link) (s : Side) (purpose : Purpose) → length (turnStores f l s purpose) ≤ 3
+turn-room Diag l s purpose = omega arith
+turn-room Zig l s purpose = omega arith
 
 insert-ending-room : (e : InsertFixupEnd) (fs : List Frame) → length (endingStores (insertFixupEnding e fs)) ≤ 3
 insert-ending-room balanced fs = omega arith

@@ -25,7 +25,7 @@ use Rattle.heap.specs.Parts.{unchanged, copied}
 use Rattle.heap.specs.Places.{Double, doubleTop, doubleTree, adopted, wayToC}
 use Rattle.heap.specs.Phase.{replace-0, DoublePlan, removalStores}
 use Rattle.heap.specs.Shift.{by-adopt, Next}
-use Rattle.heap.specs.RemovalFixup.{rep-num}
+use Rattle.heap.specs.Fixups.{rep-num}
 
 pub form-count : (fs : List Frame) (B C : Node) (l x y : Linked) (i : ℕ)
     → occ i (nodes (plug fs (at L B l (at L C x y)))) ≡ one i (B .num) + occ i (nodes l) + (one i (C .num) + occ i (nodes x) + occ i (nodes y)) + occWay i fs

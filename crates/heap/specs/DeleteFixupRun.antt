@@ -19,7 +19,7 @@ use Rattle.sequential.specs.Tree as Seq
 use Rattle.sequential.specs.Tree.{Colour, red, black, Tree, colourOf}
 use Rattle.tree.specs.Sorted.{NotLeaf}
 use Rattle.tree.specs.RedBlack.{red-there}
-use Rattle.tree.specs.Linked.{Linked, nil, cell}
+use Rattle.tree.specs.Linked.{Linked}
 use Rattle.tree.specs.Zipper.{Frame, hole}
 use Rattle.tree.specs.Erase.{erase, eraseWay}
 use Rattle.tree.specs.DeleteFixup as DeleteFixup
@@ -27,7 +27,7 @@ use Rattle.tree.specs.DeleteFixup.{DeleteFixup, Nephew, noNephew, nephew, Delet
 use Rattle.heap.specs.Rep.{Rep}
 use Rattle.heap.specs.Sites.{linkTo, links}
 use Rattle.heap.specs.Colours.{redly, colours, red-is, red-tree}
-use Rattle.heap.specs.Fixups.{side-at, Sides, formOf, childOf, rep-child, erase-child, there-tree, nephew-cases, framesUp, tip, numOf}
+use Rattle.heap.specs.Fixups.{side-at, Sides, formOf, childOf, rep-child, erase-child, there-tree, nephew-cases, framesUp, tip, numOf, rep-num}
 use Rattle.heap.specs.Fixups.{nephewEnding, deleteFixupEnding, Stop, stop-root, stop-red, stop-turn, stop-redSibling}
 
 -- the tree's climb on a way
@@ -48,10 +48,6 @@ nephew-none p s w y h e = rw e at (nephew-tests p s w y h)
 pub nephew-some : (p : List ℕ) (s : Side) (w : ℕ) (y : Linked) (b : Bool) → Rep p w y → nephewOf s (erase (colours p) y) ≡ nephew b → redChild p w ≡ true
 nephew-some p s w y b h e = rw e at (nephew-tests p s w y h) .0
 
-num-of : (p : List ℕ) (w : ℕ) (y : Linked) → Rep p w y → w ≡ numOf y
-num-of p w nil h = h
-num-of p w (cell N l r) h = h .0 .is
-
 -- a red sibling
 redSibling-ending : (p : List ℕ) (l : Link) (s : Side) (w : ℕ) (y : Linked) → Rep p w y → NotLeaf (Seq.child s (erase (colours p) y))
     → redSibling p l (other s) w ≡ nephewEnding (nephewOf s (Seq.child s (erase (colours p) y))) l s (numOf y)
@@ -60,7 +56,7 @@ redSibling-ending p l s w y h n =
     let inner = rep-child p s w y h in
     let e = erase-child (colours p) s y in
     let d = ne-eqb (child p s w) 0 (there-tree (colours p) p (child p s w) (childOf s y) inner (rw e n)) in
-    let num = num-of p w y h in
+    let num = rep-num p w y h in
     let o = rw e at (nephew-tests p s (child p s w) (childOf s y) inner) in
     rw (other-other s, d) (go (nephewOf s (Seq.child s (erase (colours p) y))) o ∙ rw num)
   where

@@ -28,7 +28,7 @@ use Rattle.heap.specs.Sites.{linkTo, links}
 use Rattle.heap.specs.Colours.{redly, colours, colours-link, red-tree}
 use Rattle.heap.specs.Fill.{retire-quiet}
 use Rattle.heap.specs.Paths.{path-to, successor-path}
-use Rattle.heap.specs.Fixups.{Sides, way-sides}
+use Rattle.heap.specs.Fixups.{rep-num, Sides, way-sides}
 use Rattle.heap.specs.Moves.{At, Once, clear-of, link-size, link-held, fields-trans, fields-queued, same-fields}
 use Rattle.heap.specs.Lowers.{is-node, Top, top-of, far-down}
 use Rattle.heap.specs.Raises.{Raised, raised-link}
@@ -37,7 +37,7 @@ use Rattle.heap.specs.Parts.{unchanged, same-queue, parts-of}
 use Rattle.heap.specs.Places.{Double, doubleTop, doubleTree, published, detached, copiedWay}
 use Rattle.heap.specs.Phase.{Lined, Phase, phase-alike, Copied, DetachPlan, removalStores}
 use Rattle.heap.specs.Shift.{by-detach, Next, once-less}
-use Rattle.heap.specs.RemovalFixup.{removal-phase, removal-there, removal-alike, removal-register, rep-num}
+use Rattle.heap.specs.RemovalFixup.{removal-phase, removal-there, removal-alike, removal-register}
 use Rattle.heap.specs.Rename.{site-append, way-append, occ-append-way}
 
 pub third-count : (fs gs : List Frame) (N C : Node) (l y : Linked) (i : ℕ)

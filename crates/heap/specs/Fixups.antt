@@ -178,6 +178,10 @@ abbrev pub numOf : Linked → ℕ
 numOf nil = 0
 numOf (cell N l r) = N .num
 
+pub rep-num : (p : List ℕ) (a : ℕ) (t : Linked) → Rep p a t → a ≡ numOf t
+rep-num p a nil h = h
+rep-num p a (cell N l r) h = h .0 .is
+
 abbrev pub nephewEnding : Nephew → Link → Side → ℕ → Ending
 nephewEnding noNephew l s w = Rotate (rotation l Diag (other s) RedSibling)
 nephewEnding (nephew b) l s w = RotateTwice (rotation l Diag (other s) RedSibling) (rotation (linkAt s w) (formOf b) (other s) BlackSibling)

@@ -21,7 +21,7 @@ use Rattle.spec.specs.Plan.{fixupResult, endingStores, missing, fixupAfterRemov
 use Rattle.sequential.specs.Tree.{Colour, red, black, Tree, colourOf}
 use Rattle.sequential.specs.Delete.{afterRemoval}
 use Rattle.tree.specs.Changes.{Proper}
-use Rattle.tree.specs.Linked.{Linked, nil, cell}
+use Rattle.tree.specs.Linked.{Linked}
 use Rattle.tree.specs.Zipper.{Frame, plug}
 use Rattle.tree.specs.Erase.{erase, eraseWay}
 use Rattle.tree.specs.Occurs.{occ-plug}
@@ -29,7 +29,7 @@ use Rattle.tree.specs.DeleteFixup.{DeleteFixupFinds}
 use Rattle.heap.specs.Rep.{Rep, Alike, alike-refl, alike-trans, upToLinks}
 use Rattle.heap.specs.Sites.{linkTo, links}
 use Rattle.heap.specs.Colours.{redly, colours, red-is, paint-alike, erase-occ}
-use Rattle.heap.specs.Fixups.{Sides, way-sides, framesUp, numOf}
+use Rattle.heap.specs.Fixups.{Sides, way-sides, framesUp, rep-num}
 use Rattle.heap.specs.DeleteFixupRun.{deleteFixupOf, deleteFixup-run, stop-there}
 use Rattle.heap.specs.Paints.{paint-deleteFixup}
 use Rattle.heap.specs.Moves.{At}
@@ -69,10 +69,6 @@ removal-alike st c x path = alike-trans (deleteFixup-alike (c .levels) path (st 
 pub removal-register : (st : State) (c : Fixup) (x : ℕ) (path : List Link) → paintDeleteFixup st c x path .register ≡ st .register
 unfolding paintDeleteFixup
 removal-register st c x path = refl
-
-pub rep-num : (p : List ℕ) (a : ℕ) (t : Linked) → Rep p a t → a ≡ numOf t
-rep-num p a nil h = h
-rep-num p a (cell N l r) h = h .0 .is
 
 pub end-is : (st : State) (fs : List Frame) (t : Linked) (x m : ℕ) → At st fs t → Rep (st .pool) x t → m ≤ length fs
     → cond (eqb m 0) x (linkNode st (getD (links fs) m Root)) ≡ linkNode st (linkTo (framesUp m fs))

@@ -14,7 +14,7 @@ use Rattle.spec.specs.Pool.{word, setWord, child, keyWord, recordAt, recordWord
 use Rattle.spec.specs.FreeQueue.{InPool}
 use Rattle.laws.specs.Words.{length-setWord, word-other}
 use Rattle.tree.specs.Linked.{Node, Linked, nil, cell, at, nodes}
-use Rattle.tree.specs.Occurs.{one-same, one-other, occ, occ-append}
+use Rattle.tree.specs.Occurs.{one-same, one-other, occ, occ-append, occ-apart}
 
 -- a is the node N, whose words the pool has
 pub record Words (p : List ℕ) (a : ℕ) (N : Node) : Type 0 where
@@ -86,11 +86,8 @@ rep-alike {p} {q} h t a r = rep-agree p q (h .size) t a (λ n _. h .words n) r
 pub set-elsewhere : (p : List ℕ) (d f v n : ℕ) → f < nodeWords → d ≢ n → Agree p (setWord p d f v) n
 set-elsewhere p d f v n h e g i = word-other p d n f g v h (omega arith) (inl e)
 
-not-there : (d n : ℕ) (xs : List ℕ) → occ d xs ≡ 0 → 0 < occ n xs → d ≢ n
-not-there d n xs z h e = let x : occ d xs ≡ occ n xs = rw e in omega arith
-
 pub rep-elsewhere : (p : List ℕ) (d f v : ℕ) → f < nodeWords → (t : Linked) (a : ℕ) → occ d (nodes t) ≡ 0 → Rep p a t → Rep (setWord p d f v) a t
-rep-elsewhere p d f v h t a o r = rep-agree p (setWord p d f v) (length-setWord p d f v) t a (λ n i. set-elsewhere p d f v n h (not-there d n (nodes t) o i)) r
+rep-elsewhere p d f v h t a o r = rep-agree p (setWord p d f v) (length-setWord p d f v) t a (λ n i. set-elsewhere p d f v n h (occ-apart d n (nodes t) o i)) r
 
 -- A link unfolds to one tree.
 same-node : (p : List ℕ) (a b : ℕ) (N M : Node) → a ≡ b → Words p a N → Words p b M → N ≡ M

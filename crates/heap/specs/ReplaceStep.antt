@@ -37,7 +37,7 @@ use Rattle.heap.specs.Sites.{linkTo, links, of-site}
 use Rattle.heap.specs.Colours.{redly, colours, colours-is, colours-link, paint-alike, paint-other, paint-same, red-tree, erase-occ, way-occ}
 use Rattle.heap.specs.Fill.{retire-quiet}
 use Rattle.heap.specs.Paths.{path-to, OnceWay}
-use Rattle.heap.specs.Fixups.{Sides, way-sides, framesUp, tip, deleteFixupEnding, Stop}
+use Rattle.heap.specs.Fixups.{Sides, way-sides, framesUp, tip, deleteFixupEnding, Stop, rep-num}
 use Rattle.heap.specs.DeleteFixupRun.{deleteFixupOf, deleteFixup-run, FixupRun}
 use Rattle.heap.specs.Paints.{DeletePainted, paint-deleteFixup}
 use Rattle.heap.specs.Moves.{At, apart-one, clear-of, link-size, link-held, fields-trans, fields-queued, held-fields, same-fields}
@@ -52,7 +52,7 @@ use Rattle.heap.specs.Shift.{by-replace, Next, once-less}
 use Rattle.heap.specs.Inserts.{Small, rep-range, way-bound}
 use Rattle.heap.specs.InsertStep.{held-root, held-is}
 use Rattle.heap.specs.RemovalCore.{links-get, stop-way, black-core, red-core}
-use Rattle.heap.specs.RemovalFixup.{removal-red, removal-black, removal-there, removal-alike, removal-register, deleteFixup-alike, rep-num}
+use Rattle.heap.specs.RemovalFixup.{removal-red, removal-black, removal-there, removal-alike, removal-register, deleteFixup-alike}
 use Rattle.heap.specs.AdoptStep.{form-count}
 use Rattle.heap.specs.Swap.{tipOf, tip-way, ending-swap, up-swap, up-way, deleteFixup-swap, link-else}
 

@@ -1,12 +1,12 @@
 -- What a store does to the whole tree, as a relation: the eleven changes, each at a place, with the link stored, its new
 -- value, the nodes that come, the nodes that leave, whether it is a list store and whether reading slots are awaited after it; and what the facts
 -- of lookups (crate tree) ask. `Next` is what a turn leaves: such a change and the phase after it.
-use Prim.Native.Nat.{ℕ, suc}
-use mathlib.Core.Path.{_≡_, refl, sym, ap, _∙_}
+use Prim.Native.Nat.{ℕ}
+use mathlib.Core.Path.{_≡_, refl, sym, _∙_}
 use mathlib.Core.Logic.{_≢_}
 use mathlib.Core.Bool.{Bool, true, false, cond}
 use mathlib.Core.List.{List, [], _∷_, _++_, map}
-use lib.ListN.{length}
+use lib.ListN.{length-map, length}
 use Rattle.base.specs.Walk.{cond-both}
 use native.Mathlib.Omega.{arith}
 use Rattle.datatypes.specs.declared.Side.{Side}
@@ -102,12 +102,8 @@ awaitedAfter x r = cond (profile x .awaits) (readingSlots r) (r .awaited)
 abbrev pub writeAfter : Step → ℕ → Register → Write
 writeAfter x b r = cond (profile x .renames) (movedWrite b (r .first) (r .write)) (r .write)
 
-pub map-length : (f : Store → Store) (l : List Store) → length (map f l) ≡ length l
-map-length f [] = refl
-map-length f (x ∷ l) = ap suc (map-length f l)
-
 pub later-length : (st : State) (l : Link) (x : Step) (w : List Store) → length (later st l x w) ≡ length w
-later-length st l x w = cond-both (λ v. length v ≡ length w) (profile x .renames) (map-length (movedStore (linkNode st l) (st .register .first)) w) refl
+later-length st l x w = cond-both (λ v. length v ≡ length w) (profile x .renames) (length-map w (movedStore (linkNode st l) (st .register .first))) refl
 
 pub record FieldsAfter (x : Step) (b : ℕ) (r q : Register) : Type 0 where
   pub readers : q .readers ≡ r .readers

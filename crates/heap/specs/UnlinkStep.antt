@@ -32,7 +32,7 @@ use Rattle.heap.specs.Sites.{linkTo, links}
 use Rattle.heap.specs.Colours.{redly, colours, colours-link, red-tree}
 use Rattle.heap.specs.Fill.{retire-quiet}
 use Rattle.heap.specs.Paths.{path-to}
-use Rattle.heap.specs.Fixups.{Sides, way-sides}
+use Rattle.heap.specs.Fixups.{Sides, way-sides, rep-num}
 use Rattle.heap.specs.Moves.{At, clear-of, link-size, link-held, fields-trans, fields-queued, held-fields, same-fields}
 use Rattle.heap.specs.Lowers.{is-node, Top, top-of}
 use Rattle.heap.specs.Raises.{Raised, raised-link}
@@ -44,7 +44,7 @@ use Rattle.heap.specs.Phase.{Lined, Phase, phase-alike, UnlinkPlan, remo
 use Rattle.heap.specs.Shift.{by-unlink, Next, once-less}
 use Rattle.heap.specs.Inserts.{Small, way-short, once-way}
 use Rattle.heap.specs.InsertStep.{held-root, held-is}
-use Rattle.heap.specs.RemovalFixup.{removal-phase, removal-there, removal-alike, removal-register, rep-num}
+use Rattle.heap.specs.RemovalFixup.{removal-phase, removal-there, removal-alike, removal-register}
 
 -- the child that there is, or 0
 pub only-is : (p : List ℕ) (s : Side) (b : ℕ) → child p (other s) b ≡ 0 → onlyChild p b ≡ child p s b

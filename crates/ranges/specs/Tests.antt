@@ -7,7 +7,7 @@ use native.Mathlib.Omega.{arith}
 use native.Mathlib.Decide.{ℕ-discrete, decLe, decLt}
 use lib.Dec.{leb}
 use lib.ListN.{length}
-use borrow.Author.Tests.{leb-true}
+use borrow.Author.Tests.{not-false, leb-true}
 use Rattle.base.specs.Lists.{getD-past}
 use Rattle.base.specs.Walk.{allIn, all-in}
 use Rattle.spec.specs.Numbers.{slots, allSlots, mostStores}
@@ -17,7 +17,6 @@ use Rattle.spec.specs.Calls.{outOfRange}
 use Rattle.laws.specs.Words.{word-none, word-at}
 use Rattle.laws.specs.Tests.{and-left, and-right}
 use Rattle.readers.specs.Words.{Whole}
-use Rattle.readers.specs.CallCase.{not-false}
 use Rattle.ranges.specs.Fits.{Fit, Fits, fit-zero}
 use Rattle.ranges.specs.Writes.{write-none}
 use Rattle.ranges.specs.Calls.{Ranged}

@@ -1,13 +1,13 @@
 -- What a call does, case by case: it is refused and changes nothing, or it does one of these, its tests passed.
 use Prim.Native.Nat.{ℕ, _<_}
-use mathlib.Core.Path.{_≡_, refl, sym}
+use mathlib.Core.Path.{_≡_, refl}
 use mathlib.Core.Bool.{Bool, true, false, cond, not, _&&_}
 use mathlib.Core.List.{List, [], _∷_}
 use mathlib.Core.Logic.{_≢_}
 use native.Mathlib.Omega.{arith}
 use native.Mathlib.Decide.{ℕ-discrete}
 use lib.Dec.{eqb}
-use borrow.Author.Tests.{eqb-true, eqb-false, leb-false}
+use borrow.Author.Tests.{not-false, eqb-true, eqb-false, leb-false}
 use Rattle.spec.specs.Numbers.{slots}
 use Rattle.spec.specs.Pool.{word, child, keyWord, recordAt}
 use Rattle.spec.specs.Register.{State, state, readerOf, storeOf, withReader, withWrite, writeOf, begunReader, movedReader}
@@ -79,10 +79,6 @@ pub clear : (ts : List Test) → Numbered ts → firstOf ts ≡ 0 → Clear ts
 clear [] h e = tt
 clear ((true gives n) ∷ ts) h e = absurd (h .0 e)
 clear ((false gives n) ∷ ts) h e = (refl, clear ts (h .1) e)
-
-pub not-false : (b : Bool) → not b ≡ false → b ≡ true
-not-false true e = refl
-not-false false e = sym e
 
 load-case : (st : State) (s n : ℕ) → Passed st s → Loads st s n → CallCase st (turning s) (loaded st s (readerOf (st .register) s) n)
 load-case st s n p l = elim (ℕ-discrete n 0) [

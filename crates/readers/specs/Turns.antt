@@ -70,16 +70,16 @@ owner-linked p Root n z o d e = z (sym e)
 owner-linked p (Left m) n z o d e = d (subst (λ i. HasStanding p i standingLinked) e o)
 owner-linked p (Right m) n z o d e = d (subst (λ i. HasStanding p i standingLinked) e o)
 
+-- who came was free: a linked node did not come
+linked-stays : {st mid : State} {came : List ℕ} {l : Link} {v : ℕ} → Stored st mid came l v → (n : ℕ) → HasStanding (st .pool) n standingLinked → ¬ (n ∈ came)
+linked-stays s n e i = let z = s .new n i .0 in absurd (omega arith)
+
 -- What was stored, then the nodes of `gone` retired.
 module _ (st mid after : State) (q came gone : List ℕ) (l : Link) (v : ℕ) (w : Whole (st .pool)) (o : OwnerLinked (st .pool) l) (h : Owned st q) (s : Stored st mid came l v)
     (quiet : Quiet mid after) (each : (n : ℕ) → Retires (mid .pool) (after .pool) (Reads mid) n)
     (was-linked : (n : ℕ) → n ∈ gone → HasStanding (st .pool) n standingLinked × (owner l ≢ n) × (word (after .pool) n standingWord ≢ standingLinked))
     (kept : (n : ℕ) → ¬ (n ∈ gone) → word (after .pool) n standingWord ≡ word (mid .pool) n standingWord)
     (grows : mid .register .free ≤ after .register .free) (l′ : List ℕ) (owned : Owned after l′) where
-  -- who came was free, who went was linked
-  not-both : (n : ℕ) → HasStanding (st .pool) n standingLinked → ¬ (n ∈ came)
-  not-both n e i = let z = s .new n i .0 in absurd (omega arith)
-
   same-link : (n : ℕ) (z : Side) → child (after .pool) z n ≡ child (mid .pool) z n
   same-link n z = quiet .words .words n (linkWord z) (let u = link-low z in omega arith)
 
@@ -104,7 +104,7 @@ module _ (st mid after : State) (q came gone : List ℕ) (l : Link) (v : ℕ) (w
       go (out a b bits) (no j) c = absurd (let z = kept n j in omega arith)
       go (out a b bits) (yes j) c =
           let e = was-linked n j in
-          leaves (e .0) b (λ t u r. bits t u (subst (λ xs. readingIn xs t ≡ true) (sym (s .readers)) r)) (λ z. links-stay n z (not-both n (e .0)) (e .1))
+          leaves (e .0) b (λ t u r. bits t u (subst (λ xs. readingIn xs t ≡ true) (sym (s .readers)) r)) (λ z. links-stay n z (linked-stays s n (e .0)) (e .1))
       go (off a b none) (no j) c = absurd (let z = kept n j in omega arith)
       go (off a b none) (yes j) c =
           let e = was-linked n j .0 in
@@ -119,7 +119,7 @@ module _ (st mid after : State) (q came gone : List ℕ) (l : Link) (v : ℕ) (w
       there (no j) (no i) e = (inl (sym (s .standing n i) ∙ sym (kept n j) ∙ e), j)
 
       back : ¬ (n ∈ gone) → HasStanding (st .pool) n standingLinked ⊎ (n ∈ came) → HasStanding (after .pool) n standingLinked
-      back j (inl e) = kept n j ∙ s .standing n (not-both n e) ∙ e
+      back j (inl e) = kept n j ∙ s .standing n (linked-stays s n e) ∙ e
       back j (inr i) = kept n j ∙ s .new n i .1
 
   turn-of : Turn st after came gone l v
@@ -139,11 +139,8 @@ module _ (st mid after : State) (q came gone : List ℕ) (l : Link) (v : ℕ) (w
   }
 
 module _ (st mid : State) (q came : List ℕ) (l : Link) (v : ℕ) (w : Whole (st .pool)) (o : OwnerLinked (st .pool) l) (h : Owned st q) (s : Stored st mid came l v) where
-  out-of-came : (n : ℕ) → HasStanding (st .pool) n standingLinked → ¬ (n ∈ came)
-  out-of-came n e i = let z = s .new n i .0 in absurd (omega arith)
-
   linked-mid : (n : ℕ) → HasStanding (st .pool) n standingLinked → HasStanding (mid .pool) n standingLinked
-  linked-mid n e = s .standing n (out-of-came n e) ∙ e
+  linked-mid n e = s .standing n (linked-stays s n e) ∙ e
 
   node-mid : (n : ℕ) → HasStanding (st .pool) n standingLinked → InPool (mid .pool) n
   node-mid n e = let i = linked-mid n e in stands-node (mid .pool) n standingWord (whole-length (st .pool) (mid .pool) (s .size) w) (omega arith) (omega arith)

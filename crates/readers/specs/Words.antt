@@ -10,7 +10,6 @@ use lib.ListN.{length}
 use borrow.Author.Tests.{eq-eqb, ne-eqb}
 use Rattle.base.specs.Lists.{getD-past}
 use Rattle.datatypes.specs.declared.Side.{Side}
-use Rattle.datatypes.specs.declared.Side.the-variants.{L, R}
 use Rattle.datatypes.specs.Side.{other}
 use Rattle.spec.specs.Numbers.{nodeWords}
 use Rattle.spec.specs.Pool.{place, word, setWord, nodes, keyWord, recordWord, linkWord, colourWord, standingWord, holdersWord, nextWord, standingFree, standingLinked, standingRetired}
@@ -18,9 +17,7 @@ use Rattle.spec.specs.Register.{State, state, withQueue, countUp, readingSlots}
 use Rattle.spec.specs.Free.{queueEmpty, fillNode, freeNode, retire}
 use Rattle.spec.specs.FreeQueue.{InPool}
 use Rattle.laws.specs.Words.{length-setWord, word-none, word-at, word-same, word-other}
-
-pub node-set : (p : List ℕ) (m n f v : ℕ) → InPool p m → InPool (setWord p n f v) m
-node-set p m n f v h = record { low = h .low; high = rw length-setWord (h .high) }
+use Rattle.laws.specs.Queue.{node-kept, link-low}
 
 pub node-length : (p q : List ℕ) (m : ℕ) → length q ≡ length p → InPool p m → InPool q m
 node-length p q m e h = record { low = h .low; high = rw e (h .high) }
@@ -97,7 +94,7 @@ module _ (st : State) (n : ℕ) where
       ∙ word-same (st .pool) n standingWord standingFree h (omega arith)
 
   pub free-holders : InPool (st .pool) n → word (freeNode st n .pool) n holdersWord ≡ 0
-  free-holders h = low-words n holdersWord (omega arith) ∙ word-same stood n holdersWord 0 (node-set (st .pool) n n standingWord standingFree h) (omega arith)
+  free-holders h = low-words n holdersWord (omega arith) ∙ word-same stood n holdersWord 0 (node-kept (st .pool) n n standingWord standingFree h) (omega arith)
 
   pub free-register : freeNode st n .register ≡ withQueue (st .register) (cond (queueEmpty st) n (st .register .first)) n (countUp (nodes (st .pool)) (st .register .free))
   unfolding freeNode
@@ -129,11 +126,7 @@ module _ (p : List ℕ) (n a b : ℕ) where
   marked-standing h = word-other _ n n holdersWord standingWord b (omega arith) (omega arith) (inr (omega arith)) ∙ word-same p n standingWord a h (omega arith)
 
   pub marked-holders : InPool p n → word marked n holdersWord ≡ b
-  marked-holders h = word-same _ n holdersWord b (node-set p n n standingWord a h) (omega arith)
-
-link-high : (s : Side) → linkWord s < colourWord
-link-high L = omega arith
-link-high R = omega arith
+  marked-holders h = word-same _ n holdersWord b (node-kept p n n standingWord a h) (omega arith)
 
 -- Take: the first node is filled, no other word changes.
 module _ (p : List ℕ) (n k v : ℕ) (s : Side) (x y c : ℕ) where
@@ -144,8 +137,8 @@ module _ (p : List ℕ) (n k v : ℕ) (s : Side) (x y c : ℕ) where
   pub fill-other : (m f : ℕ) → f < nodeWords → n ≢ m → word (fillNode p n k v s x y c) m f ≡ word p m f
   unfolding fillNode
   fill-other m f h d =
-      let a = link-high s in
-      let b = link-high (other s) in
+      let a = link-low s in
+      let b = link-low (other s) in
       word-other _ n m nextWord f _ (omega arith) h (inl d)
       ∙ word-other _ n m holdersWord f _ (omega arith) h (inl d)
       ∙ word-other _ n m standingWord f _ (omega arith) h (inl d)

@@ -9,10 +9,10 @@ use native.Mathlib.Omega.{arith}
 use native.Mathlib.Decide.{ℕ-discrete}
 use lib.Dec.{eqb}
 use lib.ListN.{length}
-use borrow.Author.Tests.{eqb-true, eqb-false, eq-eqb, le-leb}
+use borrow.Author.Tests.{not-false, eqb-true, eqb-false, eq-eqb, le-leb}
 use Rattle.datatypes.specs.declared.Link.{Link}
 use Rattle.sequential.specs.Delete.{changedBy}
-use Rattle.spec.specs.Numbers.{nodeWords, leastNodes, mostNodes, slots, mostStores}
+use Rattle.spec.specs.Numbers.{nodeWords, leastNodes, mostNodes, slots, mostStores, freeForInsert, freeForDelete}
 use Rattle.spec.specs.Pool.{word, colourWord, nodes, lengthRight}
 use Rattle.spec.specs.Register.{State, storeOf, hasSlot, withWrite, lessFirst}
 use Rattle.spec.specs.Turn.{Made, stepFinds, stepMade}
@@ -28,7 +28,7 @@ use Rattle.promise.specs.Demands.{Stands}
 use Rattle.readers.specs.Words.{Whole}
 use Rattle.spec.specs.Calls.{insertTests, deleteTests, writerTests, firstFinds, waiting}
 use Rattle.readers.specs.CallCase.{CallCase, refuses, plansInsert, plansDelete, waits, stores, begins, loads, misses, finds, leaves, testsOf}
-use Rattle.readers.specs.CallCase.{Clear, not-false}
+use Rattle.readers.specs.CallCase.{Clear}
 use Rattle.readers.specs.Safe.{Safe}
 use Rattle.runs.specs.Sound.{store-notice}
 use Rattle.runs.specs.Answers.{toldOf}
@@ -169,9 +169,9 @@ pub record Completes (W : State → Plain → Linked → Type 0) : Type 0 where
       → Stands (st .pool) (st .register .root) (changedBy (x .started) (acceptedWrites x))
   pub few : (st : State) (x : Plain) (T : Linked) → W st x T → writeInHand st ≡ true → x .made + st .register .write .count ≤ mostStores
   pub insertGoes : (st : State) (x : Plain) (T : Linked) (k v : ℕ) → Safe st → W st x T → writeInHand st ≡ false
-      → (tooDeep (placeOf st k) ≡ false) × (isHeld (placeOf st k) ≡ false → fewerFree st 3 ≡ false → insertAt st k v (placeOf st k) .possible ≡ true)
+      → (tooDeep (placeOf st k) ≡ false) × (isHeld (placeOf st k) ≡ false → fewerFree st freeForInsert ≡ false → insertAt st k v (placeOf st k) .possible ≡ true)
   pub deleteGoes : (st : State) (x : Plain) (T : Linked) (k : ℕ) → Safe st → W st x T → writeInHand st ≡ false
-      → (tooDeep (placeOf st k) ≡ false) × (isHeld (placeOf st k) ≡ true → fewerFree st 4 ≡ false → deleteAt st (placeOf st k) .possible ≡ true)
+      → (tooDeep (placeOf st k) ≡ false) × (isHeld (placeOf st k) ≡ true → fewerFree st freeForDelete ≡ false → deleteAt st (placeOf st k) .possible ≡ true)
   pub stepGoes : (st : State) (x : Plain) (T : Linked) → Safe st → W st x T → st .register .awaited ≡ 0 → writeInHand st ≡ true
       → stepFinds st (storeOf (st .register) 0 .link) (storeOf (st .register) 0 .step) ≡ true
 

@@ -8,7 +8,7 @@ use mathlib.Core.Option.{Option, none, some}
 use native.Mathlib.Omega.{arith}
 use native.Mathlib.Decide.{ℕ-discrete}
 use lib.Dec.{eqb}
-use borrow.Author.Tests.{eq-eqb, ne-eqb, ltb-false}
+use borrow.Author.Tests.{not-false, eq-eqb, ne-eqb, ltb-false}
 use Rattle.base.specs.Walk.{cond-both}
 use Rattle.datatypes.specs.declared.Side.{Side}
 use Rattle.datatypes.specs.declared.Side.the-variants.{L, R}
@@ -46,7 +46,7 @@ use Rattle.heap.specs.Plans.{Rest, Placed, empty-at, held-at, placed}
 use Rattle.heap.specs.Writes.{InHand}
 use Rattle.heap.specs.Accept.{accepted-in-hand, searched, heldOf, delete-possible}
 use Rattle.spec.specs.Calls.{deleteTests}
-use Rattle.readers.specs.CallCase.{clear, not-false}
+use Rattle.readers.specs.CallCase.{clear}
 use Rattle.readers.specs.Safe.{Safe}
 use Rattle.runs.specs.Writer.{planned}
 use Rattle.theorem.specs.Tickets.{without-same, without-other, unique-without, without-some}
