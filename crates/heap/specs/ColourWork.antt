@@ -47,7 +47,9 @@ coloursOnly-insertFixup (suc m) (x ∷ y ∷ up) p =
     let aunt = child p (other (sideOf y)) (owner y) in
     let a = paint p (owner x) blackColour in
     let b = paint a aunt blackColour in
-    coloursOnly-trans (coloursOnly-paint p (owner x) blackColour) (coloursOnly-trans (coloursOnly-paint a aunt blackColour) (coloursOnly-trans (coloursOnly-paint b (owner y) redColour) (coloursOnly-insertFixup m up (paint b (owner y) redColour))))
+    coloursOnly-trans (coloursOnly-paint p (owner x) blackColour)
+    (coloursOnly-trans (coloursOnly-paint a aunt blackColour)
+    (coloursOnly-trans (coloursOnly-paint b (owner y) redColour) (coloursOnly-insertFixup m up (paint b (owner y) redColour))))
 
 pub coloursOnly-deleteFixup : (m : ℕ) (path : List Link) (p : List ℕ) → ColoursOnly p (paintDeleteLevels m path p)
 unfolding paintDeleteLevels
@@ -64,9 +66,11 @@ coloursOnly-end (Rotate t) st n = coloursOnly-refl (st .pool)
 coloursOnly-end (RotateTwice t u) st n = coloursOnly-refl (st .pool)
 coloursOnly-end Missing st n = coloursOnly-refl (st .pool)
 
-pub coloursOnly-removal : (st : State) (c : Fixup) (x : ℕ) (path : List Link) → ColoursOnly (st .pool) (paintDeleteFixup st c x path .pool)
+pub coloursOnly-removal : (st : State) (fix : Fixup) (x : ℕ) (path : List Link) → ColoursOnly (st .pool) (paintDeleteFixup st fix x path .pool)
 unfolding paintDeleteFixup
-coloursOnly-removal st c x path = coloursOnly-trans (coloursOnly-deleteFixup (c .levels) path (st .pool)) (coloursOnly-end (c .ending) (state (paintDeleteLevels (c .levels) path (st .pool)) (st .register)) _)
+coloursOnly-removal st fix x path =
+    coloursOnly-trans (coloursOnly-deleteFixup (fix .levels) path (st .pool))
+    (coloursOnly-end (fix .ending) (state (paintDeleteLevels (fix .levels) path (st .pool)) (st .register)) _)
 
 pub coloursOnly-insert : (e : Ending) (st : State) → ColoursOnly (st .pool) (endInsert e st .pool)
 coloursOnly-insert Balanced st = coloursOnly-paint (st .pool) (st .register .root) blackColour

@@ -1,4 +1,4 @@
--- Delete's climb over the pool: levels, ending and what holds where it ends, in a red-black tree.
+-- The delete fix-up over the pool: levels, ending and what holds where it ends, in a red-black tree.
 use Prim.Native.Nat.{ℕ, suc, _+_, _≤_}
 use mathlib.Core.Path.{_≡_, refl, _∙_}
 use mathlib.Core.Bool.{Bool, true, false, cond}
@@ -30,11 +30,11 @@ use Rattle.heap.specs.Colours.{redly, colours, red-is, red-tree}
 use Rattle.heap.specs.Fixups.{side-at, Sides, formOf, childOf, rep-child, erase-child, there-tree, nephew-cases, framesUp, tip, numOf, rep-num}
 use Rattle.heap.specs.Fixups.{nephewEnding, deleteFixupEnding, Stop, stop-root, stop-red, stop-turn, stop-redSibling}
 
--- the tree's climb on a way
+-- the tree's own fix-up, on a way with the colours f
 abbrev pub deleteFixupOf : (ℕ → Colour) → Colour → List Frame → DeleteFixup
 deleteFixupOf f c fs = DeleteFixup.deleteFixupOn c (eraseWay f fs)
 
--- what a sibling's loan says of the plan's tests
+-- what a sibling's nephew says of the plan's tests
 abbrev NephewTests : List ℕ → Side → ℕ → Nephew → Type 0
 NephewTests p s w noNephew = redChild p w ≡ false
 NephewTests p s w (nephew b) = (redChild p w ≡ true) × ((l : Link) → blackSibling p l (other s) w ≡ rotation l (formOf b) (other s) BlackSibling)
@@ -61,7 +61,10 @@ redSibling-ending p l s w y h n =
     rw (other-other s, d) (go (nephewOf s (Seq.child s (erase (colours p) y))) o ∙ rw num)
   where
     go : (o : Nephew) → NephewTests p s (child p s w) o
-        → cond (redChild p (child p s w)) (RotateTwice (rotation l Diag (other s) RedSibling) (blackSibling p (linkAt s w) (other s) (child p s w))) (Rotate (rotation l Diag (other s) RedSibling)) ≡ nephewEnding o l s w
+        → cond (redChild p (child p s w))
+        (RotateTwice (rotation l Diag (other s) RedSibling) (blackSibling p (linkAt s w) (other s) (child p s w)))
+        (Rotate (rotation l Diag (other s) RedSibling))
+        ≡ nephewEnding o l s w
     go noNephew e = rw e
     go (nephew b) e = rw (e .0, e .1 (linkAt s w))
 
@@ -76,7 +79,8 @@ deleteFixup-case (deleteFixup-turn b n e l) = case-turn b n e l
 deleteFixup-case (deleteFixup-level n e l r) = case-level n e l r
 
 pub record FixupRun (p : List ℕ) (m x : ℕ) (c : Colour) (fs : List Frame) : Type 0 where
-  pub is : (let r = deleteFixupOf (colours p) c fs in deleteFixup p m x (links fs) ≡ fixupResult (m + r .levels) (deleteFixupEnding (r .end) (tip (colours p) c (r .levels) fs) (framesUp (r .levels) fs)))
+  pub is : (let r = deleteFixupOf (colours p) c fs in
+      deleteFixup p m x (links fs) ≡ fixupResult (m + r .levels) (deleteFixupEnding (r .end) (tip (colours p) c (r .levels) fs) (framesUp (r .levels) fs)))
   pub stop : Stop (colours p) (tip (colours p) c (deleteFixupOf (colours p) c fs .levels) fs) (framesUp (deleteFixupOf (colours p) c fs .levels) fs) (deleteFixupOf (colours p) c fs .end)
   pub room : deleteFixupOf (colours p) c fs .levels ≤ length fs
 
@@ -86,7 +90,8 @@ deleteFixup-run p m x c [] e w h = record { is = rw (e, add-zero m); stop = stop
 deleteFixup-run p m x red (hole s N y ∷ fs) e w h = record { is = rw (e, add-zero m); stop = stop-red; room = omega arith }
 deleteFixup-run p m x black (hole s N y ∷ fs) e w h = go (deleteFixup-case h) (λ i. deleteFixup-run p (m + 1) (N .num) (colours p (N .num)) fs (red-is p (N .num)) (w .2) i)
   where
-    go : Case s (colours p (N .num)) (erase (colours p) y) (eraseWay (colours p) fs) → (DeleteFixupFinds (colours p (N .num)) (eraseWay (colours p) fs) → FixupRun p (m + 1) (N .num) (colours p (N .num)) fs)
+    go : Case s (colours p (N .num)) (erase (colours p) y) (eraseWay (colours p) fs)
+        → (DeleteFixupFinds (colours p (N .num)) (eraseWay (colours p) fs) → FixupRun p (m + 1) (N .num) (colours p (N .num)) fs)
         → FixupRun p m x black (hole s N y ∷ fs)
     go (case-redSibling b a n d) again =
         let t = red-tree p (child p (other s) (N .num)) y (w .1) in

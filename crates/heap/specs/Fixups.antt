@@ -1,6 +1,6 @@
--- The writer's climbs over the pool are the climbs of the sequential tree: `rise` is the tree's rise, `sink` the tree's sink, on the way
--- erased with the pool's colours, and a rotation that they end with is named by the link of the way at its top. In a red-black tree
--- (`Rises`, `Sinks`) no node is missing.
+-- The writer's fix-ups over the pool are those of the sequential tree: `insertFixup` is the tree's `insertFixupOn`, `deleteFixup` its
+-- `deleteFixupOn` (DeleteFixupRun), on the way erased with the pool's colours, and a rotation that they end with is named by the link of the
+-- way at its top. In a red-black tree (`InsertFixupFinds`, `DeleteFixupFinds`) no node is missing.
 use Prim.Native.Nat.{ℕ, zero, suc, _+_, _≤_}
 use mathlib.Core.Path.{_≡_, refl, _∙_}
 use mathlib.Core.Logic.{_≢_}
@@ -38,7 +38,7 @@ pub side-at : (s : Side) (n : ℕ) → sideOf (linkAt s n) ≡ s
 side-at L n = refl
 side-at R n = refl
 
--- What a climb reads of a way: its nodes and the subtrees beside it. Keys and records do not matter.
+-- What a fix-up reads of a way: its nodes and the subtrees beside it. Keys and records do not matter.
 abbrev pub Sides : List ℕ → List Frame → Type 0
 Sides p [] = Unit {0}
 Sides p (hole s N y ∷ fs) = InPool p (N .num) × Rep p (child p (other s) (N .num)) y × Sides p fs
@@ -114,7 +114,7 @@ insertFixup-room f (hole s N y ∷ hole z G a ∷ fs) =
     (λ e. colour-case (colourOf (erase f a)) (λ d. rw (e, d) (omega arith)) (λ d. rw (e, d) (omega arith)))
     (λ e. rw e (omega arith))
 
--- Delete's climb: the colours of a sibling's children.
+-- The delete fix-up: the colours of a sibling's children.
 abbrev pub childOf : Side → Linked → Linked
 childOf s nil = nil
 childOf L (cell N l r) = l
@@ -149,7 +149,7 @@ or-sides L h = swap (h L) (h R)
     swap false true = refl
     swap false false = refl
 
--- a sibling's loan, as the plan tests it and as the tree does
+-- a sibling's nephew, as the plan tests for it and as the tree does
 pub nephew-cases {ℓ} : {A : Type ℓ} (p : List ℕ) (s : Side) (w : ℕ) (y : Linked) → Rep p w y
     → ((b : Bool) → nephewOf s (erase (colours p) y) ≡ nephew b → redChild p w ≡ true → ((l : Link) → blackSibling p l (other s) w ≡ rotation l (formOf b) (other s) BlackSibling) → A)
     → (nephewOf s (erase (colours p) y) ≡ noNephew → redChild p w ≡ false → A) → A
@@ -163,7 +163,7 @@ nephew-cases p s w y h f g =
     (λ d. f false (rw (e, d)) (either ∙ rw (out, inn, e, d)) (λ l. rw (out, e)))
     (λ d. g (rw (e, d)) (either ∙ rw (out, inn, e, d))))
 
--- where the sink ends: the way above the levels, and the colour of the node that it ends at
+-- where the delete fix-up ends: the way above the levels, and the colour of the node that it ends at
 abbrev pub framesUp : ℕ → List Frame → List Frame
 framesUp zero fs = fs
 framesUp (suc m) [] = []

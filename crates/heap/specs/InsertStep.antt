@@ -166,8 +166,10 @@ module _ (st : State) (G : Tree) (k v : ℕ) (fs : List Frame) (h : At st fs nil
       let root : coloured .register .root ≡ linked .register .root = held-root (linked .register) _ in
       let site : At coloured fs (cell Z nil nil) = rw root (site-alike (painted-levels .on-way .links-kept) (linked .register .root) fs (cell Z nil nil) (in-tree .site)) in
       let new-red : gg n ≡ red = painted-levels .on-way .outside n (let a = occ-plug fs nil n in let b = fresh .new in omega arith) ∙ in-tree .new-colour in
-      let way : eraseWay gg U ≡ InsertFixup.overPairs levels (eraseWay f fs) = pairsUp-way levels f1 gg fs (painted-levels .to) ∙ sym (over-pairs levels f1 fs) ∙ ap (InsertFixup.overPairs levels) way-kept in
-      let sub : erase gg u ≡ InsertFixup.recoloured levels (eraseWay f fs) (node red k v leaf leaf) = pairTreeUp-erased levels f1 gg fs (cell Z nil nil) (painted-levels .to) ∙ rw (way-kept, new-red) in
+      let way : eraseWay gg U ≡ InsertFixup.overPairs levels (eraseWay f fs)
+      = pairsUp-way levels f1 gg fs (painted-levels .to) ∙ sym (over-pairs levels f1 fs) ∙ ap (InsertFixup.overPairs levels) way-kept in
+      let sub : erase gg u ≡ InsertFixup.recoloured levels (eraseWay f fs) (node red k v leaf leaf)
+      = pairTreeUp-erased levels f1 gg fs (cell Z nil nil) (painted-levels .to) ∙ rw (way-kept, new-red) in
       let is : G ≡ Seq.paint black (InsertFixup.insertEnded (insertFixupOf f fs .end) (eraseWay gg U) (erase gg u))
       = goal ∙ insert-linked f fs k v into ∙ ap (Seq.paint black) (insertFixup-ends (eraseWay f fs) (node red k v leaf leaf)) ∙ rw (way, sub) in
       let once : Once T = once-turnover [] n (plug fs nil) T (turnover-plug fs [] (n ∷ []) nil (cell Z nil nil) (insert-turnover Z)) (good .once) (fresh .new) in

@@ -1,5 +1,5 @@
--- The store of an insert: the climb that its turn makes is the planned one, its colours are the tree's, and the phase after it is rest or
--- the rotation that the climb ended with.
+-- The store of an insert: the fix-up that its turn makes is the planned one, its colours are the tree's, and the phase after it is rest or
+-- the rotation that the fix-up ended with.
 use Prim.Native.Nat.{ℕ, _+_, _≤_, _*_}
 use mathlib.Core.Path.{_≡_, refl, sym, ap, _∙_}
 use mathlib.Core.Logic.{inl, inr, ⊎-elim}
@@ -62,7 +62,7 @@ way-short p root fs t small h good =
 pub once-way : (fs : List Frame) (t : Linked) → Once (plug fs t) → OnceWay fs
 once-way fs t h i = let a = h i in let b = occ-plug fs t i in omega arith
 
--- The climb.
+-- The fix-up.
 pub insert-fixup : (st : State) (k : ℕ) (fs : List Frame) → Way (st .pool) (st .register .root) fs → Into k fs → OnceWay fs → length fs ≤ pathBound
     → fixupAfterInsert st k (linkTo fs) ≡ fixupResult (insertFixupOf (colours (st .pool)) fs .levels) (insertEnding (colours (st .pool)) fs)
 unfolding fixupAfterInsert
@@ -75,7 +75,7 @@ insert-fixup st k (hole s N y ∷ fs) w i o l =
     (λ e. rw (owner-at s (N .num), red-is p (N .num), e, path) (rw e at r ∙ rw zero-add))
     (λ e. rw (owner-at s (N .num), red-is p (N .num), e))
 
--- how the climb ends, in a red-black tree
+-- how the fix-up ends, in a red-black tree
 pub data Stops : List Frame → InsertFixupEnd → Type 0 where
   stops-balanced : {fs : List Frame} → Stops fs balanced
   stops-turn : {s z : Side} {P Q : Node} {y a : Linked} {fs : List Frame} → Stops (hole s P y ∷ hole z Q a ∷ fs) (rotate (sameSide s z) z)
@@ -85,18 +85,18 @@ data Case (c : Colour) (d : Colour) (fs : List Seq.Frame) : Type 0 where
   case-level : c ≡ red → d ≡ red → InsertFixupFinds fs → Case c d fs
   case-turn : c ≡ red → d ≡ black → Case c d fs
 
-insertFixup-one : {s : Side} {c : Colour} {k v : ℕ} {y : Tree} → InsertFixupFinds (Seq.frame s c k v y ∷ []) → c ≡ black
-insertFixup-one insertFixup-balanced = refl
+finds-one : {s : Side} {c : Colour} {k v : ℕ} {y : Tree} → InsertFixupFinds (Seq.frame s c k v y ∷ []) → c ≡ black
+finds-one insertFixup-balanced = refl
 
-insertFixup-two : {s z : Side} {c d : Colour} {k v j w : ℕ} {y a : Tree} {fs : List Seq.Frame} → InsertFixupFinds (Seq.frame s c k v y ∷ Seq.frame z d j w a ∷ fs) → Case c (colourOf a) fs
-insertFixup-two insertFixup-balanced = case-balanced refl
-insertFixup-two (insertFixup-level e r) = case-level refl e r
-insertFixup-two (insertFixup-turn e) = case-turn refl e
+finds-two : {s z : Side} {c d : Colour} {k v j w : ℕ} {y a : Tree} {fs : List Seq.Frame} → InsertFixupFinds (Seq.frame s c k v y ∷ Seq.frame z d j w a ∷ fs) → Case c (colourOf a) fs
+finds-two insertFixup-balanced = case-balanced refl
+finds-two (insertFixup-level e r) = case-level refl e r
+finds-two (insertFixup-turn e) = case-turn refl e
 
 pub insertFixup-stops : (f : ℕ → Colour) (fs : List Frame) → InsertFixupFinds (eraseWay f fs) → Stops (pairsUp (insertFixupOf f fs .levels) fs) (insertFixupOf f fs .end)
 insertFixup-stops f [] r = stops-balanced
-insertFixup-stops f (hole s N y ∷ []) r = let e = insertFixup-one r in rw e stops-balanced
-insertFixup-stops f (hole s N y ∷ hole z Q a ∷ fs) r = go (insertFixup-two r) (λ i. insertFixup-stops f fs i)
+insertFixup-stops f (hole s N y ∷ []) r = let e = finds-one r in rw e stops-balanced
+insertFixup-stops f (hole s N y ∷ hole z Q a ∷ fs) r = go (finds-two r) (λ i. insertFixup-stops f fs i)
   where
     go : Case (f (N .num)) (colourOf (erase f a)) (eraseWay f fs) → (InsertFixupFinds (eraseWay f fs) → Stops (pairsUp (insertFixupOf f fs .levels) fs) (insertFixupOf f fs .end))
         → Stops (pairsUp (insertFixupOf f (hole s N y ∷ hole z Q a ∷ fs) .levels) (hole s N y ∷ hole z Q a ∷ fs)) (insertFixupOf f (hole s N y ∷ hole z Q a ∷ fs) .end)
@@ -108,7 +108,7 @@ pub stops-there : {fs : List Frame} {e : InsertFixupEnd} → Stops fs e → miss
 stops-there stops-balanced = refl
 stops-there stops-turn = refl
 
--- the phase after the climb's colours: the tree u at the place where it ended is there
+-- the phase after the fix-up's colours: the tree u at the place where it ended is there
 module _ (q : List ℕ) (root : ℕ) (G : Tree) where
   abbrev g : ℕ → Colour
   g = colours q

@@ -1,4 +1,4 @@
--- The colours that the climbs' levels leave are those that the tree's levels ask (`RisesTo`, `SinksTo`); the place where the levels end.
+-- The colours that the fix-ups' levels leave are those that the tree's levels ask (`InsertColours`, `DeleteColours`); the place where the levels end.
 use Prim.Native.Nat.{ℕ, zero, suc, _+_, _<_, _≤_}
 use mathlib.Core.Path.{_≡_, refl, ap, _∙_}
 use mathlib.Core.List.{List, [], _∷_}

@@ -100,13 +100,16 @@ module _ (f : ℕ → Colour) (d : Zig) where
   zigGoal true = Seq.paint black (Seq.plug (eraseWay f way) (Seq.zig s black red (C .key) (C .val) (erase f (at s A a (at s B x y))) (erase f r)))
   zigGoal false = Seq.plug (eraseWay f way) (Seq.zig s (f (C .num)) black (C .key) (C .val) (erase f (at s A a (at s B x y))) (erase f r))
 
--- how the climb after a write ends: an insert at a place; the loss of a node's colour at a place where a tree of the colour c came
+-- How the fix-up of a write ends: of an insert at a place; of a removal, where a node's colour was taken out at a place and a tree of the
+-- given colour came there.
 abbrev pub insertEnding : (ℕ → Colour) → List Frame → Ending
-insertEnding f fs = insertFixupEnding (insertFixupOf f fs .end) (pairsUp (insertFixupOf f fs .levels) fs)
+insertEnding f fs = let fix = insertFixupOf f fs in insertFixupEnding (fix .end) (pairsUp (fix .levels) fs)
 
 abbrev pub removalEnding : Colour → (ℕ → Colour) → Colour → List Frame → Ending
-removalEnding red f c fs = Balanced
-removalEnding black f c fs = deleteFixupEnding (deleteFixupOf f c fs .end) (tip f c (deleteFixupOf f c fs .levels) fs) (framesUp (deleteFixupOf f c fs .levels) fs)
+removalEnding red f came fs = Balanced
+removalEnding black f came fs =
+    let fix = deleteFixupOf f came fs in
+    deleteFixupEnding (fix .end) (tip f came (fix .levels) fs) (framesUp (fix .levels) fs)
 
 -- a tree with distinct nodes, whose coloured tree is in order and red-black
 pub record SoundBy (f : ℕ → Colour) (T : Linked) : Type 0 where
@@ -122,10 +125,10 @@ pub record Lined (G : Tree) (T : Linked) : Type 0 where
   pub ordered : Ordered (bare T)
   pub told : Told G T
 
--- The number n of a copy: no node of T, and the copy's colour.
-pub record Copied (f : ℕ → Colour) (T : Linked) (n : ℕ) (c : Colour) : Type 0 where
+-- The number n of a copy: no node of T; the copy has its colour.
+pub record Copied (f : ℕ → Colour) (T : Linked) (n : ℕ) (its : Colour) : Type 0 where
   pub new : occ n (nodes T) ≡ 0
-  pub colour : f n ≡ c
+  pub colour : f n ≡ its
 
 -- What holds of a place from its first store to its last. G is the sequential tree that the write makes, f gives the colours.
 module _ (f : ℕ → Colour) (G : Tree) where
@@ -178,7 +181,7 @@ diagStores w d = store (linkTo (d .way)) (DiagLower (d .side) (purposeOf w)) ∷
 abbrev pub zigStore : Bool → Zig → (Side → Purpose → Step) → Store
 zigStore w d x = store (linkTo (d .way)) (x (d .side) (zigPurpose w))
 
--- the stores of the climb when C's colour is lost at the end of a way
+-- the stores of the fix-up when C's colour is taken out at the end of a way
 abbrev pub removalStores : (ℕ → Colour) → Node → Linked → List Frame → List Store
 removalStores f C y way = endingStores (removalEnding (f (C .num)) f (colourOf (erase f y)) way)
 

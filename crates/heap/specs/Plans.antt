@@ -76,7 +76,7 @@ insert-planned st k v fs h i =
     let s = insertFixup-stops f fs (insert-fixup-finds (eraseWay f fs) (rw (erase-plug f fs nil) at (h .sound .proper .redblack))) in
     rw c record { possible = rw (stops-there s); phase = insert-0 k v fs site (record { sound = h .sound; into = i; goal = refl }) }
 
--- the ending that a loss's climb plans
+-- the ending that a removal's fix-up plans
 pub removal-ending : (p : List ℕ) (n x : ℕ) (c : Colour) (fs : List Frame) → isRed p x ≡ redly c → Sides p fs → (colours p n ≡ black → DeleteFixupFinds c (eraseWay (colours p) fs))
     → fixupAfterRemoval p n x (links fs) .ending ≡ removalEnding (colours p n) (colours p) c fs
 removal-ending p n x c fs d w s = go (colours p n) refl

@@ -1,4 +1,4 @@
--- The last store of a diag, for each rule: the tree at its place, and the coloured tree afterwards is the sequential rotation's.
+-- The last store of a diag, for each purpose: the tree at its place, and the coloured tree afterwards is the sequential rotation's.
 use Prim.Native.Nat.{ℕ, _+_, _<_, _≤_}
 use mathlib.Core.Path.{_≡_, refl, sym, ap, _∙_}
 use mathlib.Core.Bool.{Bool, true}

@@ -1,4 +1,4 @@
--- The colour work of a delete's store, `paintLoss`, gives the phase after it.
+-- The colour work of a delete's store, `paintDeleteFixup`, gives the phase after it.
 use Prim.Native.Nat.{ℕ, zero, suc, _≤_}
 use mathlib.Core.Path.{_≡_, refl, sym, ap, _∙_}
 use mathlib.Core.Bool.{cond}
@@ -116,7 +116,7 @@ module _ (st : State) (G : Tree) (gs : List Frame) (t : Linked) (x : ℕ) (path 
   abbrev e : Ending
   e = deleteFixupEnding (deleteFixupOf f c gs .end) (tip f c m gs) U
 
-  -- a black node is lost: the fixup's levels, then its end
+  -- a black node was taken out: the fix-up's levels, then its end
   pub black-core : Stop f (tip f c m gs) U (deleteFixupOf f c gs .end) → G ≡ rbDeleteFixup (eraseWay f gs) (erase f t) → Alike upToLinks (st .pool) (paintDeleteLevels m path (st .pool))
       → DeleteColours m f (colours (paintDeleteLevels m path (st .pool))) gs → erase (colours (paintDeleteLevels m path (st .pool))) t ≡ erase f t
       → cond (eqb m 0) x (linkNode st (getD path m Root)) ≡ linkNode st (linkTo U)

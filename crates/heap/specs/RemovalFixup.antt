@@ -1,4 +1,4 @@
--- The climb after a loss, read before the store and painted after it: for the stores that change no colour (unlink, detach).
+-- The fix-up after a removal, read before the store and painted after it: for the stores that change no colour (unlink, detach).
 use Prim.Native.Nat.{ℕ, zero, suc, _≤_}
 use mathlib.Core.Path.{_≡_, refl, sym, _∙_}
 use mathlib.Core.Bool.{false, cond}

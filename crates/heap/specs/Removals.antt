@@ -1,4 +1,4 @@
--- After a delete's store that lost a node's colour at a place: what the climb's colours leave is rest, or the rotation that the climb
+-- After a delete's store that takes a node's colour out at a place: what the fix-up's colours leave is rest, or the rotation that the fix-up
 -- ended with. The three forms of delete share this.
 use Prim.Native.Nat.{ℕ}
 use mathlib.Core.Path.{_≡_, refl, sym, ap, _∙_}
@@ -32,7 +32,7 @@ use Rattle.heap.specs.Places.{Diag}
 use Rattle.heap.specs.Phase.{onBlackSibling, onRedSibling, followStores, DiagNeeds, underCopy, diagGoal, Lined, Phase, at-rest, diag-0, zig-0}
 use Rattle.heap.specs.RaiseSteps.{split, erase-near}
 
--- the same parts of a tree under the names of the sequential fixup and of the phases
+-- the same parts of a tree under the names of the sequential fix-up and of the phases
 under-copy : (l : Nephew) (s : Side) (k v : ℕ) (x w : Tree) → under l s k v x w ≡ underCopy l (other s) k v w x
 under-copy noNephew s k v x w = sym (mk-other s black k v x (Seq.paint red w))
 under-copy (nephew true) s k v x w = refl
@@ -104,7 +104,8 @@ module _ (q : List ℕ) (root : ℕ) (G : Tree) (good : Proper G) where
         let goal′ : G ≡ diagGoal g d (onRedSibling o) = goal ∙ ap (Seq.plug (eraseWay g fs)) (redSibling-tree o s g B (N .key) (N .val) x z (erase g u)) in
         rw (turned y, redSibling-stores o fs s B x z) (diag-0 (onRedSibling o) d (there y h) (record { lined = rw (turned y) at lined; proper = good; needs = needs; goal = goal′ }))
 
-    redSibling-any : (o : Nephew) (y : Linked) → colourOf (erase g y) ≡ red → NotLeaf (Seq.child s (erase g y)) → nephewOf s (Seq.child s (erase g y)) ≡ o → Lacking (atRedSibling o) black (hole s N y ∷ fs) u
+    redSibling-any : (o : Nephew) (y : Linked) → colourOf (erase g y) ≡ red → NotLeaf (Seq.child s (erase g y)) → nephewOf s (Seq.child s (erase g y)) ≡ o
+        → Lacking (atRedSibling o) black (hole s N y ∷ fs) u
     redSibling-any o y e = split (λ y. NotLeaf (Seq.child s (erase g y)) → nephewOf s (Seq.child s (erase g y)) ≡ o → Lacking (atRedSibling o) black (hole s N y ∷ fs) u) (other s)
         (λ B x z n l. redSibling-diag o B x z (rw (erase-back g s B x z) at n) (rw (erase-back g s B x z) at l)) g y (red-there (erase g y) e)
 
@@ -131,7 +132,8 @@ module _ (q : List ℕ) (root : ℕ) (G : Tree) (good : Proper G) where
   endPool (RotateTwice t u) n = q
   endPool Missing n = q
 
-  pub stop-phase : {c : Colour} {U : List Frame} {e : DeleteFixupEnd} (u : Linked) → Stop g c U e → colourOf (erase g u) ≡ c → Site q root U u → Lined G (plug U u) → G ≡ deleteEnded e (eraseWay g U) (erase g u)
+  pub stop-phase : {c : Colour} {U : List Frame} {e : DeleteFixupEnd} (u : Linked) → Stop g c U e → colourOf (erase g u) ≡ c → Site q root U u → Lined G (plug U u)
+      → G ≡ deleteEnded e (eraseWay g U) (erase g u)
       → Phase (endPool (deleteFixupEnding e c U) (nodeAt q root (linkTo U))) root G (plug U u) (endingStores (deleteFixupEnding e c U))
   stop-phase {c = red} u stop-root e h lined goal = darkened [] u h lined goal
   stop-phase {c = black} u stop-root e h lined goal = black-rest u h lined e goal

@@ -1,5 +1,5 @@
 -- The one renaming of planned stores: when a publish puts n in B's place, the stores that hang on B's right hang on n. Renamed stores of a
--- climb's ending are the stores of that ending on the renamed way.
+-- fix-up's ending are the stores of that ending on the renamed way.
 use Prim.Native.Nat.{ℕ, zero, suc, _+_, _≤_}
 use mathlib.Core.Path.{_≡_, refl, _∙_}
 use mathlib.Core.Logic.{_≢_}
@@ -70,9 +70,9 @@ module _ (b n : ℕ) (low : 1 ≤ b) where
   moved-up (suc m) (swapped M N l fs e d o w) = same (framesUp m fs) (up-none m fs w)
   moved-up (suc m) (above s P y a o r) = moved-up m r
 
-  moved-turn : (form : Form) (l : Link) (s : Side) (c : Purpose) → map (movedStore b n) (turnStores form l s c) ≡ turnStores form (movedLink b n l) s c
-  moved-turn Diag l s c = refl
-  moved-turn Zig l s c = refl
+  moved-turn : (form : Form) (l : Link) (s : Side) (purpose : Purpose) → map (movedStore b n) (turnStores form l s purpose) ≡ turnStores form (movedLink b n l) s purpose
+  moved-turn Diag l s purpose = refl
+  moved-turn Zig l s purpose = refl
 
   head-stores : (e : DeleteFixupEnd) (c : Colour) (s : Side) (M N : Node) (y : Linked) {fs gs : List Frame} → occ b (nodes y) ≡ 0 → Renamed fs gs
       → map (movedStore b n) (endingStores (deleteFixupEnding e c (hole s M y ∷ fs))) ≡ endingStores (deleteFixupEnding e c (hole s N y ∷ gs))

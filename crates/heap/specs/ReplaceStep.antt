@@ -1,4 +1,4 @@
--- The second store of delete's second form, replace, from phase to phase. Its climb is read on the path through B, whose place C takes: the
+-- The second store of delete's second form, replace, from phase to phase. Its fix-up is read on the path through B, whose place C takes: the
 -- way erased is the same.
 use Prim.Native.Nat.{ℕ, _+_, _<_, _≤_}
 use mathlib.Core.Path.{_≡_, refl, sym, ap, ap₂, _∙_, subst}

@@ -28,9 +28,9 @@ use Rattle.heap.specs.Effects.{shift-same}
 use Rattle.heap.specs.Nodes.{Settled, phase-told}
 use Rattle.heap.specs.Writes.{Turn}
 
-turn-settled : (f : Form) (l : Link) (s : Side) (c : Purpose) (w : List Store) → Settled w → Settled (turnStores f l s c ++ w)
-turn-settled Diag l s c w h = (refl, (refl, h))
-turn-settled Zig l s c w h = (refl, (refl, (refl, h)))
+turn-settled : (f : Form) (l : Link) (s : Side) (purpose : Purpose) (w : List Store) → Settled w → Settled (turnStores f l s purpose ++ w)
+turn-settled Diag l s purpose w h = (refl, (refl, h))
+turn-settled Zig l s purpose w h = (refl, (refl, (refl, h)))
 
 ending-settled : (e : Ending) → Settled (endingStores e)
 ending-settled Balanced = tt

@@ -36,6 +36,7 @@ use Rattle.heap.specs.Moves.{Fresh, Once}
 use Rattle.heap.specs.Parts.{Parts}
 use Rattle.heap.specs.Phase.{Phase}
 
+-- the tree before, after; the link, its value; who comes, who leaves; list store or not, awaits or not
 pub data Shift : Linked → Linked → Link → ℕ → List ℕ → List ℕ → Bool → Bool → Type 0 where
   by-insert : (fs : List Frame) (Z : Node) → Into (Z .key) fs → occ (Z .num) (nodes (plug fs nil)) ≡ 0
       → Shift (plug fs nil) (plug fs (cell Z nil nil)) (linkTo fs) (Z .num) (Z .num ∷ []) [] true false

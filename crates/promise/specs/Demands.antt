@@ -146,13 +146,13 @@ pub record NeverMet (S : Start) (cs : List Call) : Type 0 where
   pub steps : (j : ℕ) (c : Call) → ¬ (Gives S cs j c (refused 12))
   pub lent : (j : ℕ) (c : Call) → ¬ (Gives S cs j c (refused 1))
 
--- What holds of every list of calls from a start; for which starts: theorem `promise-from` (crate joined).
+-- What holds of every list of calls from a start; for which starts: `promise-from` (crate theorem).
 pub record PromiseFrom (S : Start) (cs : List Call) : Type 0 where
   pub demand2 : Demand2 S cs
   pub demand3 : Demand3 S cs
   pub never : NeverMet S cs
 
--- What theorem `promise` (crate joined) says of every N from 8 to 1,023 and every list of calls: they start on a pool of N nodes just set up,
--- with no ticket and the tree `leaf`.
+-- What `promise` (crate theorem) says of every N from 8 to 1,023 and every list of calls: they start on a pool of N nodes just set up, with
+-- no ticket and the tree `leaf`.
 abbrev pub Promise : ℕ → List Call → Type 0
 Promise N cs = PromiseFrom (justSetUp N) cs

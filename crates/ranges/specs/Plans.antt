@@ -133,9 +133,9 @@ module _ (capacity : ℕ) (p : List ℕ) (fits : Fits capacity p) where
   removal-ok n x path h = cond-both FixupOk (isRed p n) tt (deleteFixup-ok 0 x path h)
 
   -- What an ending plans.
-  rotation-ok : (f : Form) (l : Link) (s : Side) (c : Purpose) → LinkOk capacity l → StoresOk capacity (turnStores f l s c)
-  rotation-ok Diag l s c h = ((h, tt), ((h, tt), tt))
-  rotation-ok Zig l s c h = ((h, tt), ((h, tt), ((h, tt), tt)))
+  rotation-ok : (f : Form) (l : Link) (s : Side) (purpose : Purpose) → LinkOk capacity l → StoresOk capacity (turnStores f l s purpose)
+  rotation-ok Diag l s purpose h = ((h, tt), ((h, tt), tt))
+  rotation-ok Zig l s purpose h = ((h, tt), ((h, tt), ((h, tt), tt)))
 
   pub ending-ok : (e : Ending) → EndingOk e → StoresOk capacity (endingStores e)
   ending-ok Balanced h = tt

@@ -161,7 +161,8 @@ module _ (capacity : ℕ) (st : State) (h : Within capacity st) where
   unlink-within l =
       let b = linkNode st l in
       let x = onlyChild (st .pool) b in
-      within-retire capacity _ b (node-fits capacity st l h) (within-removal capacity _ (unlinkFixup st l) x (unlinkPath st l) (within-less capacity _ (within-link capacity st l x (only-fits capacity (st .pool) b (h .fits)) h)))
+      within-retire capacity _ b (node-fits capacity st l h)
+      (within-removal capacity _ (unlinkFixup st l) x (unlinkPath st l) (within-less capacity _ (within-link capacity st l x (only-fits capacity (st .pool) b (h .fits)) h)))
 
   adopt-within : (l : Link) → Within capacity (adoptStore st l .after)
   unfolding adoptStore

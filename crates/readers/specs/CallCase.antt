@@ -15,7 +15,8 @@ use Rattle.spec.specs.Free.{endReading}
 use Rattle.spec.specs.Search.{towards}
 use Rattle.spec.specs.Turn.{stepFinds, stepMade}
 use Rattle.spec.specs.Calls.{ok, go, absent, wait, found, refused, Outcome, outcome, Test, _gives_, firstOf, unless}
-use Rattle.spec.specs.Calls.{insertTests, deleteTests, waiting, firstFinds, writerTests, beginTests, reading, writeInHand, placeOf, insertAt, deleteAt, insert, delete, stored, writerTurn, begin, loaded}
+use Rattle.spec.specs.Calls.{insertTests, deleteTests, waiting, firstFinds, writerTests, beginTests, reading, writeInHand, placeOf, insertAt, deleteAt}
+use Rattle.spec.specs.Calls.{insert, delete, stored, writerTurn, begin, loaded}
 use Rattle.spec.specs.Calls.{readerStep, readerTests, readerTurn, giveUp, Call, inserting, deleting, writing}
 use Rattle.spec.specs.Calls.{beginning, turning, givingUp, call}
 use Rattle.promise.specs.Run.{Reads}
@@ -97,7 +98,8 @@ step-case st s p =
       ]
     ]
 
-turn-case : (st : State) → firstOf (writerTests st) ≡ 0 → CallCase st writing (cond (waiting st) (outcome wait st) (stored (stepMade st (storeOf (st .register) 0 .link) (storeOf (st .register) 0 .step))))
+turn-case : (st : State) → firstOf (writerTests st) ≡ 0
+    → CallCase st writing (cond (waiting st) (outcome wait st) (stored (stepMade st (storeOf (st .register) 0 .link) (storeOf (st .register) 0 .step))))
 turn-case st e =
     let c = clear (writerTests st) (omega arith, (omega arith, (omega arith, (omega arith, tt)))) e in
     go (eqb (st .register .awaited) 0) refl (not-false (writeInHand st) (c .1 .1 .0)) (c .1 .1 .1 .0)

@@ -1,4 +1,4 @@
--- The stock of free nodes: the queue holds just the nodes standing free, once each, and the free count is their number.
+-- The free queue is exact: it holds just the nodes standing free, once each, and the free count is their number.
 -- Kept by take, free, a node marked retired, and every word and field that is none of the queue's.
 use Prim.Native.Nat.{ℕ, _+_, _-_, _<_}
 use mathlib.Core.Path.{_≡_, refl, sym, ap, _∙_}

@@ -1,5 +1,5 @@
 -- A link store of the writer before anything is retired: a node may have been taken and filled, one link is stored, colours may change.
--- What every word of the other nodes is then; no node is lost.
+-- What every word of the other nodes is then; no node goes missing.
 use Prim.Native.Nat.{ℕ, _+_, _<_, _≤_}
 use mathlib.Core.Path.{_≡_, refl, sym, ap, _∙_, subst}
 use mathlib.Core.Bool.{Bool, true, false, cond}

@@ -1,5 +1,5 @@
--- A turn of the writer as readers meet it: one link stored, perhaps a node that came, perhaps nodes that went and are retired. The fate of
--- each node, which nodes are linked afterwards, and the words that lookups go by.
+-- A turn of the writer as readers meet it: one link stored, perhaps a node that came, perhaps nodes that went and are retired. What
+-- becomes of each node, which nodes are linked afterwards, and the words that lookups go by.
 use Prim.Native.Nat.{ℕ, _+_, _≤_}
 use mathlib.Core.Path.{_≡_, refl, sym, _∙_, subst}
 use mathlib.Core.Bool.{true, false, cond}

@@ -63,7 +63,7 @@ leavesTree-end st s u h =
       free = omega arith;
     }
 
--- a store is heard as a store
+-- the plain list's notice of a store
 pub store-notice : (m : Made) → noticeOf (stored m .answer) ≡ carriedOut
 unfolding stored
 store-notice m = go (eqb (lessFirst (m .after .register .write) .count) 0)
@@ -101,7 +101,8 @@ module _ (W : State → Plain → Linked → Type 0) (writer : Writer W) where
       rw (store-notice (stepMade st (storeOf (st .register) 0 .link) (storeOf (st .register) 0 .step)))
       (record { safe = safe-store st (afterStore st) _ (h .tree) (h .safe) s; tree = s .tree; holds = s .kept })
   sound-next st x c o (begins s k u e) h =
-      record { safe = safe-reader st s _ u refl (λ d. absurd (d refl)) (h .safe); tree = h .tree; holds = writer .leavesTree st _ x (h .tree) (h .holds) (leavesTree-reader st s _) }
+      record { safe = safe-reader st s _ u refl (λ d. absurd (d refl)) (h .safe); tree = h .tree;
+        holds = writer .leavesTree st _ x (h .tree) (h .holds) (leavesTree-reader st s _) }
   sound-next st x c o (loads s n p l d) h =
       record { safe = safe-reader st s _ (p .low) refl (λ _. kept-load st s n (h .safe) p l d) (h .safe); tree = h .tree; holds = writer .leavesTree st _ x (h .tree) (h .holds) (leavesTree-reader st s _) }
   sound-next st x c o (misses s n p l e) h =

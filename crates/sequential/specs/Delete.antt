@@ -22,7 +22,7 @@ siblingTurn s c k v x w =
 abbrev pub underRed : Side → ℕ → ℕ → Tree → Tree → Tree
 underRed s k v x w = ifRed (redChild w) (siblingTurn s red k v x w) (mk s black k v x (paint red w))
 
--- RB-DELETE-FIXUP. x came to a place that lost a black node.
+-- RB-DELETE-FIXUP. x came to a place that a black node was taken from.
 abbrev pub rbDeleteFixup : List Frame → Tree → Tree
 rbDeleteFixup [] x = paint black x
 rbDeleteFixup (frame s c k v w ∷ fs) x =

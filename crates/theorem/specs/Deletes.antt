@@ -54,7 +54,7 @@ use Rattle.theorem.specs.Laters.{takesAll}
 use Rattle.theorem.specs.WriterSide.{seqOf, indexOf, Pending, Timing, now, soon, WriterSide}
 use Rattle.theorem.specs.Rests.{resting, changed-end, few-turn, with-held, with-free}
 
--- a loss's climb takes three nodes at most
+-- a removal's fix-up takes three nodes at most
 abbrev Few : Fixup → Type 0
 Few c = takesAll (endingStores (c .ending)) ≤ 3
 
@@ -100,7 +100,8 @@ module _ (st : State) (l : Link) (b : ℕ) where
 
   first-form : twoChildren p b ≡ false → Shape (deletePlan st l b) 1
   unfolding deletePlan unlinkPlan
-  first-form e = rw e (at-once (store l Unlink) (endingStores (fixupAfterRemoval p b (onlyChild p b) way .ending)) refl refl (λ capacity h. refl) (let a = few-removal p b (onlyChild p b) way in omega arith))
+  first-form e =
+      rw e (at-once (store l Unlink) (endingStores (fixupAfterRemoval p b (onlyChild p b) way .ending)) refl refl (λ capacity h. refl) (let a = few-removal p b (onlyChild p b) way in omega arith))
 
   second-form : twoChildren p b ≡ true → child p L (child p R b) ≡ 0 → deletePlan st l b .possible ≡ true → Shape (deletePlan st l b) 2
   unfolding deletePlan

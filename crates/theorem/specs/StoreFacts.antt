@@ -1,4 +1,4 @@
--- A turn on a phase (heap: Writes.turn) gives all that the readers' side asks of a store (runs: Stores), and the nodes linked afterwards are
+-- A turn on a phase (heap: Writes.turn) gives all that the readers' side asks of a store (runs: Writer.Stores), and the nodes linked afterwards are
 -- again those of the tree.
 use Prim.Native.Nat.{ℕ}
 use mathlib.Core.Path.{_≡_, refl, _∙_, subst}
@@ -96,17 +96,17 @@ module _ (st : State) (G : Tree) (T : Linked) (x : Store) (l : List Store) (safe
   met = parts-turn st T (next .tree) made _ (next .gone) _ _ safe rep (λ n u. lk n .1 (occ-in n (nodes T) u)) (next .shift) (next .parts) exactOf
       (rw (next .fields .awaited) (await-slots (x .step) (st .register) (safe .owned .awaited)))
 
-  pub met-turn : Turn st (stored made .after) (takenBy (x .step) (st .register .first)) (next .gone) (made .link) (made .node)
-  met-turn = rw (after-is made) (turn-write st (made .after) _ _ (made .link) (made .node) _ met)
+  pub facts-turn : Turn st (stored made .after) (takenBy (x .step) (st .register .first)) (next .gone) (made .link) (made .node)
+  facts-turn = rw (after-is made) (turn-write st (made .after) _ _ (made .link) (made .node) _ met)
 
   moves : Moves (takenBy (x .step) (st .register .first)) (next .gone) T (next .tree)
   moves = shift-moves (next .shift)
 
   -- the linked nodes are the tree's
-  pub met-linked : (n : ℕ) → HasStanding (stored made .after .pool) n standingLinked ↔ (n ∈ nodes (next .tree))
-  met-linked n = (
-    λ e. (let a = met-turn .linked n .0 e in moves n .1 (⊎-elim (λ i. inl (lk n .0 i)) (λ i. inr i) (a .0), a .1)),
-    λ i. (let a = moves n .0 i in met-turn .linked n .1 (⊎-elim (λ j. inl (lk n .1 j)) (λ j. inr j) (a .0), a .1)),
+  pub facts-linked : (n : ℕ) → HasStanding (stored made .after .pool) n standingLinked ↔ (n ∈ nodes (next .tree))
+  facts-linked n = (
+    λ e. (let a = facts-turn .linked n .0 e in moves n .1 (⊎-elim (λ i. inl (lk n .0 i)) (λ i. inr i) (a .0), a .1)),
+    λ i. (let a = moves n .0 i in facts-turn .linked n .1 (⊎-elim (λ j. inl (lk n .1 j)) (λ j. inr j) (a .0), a .1)),
   )
 
   own : OwnerLinked (st .pool) (made .link)
@@ -115,7 +115,7 @@ module _ (st : State) (G : Tree) (T : Linked) (x : Store) (l : List Store) (safe
   stays : (n : ℕ) → HasStanding (st .pool) n standingLinked → owner (made .link) ≡ n → (n ∈ nodes (next .tree)) × (¬ (n ∈ takenBy (x .step) (st .register .first)))
   stays n e o = (
     moves n .1 (inl (lk n .0 e), λ j. shift-gone (st .pool) (st .register .root) (next .shift) rep n j .1 o),
-    λ j. (let a = met-turn .new n j in absurd (omega arith)),
+    λ j. (let a = facts-turn .new n j in absurd (omega arith)),
   )
 
   -- each path keeps its nodes in their order, or all reading slots are awaited
@@ -126,18 +126,18 @@ module _ (st : State) (G : Tree) (T : Linked) (x : Store) (l : List Store) (safe
           → made .after .register .awaited ≡ cond a (readingSlots (st .register)) (st .register .awaited)
           → Thins (Unlinked (stored made .after .pool)) T (next .tree) ⊎ (stored made .after .register .awaited ≡ readingSlots (st .register))
       go true sh e = inr (rw (after-is made) (write-awaited (made .after .register) _ ∙ e))
-      go false sh e = inl (shift-thin (Unlinked (stored made .after .pool)) sh (λ i j e. met-turn .linked i .0 e .1 j))
+      go false sh e = inl (shift-thin (Unlinked (stored made .after .pool)) sh (λ i j e. facts-turn .linked i .0 e .1 j))
 
-  pub met-stores : (W : Linked → Type 0) → W (next .tree) → Stores st (stored made .after) T W
-  met-stores W w =
-      let u = value-rep st (stored made .after) _ _ (made .link) (made .node) (next .tree) met-turn rep′ own stays in
+  pub facts-stores : (W : Linked → Type 0) → W (next .tree) → Stores st (stored made .after) T W
+  facts-stores W w =
+      let u = value-rep st (stored made .after) _ _ (made .link) (made .node) (next .tree) facts-turn rep′ own stays in
       record {
         tree = next .tree;
         came = takenBy (x .step) (st .register .first);
         gone = next .gone;
         link = made .link;
         value = made .node;
-        turn = met-turn;
+        turn = facts-turn;
         owner = own;
         below = u .0;
         unfolds = u .1;

@@ -68,7 +68,8 @@ module _ (p : List ℕ) (root : ℕ) where
   far-in : (s : Side) (N : Node) (x y : Linked) (i : ℕ) → 0 < occ i (nodes y) → 0 < occ i (nodes (at s N x y))
   far-in s N x y i u = let a = occ-at s N x y i in omega arith
 
-  pub shift-owner : {T T′ : Linked} {l : Link} {v : ℕ} {came gone : List ℕ} {b w : Bool} → Shift T T′ l v came gone b w → ((n : ℕ) → 0 < occ n (nodes T) → HasStanding p n standingLinked) → OwnerLinked p l
+  pub shift-owner : {T T′ : Linked} {l : Link} {v : ℕ} {came gone : List ℕ} {b w : Bool} → Shift T T′ l v came gone b w
+      → ((n : ℕ) → 0 < occ n (nodes T) → HasStanding p n standingLinked) → OwnerLinked p l
   shift-owner (by-insert fs Z i w) lk = link-owner fs nil lk
   shift-owner (by-diag-lower fs s B C n o x r ord w z) lk = linked-at p (other s) (B .num) (lk (B .num) (there fs _ (B .num) (near-in s C (at s B o x) r (B .num) (top s B o x))))
   shift-owner (by-diag-raise fs s B C n o x r ord w z) lk = link-owner fs _ lk

@@ -35,7 +35,7 @@ use Rattle.readers.specs.Safe.{Safe}
 use Rattle.runs.specs.Writer.{Stores, afterStore}
 use Rattle.theorem.specs.Laters.{takesAll, later-plain, held-plain, later-takes, taken-length}
 use Rattle.theorem.specs.Steps.{QueueHas}
-use Rattle.theorem.specs.StoreFacts.{turned, met-turn, met-linked, met-stores}
+use Rattle.theorem.specs.StoreFacts.{turned, facts-turn, facts-linked, facts-stores}
 
 abbrev pub seqOf : Plain → Tree
 seqOf x = changedBy (x .started) (acceptedWrites x)
@@ -75,7 +75,8 @@ pub record WriterSide (st : State) (x : Plain) (T : Linked) : Type 0 where
   pub started : Proper (x .started)
 
 -- the queue has a node where one is taken
-queue-ready : (st : State) (T : Linked) (came : List ℕ) → Safe st → ((n : ℕ) → HasStanding (st .pool) n standingLinked ↔ (n ∈ nodes T)) → length came ≤ st .register .free → Ready st T came × QueueHas st came
+queue-ready : (st : State) (T : Linked) (came : List ℕ) → Safe st → ((n : ℕ) → HasStanding (st .pool) n standingLinked ↔ (n ∈ nodes T))
+    → length came ≤ st .register .free → Ready st T came × QueueHas st came
 queue-ready st T [] safe lk u = (tt, tt)
 queue-ready st T (c ∷ l) safe lk u = go (safe .queue) (safe .owned) refl
   where
@@ -110,7 +111,7 @@ module _ (st : State) (x : Plain) (T : Linked) (safe : Safe st) (was : WriterSid
 
   takes-after : takesAll rest ≤ after .register .free
   takes-after =
-      let a = met-turn st (seqOf x) T s l safe hand (was .linked) (ready .0) (ready .1) .free in
+      let a = facts-turn st (seqOf x) T s l safe hand (was .linked) (ready .0) (ready .1) .free in
       let b = later-takes st (s .link) (s .step) l in
       let c = taken-length (s .step) (st .register .first) 0 in
       omega arith
@@ -128,7 +129,7 @@ module _ (st : State) (x : Plain) (T : Linked) (safe : Safe st) (was : WriterSid
     side-after ts e f h u w = record {
       stores = rest;
       hand = subst (λ g. InHand after g (t .next .tree) rest) same-seq (t .in-hand);
-      linked = met-linked st (seqOf x) T s l safe hand (was .linked) (ready .0) (ready .1);
+      linked = facts-linked st (seqOf x) T s l safe hand (was .linked) (ready .0) (ready .1);
       finds = λ k. f k ∙ ap (recordFor k) (sym e);
       held = h ∙ ap length (sym e);
       unique = subst Unique (sym e) u;
@@ -159,7 +160,7 @@ module _ (st : State) (x : Plain) (T : Linked) (safe : Safe st) (was : WriterSid
     pub next-pending : (b : Store) (p : Pending st x b) → p .change ≡ c → isListStore (s .step) ≡ false → x .made + 1 ≢ indexOf x c → Pending after x′ b
     next-pending b p i e d =
         let same : x′ .tickets ≡ x .tickets = rw (ne-eqb (x .made + 1) (indexOf x c) d) in
-        let big : poolNodes (after .pool) ≡ poolNodes (st .pool) = ap (λ n. n / nodeWords) (met-turn st (seqOf x) T s l safe hand (was .linked) (ready .0) (ready .1) .size) in
+        let big : poolNodes (after .pool) ≡ poolNodes (st .pool) = ap (λ n. n / nodeWords) (facts-turn st (seqOf x) T s l safe hand (was .linked) (ready .0) (ready .1) .size) in
         let lists : updated (p .change) (x .tickets) ≡ updated c (x′ .tickets) = ap (λ z. updated z (x .tickets)) i ∙ ap (updated c) (sym same) in
         record {
           change = c;
@@ -191,7 +192,7 @@ module _ (st : State) (x : Plain) (T : Linked) (safe : Safe st) (h : WriterSide 
       → Stores st (stored (stepMade st (s .link) (s .step)) .after) T (λ z. WriterSide (stored (stepMade st (s .link) (s .step)) .after) (storeMade x (x .inHand)) z)
   turn-on s l hand tks fw w =
       let r = ready st x T safe h s l hand tks fw in
-      met-stores st (seqOf x) T s l safe hand (h .linked) (r .0) (r .1) (λ z. WriterSide (stored (stepMade st (s .link) (s .step)) .after) (storeMade x (x .inHand)) z) (go (due-of st x s l w))
+      facts-stores st (seqOf x) T s l safe hand (h .linked) (r .0) (r .1) (λ z. WriterSide (stored (stepMade st (s .link) (s .step)) .after) (storeMade x (x .inHand)) z) (go (due-of st x s l w))
     where
       kept : (c : Change) → x .inHand ≡ some c → WriterSide (stored (stepMade st (s .link) (s .step)) .after) (storeMade x (some c)) (t st x T safe h s l hand tks fw .next .tree)
           → WriterSide (stored (stepMade st (s .link) (s .step)) .after) (storeMade x (x .inHand)) (t st x T safe h s l hand tks fw .next .tree)

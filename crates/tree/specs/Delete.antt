@@ -19,7 +19,7 @@ use Rattle.tree.specs.Descent.{Into, AtKey, descend-plug, descend-into, 
 use Rattle.tree.specs.Writes.{Writes, writes-keeps, writes-plug}
 use Rattle.tree.specs.DeleteShape.{redChild-inner, redChild-there}
 
--- The fixup keeps the tickets.
+-- The fix-up keeps the tickets.
 blackOuter-keeps : (z : Side) (w : Tree) → NotLeaf w → Keeps w (blackOuter z w)
 blackOuter-keeps z w n =
     let at-w : Keeps (mk z (colourOf w) (keyOf w) (recordOf w) (child z w) (child (other z) w)) (blackOuter z w) = keeps-mk z _ _ _ _ (keeps-paint black (child z w)) (keeps-refl _) in
@@ -39,7 +39,7 @@ underRed-keeps : (s : Side) (c : Colour) (k v : ℕ) (x w : Tree) → Keeps (mk 
 underRed-keeps s c k v x w =
     ifRed-case (Keeps (mk s red k v x w)) (redChild w) (λ e. siblingTurn-keeps s red k v x w e) (λ e. keeps-mk s red black k v (keeps-refl x) (keeps-paint red w))
 
--- fixup's case 1 is a diag, whose lower node has x and the sibling's inner child
+-- Case 1 of the fix-up, a red sibling, is a diag, whose lower node has x and the sibling's inner child
 pub redSibling-diag : (s : Side) (k v : ℕ) (x w : Tree)
     → diag (other s) black red k v w x ≡ mk s black (keyOf w) (recordOf w) (mk s red k v x (child s w)) (child (other s) w)
 redSibling-diag L k v x w = refl

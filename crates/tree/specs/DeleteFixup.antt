@@ -1,6 +1,6 @@
--- Where delete's fixup ends: how many levels it passes by colours alone, and then x turns black, or one rotation, or a diag for a red
--- sibling and then nothing or one more rotation. `sink` looks at what the plan of a delete looks at, level by level: is x red, is the
--- sibling red, is its outer child red, is its inner child red.
+-- Where the delete fix-up ends: how many levels it goes up by colours alone, and then x turns black, or one rotation, or a diag for a red
+-- sibling and then nothing or one more rotation. `deleteFixupOn` looks at what the plan of a delete looks at, level by level: is x red, is
+-- the sibling red, is its outer child red, is its inner child red. A nephew is a red child of the sibling.
 use Prim.Native.Nat.{ℕ, zero, suc}
 use mathlib.Core.Path.{_≡_, refl, ap, _∙_}
 use mathlib.Core.Bool.{Bool, true, false}
@@ -14,12 +14,12 @@ use Rattle.tree.specs.Sorted.{NotLeaf, colour-case, colourOf-mk}
 use Rattle.tree.specs.RedBlack.{Fit, fit-top, fit-red, fit-black, red-child, root-is, tall-there}
 use Rattle.tree.specs.DeleteShape.{redChild-seen, siblingTurn-outer, siblingTurn-inner}
 
--- Under a sibling without a red child no rotation; else a diag (the outer child is red) or a zig.
+-- No red child of the sibling: no rotation; else a diag (the outer child is red) or a zig.
 pub data Nephew : Type 0 where
   noNephew : Nephew
   nephew : (outer : Bool) → Nephew
 
--- darken: x is red, or the root. borrowed: one rotation at x's parent. passed: a diag there for a red sibling, and then what is under the copy.
+-- darken: x is red, or the root. atBlackSibling: one rotation at x's parent. atRedSibling: a diag there, and then what is under the copy.
 pub data DeleteFixupEnd : Type 0 where
   darken : DeleteFixupEnd
   atBlackSibling : (outer : Bool) → DeleteFixupEnd
@@ -74,7 +74,7 @@ deleteEnded (atBlackSibling b) (frame s c k v w ∷ fs) x = plug fs (nephewTurn 
 deleteEnded (atRedSibling l) [] x = x
 deleteEnded (atRedSibling l) (frame s c k v w ∷ fs) x = plug fs (mk s black (keyOf w) (recordOf w) (under l s k v x (child s w)) (child (other s) w))
 
--- a sibling's loan, as the fixup tests it and as `loanOf` does
+-- a sibling's nephew, as the fix-up tests for it and as `nephewOf` names it
 nephew-case : {A : Type 0} (s : Side) (w : Tree)
     → ((b : Bool) → nephewOf s w ≡ nephew b → redChild w ≡ red → ((c : Colour) (k v : ℕ) (x : Tree) → siblingTurn s c k v x w ≡ nephewTurn b s c k v x w) → A)
     → (nephewOf s w ≡ noNephew → redChild w ≡ black → A) → A
@@ -98,7 +98,7 @@ deleteFixup-ends (frame s c k v w ∷ fs) x =
     (λ f. rw f (ap (λ t. plug fs (mk s black (keyOf w) (recordOf w) t (child (other s) w))) (underRed-nephew s k v x (child s w))))
     (λ f. nephew-case s w (λ b l r h. rw (l, r, h c k v x, f)) (λ l r. rw (l, r, f) (rw colourOf-mk at (deleteFixup-ends fs (mk s c k v x (paint red w))))))))
 
--- In a red-black tree the fixup never names a node that is missing: siblings are there, and so is a red sibling's child next to x.
+-- In a red-black tree the delete fix-up never names a node that is missing: siblings are there, and so is a red sibling's child next to x.
 pub data DeleteFixupFinds : Colour → List Frame → Type 0 where
   deleteFixup-root : {c : Colour} → DeleteFixupFinds c []
   deleteFixup-red : {f : Frame} {fs : List Frame} → DeleteFixupFinds red (f ∷ fs)
@@ -109,7 +109,7 @@ pub data DeleteFixupFinds : Colour → List Frame → Type 0 where
   deleteFixup-level : {s : Side} {c : Colour} {k v : ℕ} {w : Tree} {fs : List Frame} → NotLeaf w → colourOf w ≡ black → nephewOf s w ≡ noNephew → DeleteFixupFinds c fs
       → DeleteFixupFinds black (frame s c k v w ∷ fs)
 
--- the red child that a loan names
+-- the red child that a nephew is
 outer-red : (a b : Colour) → ifRed a (nephew true) (ifRed b (nephew false) noNephew) ≡ nephew true → a ≡ red
 outer-red red b e = refl
 outer-red black red e = let z : _≡_ {A = ℕ} 0 1 = cc in absurd (omega arith)

@@ -1,4 +1,4 @@
--- Sequential delete keeps a red-black tree. Used by Changes; its lemmas on siblings by Delete, Sink and Ends.
+-- Sequential delete keeps a red-black tree. Used by Changes; its lemmas on siblings by Delete, DeleteFixup and Ends.
 use Prim.Native.Nat.{ℕ, suc}
 use mathlib.Core.Path.{_≡_, refl, sym, ap, _∙_}
 use mathlib.Core.List.{List, [], _∷_}
@@ -36,14 +36,14 @@ pub redChild-there : (w : Tree) → redChild w ≡ red → NotLeaf w
 redChild-there leaf e = red-there leaf e
 redChild-there (node c k v l r) e = tt
 
--- a borrow is a diag if the sibling's outer child is red, else a zig
+-- with a black sibling: a diag if the sibling's outer child is red, else a zig
 pub siblingTurn-outer : (s : Side) (c : Colour) (k v : ℕ) (x w : Tree) → colourOf (child (other s) w) ≡ red → siblingTurn s c k v x w ≡ diag (other s) c black k v (blackOuter (other s) w) x
 siblingTurn-outer s c k v x w e = ap (λ d. ifRed d (diag (other s) c black k v (blackOuter (other s) w) x) (zig (other s) c black k v w x)) e
 
 pub siblingTurn-inner : (s : Side) (c : Colour) (k v : ℕ) (x w : Tree) → colourOf (child (other s) w) ≡ black → siblingTurn s c k v x w ≡ zig (other s) c black k v w x
 siblingTurn-inner s c k v x w e = ap (λ d. ifRed d (diag (other s) c black k v (blackOuter (other s) w) x) (zig (other s) c black k v w x)) e
 
--- the sibling w, on the side z of a parent of the colour c, lends a black node to x
+-- the sibling w, on the side z of a parent of the colour c, has a red child: after the rotation x lacks no black node
 nephew-good : (z : Side) (c : Colour) (k v : ℕ) {h : ℕ} {x w : Tree} → RB black h x → RB black (suc h) w → redChild w ≡ red
     → RB c (above c (suc h)) (ifRed (colourOf (child z w)) (diag z c black k v (blackOuter z w) x) (zig z c black k v w x))
 nephew-good z c k v {h} {x} {w} rx rw′ e = go (black-child z rw′ .0) (black-child (other z) rw′ .0) (black-child z rw′ .1) (black-child (other z) rw′ .1)

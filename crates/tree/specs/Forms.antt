@@ -1,5 +1,5 @@
 -- Insert and delete at the place that a search found, in a tree given by its zipper: which nodes delete's three forms are about, and the
--- way on which the fixup climbs. For the plans of insert and delete, which walk the same way in the pool.
+-- way that the fix-up goes. For the plans of insert and delete, which walk the same way in the pool.
 use Prim.Native.Nat.{ℕ}
 use mathlib.Core.Path.{_≡_, refl, ap, _∙_}
 use mathlib.Core.List.{List, [], _∷_, _++_}

@@ -25,7 +25,7 @@ turnUp-good {z} outer k v j w r ry ra = simp parts (mk-black z k v r (mk-red z j
 turnUp-good {z} inner k v j w {x = x} {y = y} r ry ra =
     rw (mk-other z red k v y x) (simp parts (mk-black z (keyOf x) (recordOf x) (mk-red z k v ry (red-child z r)) (mk-red z j w (red-child (other z) r) ra)))
 
--- a climb can end with a red root, which `placed` paints black
+-- the fix-up can end with a red root, which `insertedAt` paints black
 pub rbInsertFixup-good : {fs : List Frame} {h : ℕ} {x : Tree} → Fit fs black h → RB red h x → RedBlack (paint black (rbInsertFixup fs x))
 rbInsertFixup-good fit-top r = (_, blacken r)
 rbInsertFixup-good (fit-black {s} {k} {v} f ry) r = blacken-root (fit-plug f (mk-black s k v r ry))

@@ -1,5 +1,5 @@
--- Where insert's climb ends: how many levels it passes by colours alone, and then nothing more, or one diag or zig.
--- `rise` looks at what the plan of an insert looks at, level by level: is the parent red, is the aunt red.
+-- Where the insert fix-up ends: how many levels it goes up by colours alone, and then nothing more, or one diag or zig.
+-- `insertFixupOn` looks at what the plan of an insert looks at, level by level: is the parent red, is the aunt red.
 use Prim.Native.Nat.{ℕ, zero, suc}
 use mathlib.Core.Path.{_≡_, refl}
 use mathlib.Core.Bool.{Bool}
@@ -11,7 +11,7 @@ use Rattle.sequential.specs.Insert.{turnUp, rbInsertFixup}
 use Rattle.tree.specs.Sorted.{colour-case}
 use Rattle.tree.specs.RedBlack.{Fit, fit-top, fit-red, fit-black, root-is}
 
--- calm: a black parent, or x is the root. rotate: a red parent on the side z of the grandparent and no red aunt; x is an outer child or not.
+-- balanced: a black parent, or x is the root. rotate: a red parent on the side z of the grandparent and no red aunt; x is an outer child or not.
 -- rootRed: a red parent without a parent of its own.
 pub data InsertFixupEnd : Type 0 where
   balanced : InsertFixupEnd
@@ -60,7 +60,7 @@ insertFixup-ends (frame s red k v y ∷ []) x = refl
 insertFixup-ends (frame s red k v y ∷ frame z c j w aunt ∷ fs) x =
     colour-case (colourOf aunt) (λ e. rw e (insertFixup-ends fs (mk z red j w (mk s black k v x y) (paint black aunt)))) (λ e. rw e)
 
--- In a red-black tree a red parent has a black parent: the climb is never without a node that it names.
+-- In a red-black tree a red parent has a black parent: the insert fix-up is never without a node that it names.
 pub data InsertFixupFinds : List Frame → Type 0 where
   insertFixup-root : InsertFixupFinds []
   insertFixup-balanced : {s : Side} {k v : ℕ} {y : Tree} {fs : List Frame} → InsertFixupFinds (frame s black k v y ∷ fs)

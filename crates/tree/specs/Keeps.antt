@@ -1,5 +1,5 @@
 -- Changes of a sequential tree that keep keys, records and order; the two rotations and painting are such changes.
--- Used for insert's climb and delete's fixup.
+-- Used for both fix-ups.
 use Prim.Native.Nat.{ℕ}
 use mathlib.Core.Path.{_≡_, refl, _∙_}
 use mathlib.Core.List.{List, [], _∷_}

@@ -1,5 +1,5 @@
--- The colour work of the climbs in linked trees: how the colours g differ from f after n levels of `climb` or `fixup`. heap: Paints shows
--- that the writer's painting does this, and what tree it leaves.
+-- The colour work of the fix-ups in linked trees: how the colours g differ from f after n levels of `rbInsertFixup` or `rbDeleteFixup`.
+-- heap: Paints shows that the writer's painting does this, and what tree it leaves.
 use Prim.Native.Nat.{ℕ, zero, suc}
 use mathlib.Core.Path.{_≡_}
 use mathlib.Core.List.{List, [], _∷_}

@@ -1,4 +1,4 @@
--- The climbs in a red-black tree: from the tree before the write, the way of insert's climb and of delete's fixup names no node that is
+-- The fix-ups in a red-black tree: from the tree before the write, the way of the insert and of the delete fix-up names no node that is
 -- missing (a red parent has a parent; a sibling is there; so is a red sibling's child next to x). For 'no run meets 12'.
 use Prim.Native.Nat.{ℕ, suc}
 use mathlib.Core.Path.{_≡_, refl}
@@ -27,14 +27,14 @@ pub unplug : (fs : List Frame) (t : Tree) → RedBlack (plug fs t) → Fits fs t
 unplug [] t g = record { colour = black; height = g .0; way = fit-top; sub = g .1 }
 unplug (frame s d k v y ∷ fs) t g = let i = unplug fs (mk s d k v t y) g in unfit s d k v t y (i .way) (i .sub)
 
--- Insert: the climb begins at an empty place.
+-- Insert: the fix-up begins at an empty place.
 empty-fit : {fs : List Frame} {c : Colour} {h : ℕ} → Fit fs c h → RB c h leaf → Fit fs black 0
 empty-fit f rb-leaf = f
 
 pub insert-fixup-finds : (fs : List Frame) → RedBlack (plug fs leaf) → InsertFixupFinds fs
 insert-fixup-finds fs g = let i = unplug fs leaf g in fit-insert-finds (empty-fit (i .way) (i .sub))
 
--- Delete: the fixup begins where a black node was.
+-- Delete: the fix-up begins where a black node was.
 black-fit : (s : Side) (k v : ℕ) (x y : Tree) {fs : List Frame} {c : Colour} {h : ℕ} → Fit fs c h → RB c h (mk s black k v x y) → (j : ℕ) × Fit fs black (suc j)
 black-fit L k v x y f (rb-black a b) = (_, f)
 black-fit R k v x y f (rb-black a b) = (_, f)
