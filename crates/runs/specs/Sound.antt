@@ -104,7 +104,8 @@ module _ (W : State → Plain → Linked → Type 0) (writer : Writer W) where
       record { safe = safe-reader st s _ u refl (λ d. absurd (d refl)) (h .safe); tree = h .tree;
         holds = writer .leavesTree st _ x (h .tree) (h .holds) (leavesTree-reader st s _) }
   sound-next st x c o (loads s n p l d) h =
-      record { safe = safe-reader st s _ (p .low) refl (λ _. kept-load st s n (h .safe) p l d) (h .safe); tree = h .tree; holds = writer .leavesTree st _ x (h .tree) (h .holds) (leavesTree-reader st s _) }
+      record { safe = safe-reader st s _ (p .low) refl (λ _. kept-load st s n (h .safe) p l d) (h .safe); tree = h .tree;
+        holds = writer .leavesTree st _ x (h .tree) (h .holds) (leavesTree-reader st s _) }
   sound-next st x c o (misses s n p l e) h =
       record { safe = safe-end st s (p .low) (h .safe); tree = h .tree; holds = writer .leavesTree st _ x (h .tree) (h .holds) (leavesTree-end st s (p .low) (h .safe)) }
   sound-next st x c o (finds s p d e) h =
