@@ -50,10 +50,6 @@ perhaps : (b : Bool) (q : List ℕ) (d m f v : ℕ) → f < nextWord → word (c
 perhaps true q d m f v h = refl
 perhaps false q d m f v h = word-other q d m nextWord f v (omega arith) (omega arith) (inr (omega arith))
 
-perhaps-length : (b : Bool) (q : List ℕ) (d v : ℕ) → length (cond b q (setWord q d nextWord v)) ≡ length q
-perhaps-length true q d v = refl
-perhaps-length false q d v = length-setWord q d nextWord v
-
 -- Free.
 module _ (st : State) (n : ℕ) where
   abbrev stood : List ℕ
@@ -61,14 +57,6 @@ module _ (st : State) (n : ℕ) where
 
   abbrev empty : List ℕ
   empty = setWord stood n holdersWord 0
-
-  pub free-length : length (freeNode st n .pool) ≡ length (st .pool)
-  unfolding freeNode
-  free-length =
-      length-setWord _ n nextWord 0
-      ∙ perhaps-length (queueEmpty st) empty (st .register .last) n
-      ∙ length-setWord stood n holdersWord 0
-      ∙ length-setWord (st .pool) n standingWord standingFree
 
   -- but for next free, what is there is what the two other words were set to
   low-words : (m f : ℕ) → f < nextWord → word (freeNode st n .pool) m f ≡ word empty m f

@@ -8,7 +8,7 @@ use mathlib.Core.Logic.{_≢_, _⊎_, inl, inr, ⊎-elim}
 use native.Mathlib.Omega.{arith}
 use native.Mathlib.Decide.{ℕ-discrete}
 use lib.Dec.{eqb}
-use lib.ListN.{length}
+use lib.ListN.{drop, length}
 use borrow.Author.Tests.{not-false, eqb-true, eqb-false, eq-eqb, le-leb}
 use Rattle.datatypes.specs.declared.Link.{Link}
 use Rattle.sequential.specs.Delete.{changedBy}
@@ -135,27 +135,21 @@ others-avoid : (n : ℕ) (ts : List Test) → Others n ts → Avoids n ts
 others-avoid n [] h = tt
 others-avoid n ((b gives k) ∷ ts) h = (inl (h .0), λ _. others-avoid n ts (h .1))
 
--- the tests after the first n
-abbrev less : ℕ → List Test → List Test
-less zero ts = ts
-less (suc n) [] = []
-less (suc n) (t ∷ ts) = less n ts
-
 pub not-one : (st : State) (c : Call) → wrongLength st ≡ false → firstOf (testsOf st c) ≢ 1
-not-one st (inserting k v) r = avoided 1 (insertTests st k v) (omega arith) (inr r, λ _. others-avoid 1 (less 1 (insertTests st k v)) (omega arith))
-not-one st (deleting k) r = avoided 1 (deleteTests st k) (omega arith) (inr r, λ _. others-avoid 1 (less 1 (deleteTests st k)) (omega arith))
-not-one st writing r = avoided 1 (writerTests st) (omega arith) (inr r, λ _. others-avoid 1 (less 1 (writerTests st)) (omega arith))
-not-one st (beginning s k) r = avoided 1 (beginTests st s) (omega arith) (inr r, λ _. others-avoid 1 (less 1 (beginTests st s)) (omega arith))
-not-one st (turning s) r = avoided 1 (readerTests st s) (omega arith) (inr r, λ _. others-avoid 1 (less 1 (readerTests st s)) (omega arith))
-not-one st (givingUp s) r = avoided 1 (readerTests st s) (omega arith) (inr r, λ _. others-avoid 1 (less 1 (readerTests st s)) (omega arith))
+not-one st (inserting k v) r = avoided 1 (insertTests st k v) (omega arith) (inr r, λ _. others-avoid 1 (drop 1 (insertTests st k v)) (omega arith))
+not-one st (deleting k) r = avoided 1 (deleteTests st k) (omega arith) (inr r, λ _. others-avoid 1 (drop 1 (deleteTests st k)) (omega arith))
+not-one st writing r = avoided 1 (writerTests st) (omega arith) (inr r, λ _. others-avoid 1 (drop 1 (writerTests st)) (omega arith))
+not-one st (beginning s k) r = avoided 1 (beginTests st s) (omega arith) (inr r, λ _. others-avoid 1 (drop 1 (beginTests st s)) (omega arith))
+not-one st (turning s) r = avoided 1 (readerTests st s) (omega arith) (inr r, λ _. others-avoid 1 (drop 1 (readerTests st s)) (omega arith))
+not-one st (givingUp s) r = avoided 1 (readerTests st s) (omega arith) (inr r, λ _. others-avoid 1 (drop 1 (readerTests st s)) (omega arith))
 
 pub not-two : (st : State) (c : Call) → outOfRange st ≡ false → firstOf (testsOf st c) ≢ 2
-not-two st (inserting k v) r = avoided 2 (insertTests st k v) (omega arith) (inl (omega arith), λ _. (inr r, λ _. others-avoid 2 (less 2 (insertTests st k v)) (omega arith)))
-not-two st (deleting k) r = avoided 2 (deleteTests st k) (omega arith) (inl (omega arith), λ _. (inr r, λ _. others-avoid 2 (less 2 (deleteTests st k)) (omega arith)))
-not-two st writing r = avoided 2 (writerTests st) (omega arith) (inl (omega arith), λ _. (inr r, λ _. others-avoid 2 (less 2 (writerTests st)) (omega arith)))
-not-two st (beginning s k) r = avoided 2 (beginTests st s) (omega arith) (inl (omega arith), λ _. (inr r, λ _. others-avoid 2 (less 2 (beginTests st s)) (omega arith)))
-not-two st (turning s) r = avoided 2 (readerTests st s) (omega arith) (inl (omega arith), λ _. (inr r, λ _. others-avoid 2 (less 2 (readerTests st s)) (omega arith)))
-not-two st (givingUp s) r = avoided 2 (readerTests st s) (omega arith) (inl (omega arith), λ _. (inr r, λ _. others-avoid 2 (less 2 (readerTests st s)) (omega arith)))
+not-two st (inserting k v) r = avoided 2 (insertTests st k v) (omega arith) (inl (omega arith), λ _. (inr r, λ _. others-avoid 2 (drop 2 (insertTests st k v)) (omega arith)))
+not-two st (deleting k) r = avoided 2 (deleteTests st k) (omega arith) (inl (omega arith), λ _. (inr r, λ _. others-avoid 2 (drop 2 (deleteTests st k)) (omega arith)))
+not-two st writing r = avoided 2 (writerTests st) (omega arith) (inl (omega arith), λ _. (inr r, λ _. others-avoid 2 (drop 2 (writerTests st)) (omega arith)))
+not-two st (beginning s k) r = avoided 2 (beginTests st s) (omega arith) (inl (omega arith), λ _. (inr r, λ _. others-avoid 2 (drop 2 (beginTests st s)) (omega arith)))
+not-two st (turning s) r = avoided 2 (readerTests st s) (omega arith) (inl (omega arith), λ _. (inr r, λ _. others-avoid 2 (drop 2 (readerTests st s)) (omega arith)))
+not-two st (givingUp s) r = avoided 2 (readerTests st s) (omega arith) (inl (omega arith), λ _. (inr r, λ _. others-avoid 2 (drop 2 (readerTests st s)) (omega arith)))
 
 -- a pool of N nodes has the right length
 pub length-right : (st : State) (N : ℕ) → leastNodes ≤ N → N ≤ mostNodes → Whole (st .pool) → nodes (st .pool) ≡ N → wrongLength st ≡ false
