@@ -33,8 +33,8 @@ abbrev pub Free : State → ℕ → Type 0
 Free st m = word (st .pool) m standingWord ≡ standingFree
 
 -- the calls before t have been made
-abbrev pub Moment : ℕ → ℕ → ℕ → Type 0
-Moment i j t = (i < t) × (t ≤ j + 1)
+abbrev pub AtMoment : ℕ → ℕ → ℕ → Type 0
+AtMoment i j t = (i < t) × (t ≤ j + 1)
 
 module _ (N : ℕ) (low : 8 ≤ N) (high : N ≤ 1023) (cs : List Call) where
   -- after every call the index holds exactly the plain list's tickets
@@ -46,14 +46,14 @@ module _ (N : ℕ) (low : 8 ≤ N) (high : N ≤ 1023) (cs : List Call) where
 
   -- every lookup that answers absent gives what the plain list gives at one of its moments
   pub absent-right : (s k i j : ℕ) → Lookup (justSetUp N) cs s k i j → callAt cs j ≡ some (turning s) → answerTo (at N cs j) (turning s) ≡ absent
-      → (t : ℕ) × Moment i j t × (recordFor k (listed N cs t) ≡ none)
+      → (t : ℕ) × AtMoment i j t × (recordFor k (listed N cs t) ≡ none)
   absent-right s k i j l c a =
       let h = promise N low high cs .demand3 .lookups .whenAbsent s k i j l (c, a) in
       (h .0, (h .1, h .2), h .3)
 
   -- and every one that answers found
   pub found-right : (s k i j v : ℕ) → Lookup (justSetUp N) cs s k i j → callAt cs j ≡ some (turning s) → answerTo (at N cs j) (turning s) ≡ found v
-      → (t : ℕ) × Moment i j t × (recordFor k (listed N cs t) ≡ some v)
+      → (t : ℕ) × AtMoment i j t × (recordFor k (listed N cs t) ≡ some v)
   found-right s k i j v l c a =
       let h = promise N low high cs .demand3 .lookups .whenFound s k i j v l (c, a) in
       (h .0, (h .1, h .2), h .3)

@@ -8,7 +8,6 @@ use mathlib.Core.Option.{Option, none, some}
 use lib.ListN.{length}
 use native.Mathlib.Omega.{arith}
 use Rattle.datatypes.specs.declared.Side.{Side}
-use Rattle.datatypes.specs.declared.Side.the-variants.{R}
 use Rattle.datatypes.specs.declared.Link.{Link}
 use Rattle.datatypes.specs.declared.Form.{Form}
 use Rattle.datatypes.specs.declared.Form.the-variants.{Diag, Zig}
@@ -26,49 +25,48 @@ use Rattle.sequential.specs.Insert as SeqInsert
 use Rattle.sequential.specs.Delete as SeqDelete
 use Rattle.tree.specs.Linked.{Linked, find}
 use Rattle.tree.specs.Zipper.{Frame, hole}
-use Rattle.tree.specs.Erase.{erase, eraseWay}
-use Rattle.tree.specs.InsertFixup as InsertFixup
+use Rattle.tree.specs.Erase.{erase}
 use Rattle.tree.specs.InsertFixup.{InsertFixupEnd, balanced, rotate, rootRed}
-use Rattle.tree.specs.DeleteFixup.{noNephew, nephew, DeleteFixupEnd, darken, blackSiblingOf, passed}
+use Rattle.tree.specs.DeleteFixup.{noNephew, nephew, DeleteFixupEnd, darken, atBlackSibling, atRedSibling}
 use Rattle.heap.specs.Sites.{linkTo}
 use Rattle.heap.specs.Colours.{colours}
-use Rattle.heap.specs.Fixups.{formOf, numOf, pairsUp, insertFixupEnding, framesUp, tip, deleteFixupEnding}
+use Rattle.heap.specs.Fixups.{insertFixupOf, formOf, numOf, pairsUp, insertFixupEnding, framesUp, tip, deleteFixupEnding}
 use Rattle.heap.specs.DeleteFixupRun.{deleteFixupOf}
 use Rattle.heap.specs.Places.{wayToC, copiedWay}
-use Rattle.heap.specs.Phase.{Follow, forInsert, onBlackSibling, onRedSibling, followStores, removalEnding, Phases, at-rest, diag-0, diag-1, zig-0, zig-1}
+use Rattle.heap.specs.Phase.{DiagFor, forInsert, onBlackSibling, onRedSibling, followStores, removalEnding, Phases, at-rest, diag-0, diag-1, zig-0, zig-1}
 use Rattle.heap.specs.Phase.{zig-2, insert-0, unlink-0, adopt-0, replace-0, publish-0, detach-0}
 use Rattle.heap.specs.Plans.{Rest, Placed, empty-at, held-at, placed, Planned, insert-planned}
 use Rattle.heap.specs.DeletePlans.{delete-planned}
 use Rattle.heap.specs.Writes.{InHand, with-root, with-write}
 
 -- The stores to come are at most seven.
-turn-room : (f : Form) (l : Link) (s : Side) (c : Purpose) → length (turnStores f l s c) ≤ 3
-turn-room Diag l s c = omega arith
-turn-room Zig l s c = omega arith
+pub turn-room : (f : Form) (l : Link) (s : Side) (purpose : Purpose) → length (turnStores f l s purpose) ≤ 3
+turn-room Diag l s purpose = omega arith
+turn-room Zig l s purpose = omega arith
 
-forInsert-room : (e : InsertFixupEnd) (fs : List Frame) → length (endingStores (insertFixupEnding e fs)) ≤ 3
-forInsert-room balanced fs = omega arith
-forInsert-room (rotate b z) fs = turn-room (formOf b) _ _ _
-forInsert-room rootRed fs = omega arith
+insert-ending-room : (e : InsertFixupEnd) (fs : List Frame) → length (endingStores (insertFixupEnding e fs)) ≤ 3
+insert-ending-room balanced fs = omega arith
+insert-ending-room (rotate b z) fs = turn-room (formOf b) _ _ _
+insert-ending-room rootRed fs = omega arith
 
-removal-room : (e : DeleteFixupEnd) (c : Colour) (fs : List Frame) → length (endingStores (deleteFixupEnding e c fs)) ≤ 5
-removal-room darken red fs = omega arith
-removal-room darken black fs = omega arith
-removal-room (blackSiblingOf b) c [] = omega arith
-removal-room (blackSiblingOf b) c (hole s N y ∷ fs) = let a = turn-room (formOf b) (linkTo fs) (other s) BlackSibling in omega arith
-removal-room (passed o) c [] = omega arith
-removal-room (passed noNephew) c (hole s N y ∷ fs) = omega arith
-removal-room (passed (nephew b)) c (hole s N y ∷ fs) = let a = turn-room (formOf b) (linkAt s (numOf y)) (other s) BlackSibling in omega arith
+delete-ending-room : (e : DeleteFixupEnd) (c : Colour) (fs : List Frame) → length (endingStores (deleteFixupEnding e c fs)) ≤ 5
+delete-ending-room darken red fs = omega arith
+delete-ending-room darken black fs = omega arith
+delete-ending-room (atBlackSibling b) c [] = omega arith
+delete-ending-room (atBlackSibling b) c (hole s N y ∷ fs) = let a = turn-room (formOf b) (linkTo fs) (other s) BlackSibling in omega arith
+delete-ending-room (atRedSibling o) c [] = omega arith
+delete-ending-room (atRedSibling noNephew) c (hole s N y ∷ fs) = omega arith
+delete-ending-room (atRedSibling (nephew b)) c (hole s N y ∷ fs) = let a = turn-room (formOf b) (linkAt s (numOf y)) (other s) BlackSibling in omega arith
 
-follow-room : (w : Follow) (s : Side) (b : ℕ) → length (followStores w s b) ≤ 3
+follow-room : (w : DiagFor) (s : Side) (b : ℕ) → length (followStores w s b) ≤ 3
 follow-room forInsert s b = omega arith
 follow-room onBlackSibling s b = omega arith
 follow-room (onRedSibling noNephew) s b = omega arith
 follow-room (onRedSibling (nephew o)) s b = turn-room (formOf o) _ _ _
 
-lost-room : (d : Colour) (f : ℕ → Colour) (c : Colour) (fs : List Frame) → length (endingStores (removalEnding d f c fs)) ≤ 5
-lost-room red f c fs = omega arith
-lost-room black f c fs = removal-room (deleteFixupOf f c fs .end) (tip f c (deleteFixupOf f c fs .levels) fs) (framesUp (deleteFixupOf f c fs .levels) fs)
+removal-room : (d : Colour) (f : ℕ → Colour) (c : Colour) (fs : List Frame) → length (endingStores (removalEnding d f c fs)) ≤ 5
+removal-room red f c fs = omega arith
+removal-room black f c fs = delete-ending-room (deleteFixupOf f c fs .end) (tip f c (deleteFixupOf f c fs .levels) fs) (framesUp (deleteFixupOf f c fs .levels) fs)
 
 pub phase-room : {p : List ℕ} {root : ℕ} {f : ℕ → Colour} {G : Tree} {T : Linked} {l : List Store} → Phases p root f G T l → length l ≤ mostStores
 phase-room (at-rest T h s e) = omega arith
@@ -77,12 +75,12 @@ phase-room (diag-1 w d n h i c) = let a = follow-room w (d .side) (d .B .num) in
 phase-room (zig-0 w d h i) = omega arith
 phase-room (zig-1 w d m h i c) = omega arith
 phase-room (zig-2 w d m n h i c e u) = omega arith
-phase-room {f = f} (insert-0 k v way h i) = let a = forInsert-room (InsertFixup.insertFixup (eraseWay f way) .end) (pairsUp (InsertFixup.insertFixup (eraseWay f way) .levels) way) in omega arith
-phase-room {f = f} (unlink-0 d h i) = let a = lost-room (f (d .B .num)) f (colourOf (erase f (d .only))) (d .way) in omega arith
-phase-room {f = f} (adopt-0 d h i) = let a = lost-room (f (d .C .num)) f (colourOf (erase f (d .right))) (wayToC d []) in omega arith
-phase-room {f = f} (replace-0 d h i) = let a = lost-room (f (d .C .num)) f (colourOf (erase f (d .right))) (wayToC d []) in omega arith
-phase-room {f = f} (publish-0 d down h i) = let a = lost-room (f (d .C .num)) f (colourOf (erase f (d .right))) (wayToC d down) in omega arith
-phase-room {f = f} (detach-0 d down n h i) = let a = lost-room (f (d .C .num)) f (colourOf (erase f (d .right))) (copiedWay d down n) in omega arith
+phase-room {f = f} (insert-0 k v way h i) = let a = insert-ending-room (insertFixupOf f way .end) (pairsUp (insertFixupOf f way .levels) way) in omega arith
+phase-room {f = f} (unlink-0 d h i) = let a = removal-room (f (d .B .num)) f (colourOf (erase f (d .only))) (d .way) in omega arith
+phase-room {f = f} (adopt-0 d h i) = let a = removal-room (f (d .C .num)) f (colourOf (erase f (d .right))) (wayToC d []) in omega arith
+phase-room {f = f} (replace-0 d h i) = let a = removal-room (f (d .C .num)) f (colourOf (erase f (d .right))) (wayToC d []) in omega arith
+phase-room {f = f} (publish-0 d down h i) = let a = removal-room (f (d .C .num)) f (colourOf (erase f (d .right))) (wayToC d down) in omega arith
+phase-room {f = f} (detach-0 d down n h i) = let a = removal-room (f (d .C .num)) f (colourOf (erase f (d .right))) (copiedWay d down n) in omega arith
 
 -- an accepted write is in hand
 pub accepted-in-hand : (st : State) (G : Tree) (T : Linked) (w : Plan) → Rest st T → Planned st G T w → InHand (acceptedPlan st w .after) G T (w .stores)

@@ -23,9 +23,9 @@ use Rattle.heap.specs.Lowers.{is-node, Top, top-of, near-down, far-down,
 use Rattle.heap.specs.Raises.{Raised, raised-link}
 use Rattle.heap.specs.Parts.{unchanged, copied}
 use Rattle.heap.specs.Places.{Double, doubleTop, doubleTree, adopted, wayToC}
-use Rattle.heap.specs.Phase.{replace-0, DoublePlan, lostStores}
+use Rattle.heap.specs.Phase.{replace-0, DoublePlan, removalStores}
 use Rattle.heap.specs.Shift.{by-adopt, Next}
-use Rattle.heap.specs.RemovalFixup.{rep-num}
+use Rattle.heap.specs.Fixups.{rep-num}
 
 pub form-count : (fs : List Frame) (B C : Node) (l x y : Linked) (i : ℕ)
     → occ i (nodes (plug fs (at L B l (at L C x y)))) ≡ one i (B .num) + occ i (nodes l) + (one i (C .num) + occ i (nodes x) + occ i (nodes y)) + occWay i fs
@@ -45,18 +45,18 @@ module _ (st : State) (G : Tree) (d : Double) (h : At st (d .way) (doubleTop d [
   abbrev n : ℕ
   n = child (st .pool) L (B .num)
 
-  capacity : Top st fs L B l (at L C nil y)
-  capacity = top-of st fs L B l (at L C nil y) h
+  top : Top st fs L B l (at L C nil y)
+  top = top-of st fs L B l (at L C nil y) h
 
   low : Top st (hole R B l ∷ fs) L C nil y
   low = top-of st (hole R B l ∷ fs) L C nil y (far-down st fs L B l (at L C nil y) h)
 
   c-is : child (st .pool) R (B .num) ≡ C .num
-  c-is = below-is st R L (B .num) C nil y (capacity .far)
+  c-is = below-is st R L (B .num) C nil y (top .far)
 
   adopt-is : adoptStore st (linkTo fs) ≡ made (setLink st (Left (C .num)) n) (Left (C .num)) n
   unfolding adoptStore
-  adopt-is = rw (capacity .is, c-is)
+  adopt-is = rw (top .is, c-is)
 
   raised : Raised st (setLink st (Left (C .num)) n) (hole L C y ∷ hole R B l ∷ fs) l
   raised =
@@ -64,9 +64,9 @@ module _ (st : State) (G : Tree) (d : Double) (h : At st (d .way) (doubleTop d [
       let b = form-count fs B C l nil y (C .num) in
       let c = one-same (C .num) in
       raised-link st (hole L C y ∷ hole R B l ∷ fs) nil l n (omega arith, omega arith, omega arith)
-      (near-down st (hole R B l ∷ fs) L C nil y (far-down st fs L B l (at L C nil y) h)) (capacity .near)
+      (near-down st (hole R B l ∷ fs) L C nil y (far-down st fs L B l (at L C nil y) h)) (top .near)
 
-  pub adopt-0-next : Next st G (doubleTree d []) (adoptStore st (linkTo fs)) (store (linkTo fs) Adopt) (store (linkTo fs) Replace ∷ lostStores f C y (wayToC d []))
+  pub adopt-0-next : Next st G (doubleTree d []) (adoptStore st (linkTo fs)) (store (linkTo fs) Adopt) (store (linkTo fs) Replace ∷ removalStores f C y (wayToC d []))
   adopt-0-next =
       let after = setLink st (Left (C .num)) n in
       let e : colours (after .pool) ≡ f = fun-ext (colours-link st (Left (C .num)) n) in
@@ -74,7 +74,7 @@ module _ (st : State) (G : Tree) (d : Double) (h : At st (d .way) (doubleTop d [
       rw adopt-is record {
         tree = plug fs (adopted d);
         gone = [];
-        shift = rw (rep-num (st .pool) n l (capacity .near)) (by-adopt fs B C l y (ordered-bare f _ (doubleTree d []) (good .proper .ordered)) (good .once));
+        shift = rw (rep-num (st .pool) n l (top .near)) (by-adopt fs B C l y (ordered-bare f _ (doubleTree d []) (good .proper .ordered)) (good .once));
         phase = rw e (replace-0 d site plan);
         parts = copied st st _ (Left (C .num)) n [] unchanged refl;
         size = raised .size;
@@ -84,4 +84,4 @@ module _ (st : State) (G : Tree) (d : Double) (h : At st (d .way) (doubleTop d [
 
   pub adopt-0-finds : stepFinds st (linkTo fs) Adopt ≡ true
   unfolding stepFinds
-  adopt-0-finds = rw (capacity .is, c-is, is-node (C .num) (low .words .within .low))
+  adopt-0-finds = rw (top .is, c-is, is-node (C .num) (low .words .within .low))

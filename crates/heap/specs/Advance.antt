@@ -6,7 +6,7 @@ use Rattle.datatypes.specs.declared.Store.{Store}
 use Rattle.spec.specs.Register.{State}
 use Rattle.spec.specs.Turn.{stepFinds, stepMade}
 use Rattle.sequential.specs.Tree.{Tree}
-use Rattle.tree.specs.Linked.{Linked, at}
+use Rattle.tree.specs.Linked.{Linked}
 use Rattle.heap.specs.Phase.{Phase, diag-0, diag-1, zig-0, zig-1, zig-2, insert-0, unlink-0, adopt-0, replace-0, publish-0, detach-0}
 use Rattle.heap.specs.Shift.{takenBy, Ready, later, Next}
 use Rattle.heap.specs.TurnSteps.{diag-0-next, diag-0-finds, zig-0-next, zig-0-finds, zig-1-next, zig-1-finds}

@@ -17,7 +17,7 @@ use Rattle.sequential.specs.Tree.{Colour, red, black, colourOf}
 use Rattle.tree.specs.Linked.{Linked, nil, cell, nodes}
 use Rattle.tree.specs.Zipper.{Frame, hole}
 use Rattle.tree.specs.Erase.{erase, eraseWay, erase-agree}
-use Rattle.tree.specs.Occurs.{one-same, occ, in-occ, occWay}
+use Rattle.tree.specs.Occurs.{one-same, occ, in-occ, occWay, occ-apart}
 use Rattle.heap.specs.Rep.{Rep, Alike, alike-set, not-below, upToLinks, upToColour}
 
 abbrev pub hueOf : Bool → Colour
@@ -91,11 +91,8 @@ way-occ f g (hole s N y ∷ fs) h =
     let c = way-occ f g fs (λ n i. h n (omega arith)) in
     rw (a, b, c)
 
-apart : (d n : ℕ) (xs : List ℕ) → occ d xs ≡ 0 → 0 < occ n xs → d ≢ n
-apart d n xs z h e = let x : occ d xs ≡ occ n xs = rw e in omega arith
-
 pub erase-paint : (p : List ℕ) (n c : ℕ) (t : Linked) → occ n (nodes t) ≡ 0 → erase (colours (paint p n c)) t ≡ erase (colours p) t
-erase-paint p n c t o = erase-occ (colours p) (colours (paint p n c)) t (λ m i. paint-other p n c m (apart n m (nodes t) o i))
+erase-paint p n c t o = erase-occ (colours p) (colours (paint p n c)) t (λ m i. paint-other p n c m (occ-apart n m (nodes t) o i))
 
 -- the top of a tree painted
 pub erase-top : (p : List ℕ) (a c : ℕ) (t : Linked) → Rep p a t → erase (colours (paint p a c)) t ≡ Seq.paint (hue c) (erase (colours p) t)

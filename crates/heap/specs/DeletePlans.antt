@@ -19,15 +19,15 @@ use Rattle.spec.specs.Search.{pathTo}
 use Rattle.spec.specs.Plan.{plan, store, missing, fixupAfterRemoval, twoChildren, successorPath, unlinkPlan, deletePlan}
 use Rattle.sequential.specs.Tree.{Colour, black, colourOf}
 use Rattle.sequential.specs.Delete as SeqDelete
-use Rattle.sequential.specs.Delete.{lose, deletion}
+use Rattle.sequential.specs.Delete.{afterRemoval, deletion}
 use Rattle.tree.specs.Changes.{changed-proper}
 use Rattle.tree.specs.Linked.{Node, Linked, nil, cell, at, NotNil}
 use Rattle.tree.specs.LinkedOrder.{ordered-bare, into-top}
 use Rattle.tree.specs.Zipper.{Frame, hole, plug, plug-append, Into, Along}
 use Rattle.tree.specs.Erase.{erase, eraseWay, erase-at, erase-plug}
 use Rattle.tree.specs.Forms.{delete-first, delete-other}
-use Rattle.tree.specs.Ways.{first-deleteFixup, other-deleteFixup}
-use Rattle.tree.specs.DeleteFixup.{DeleteFixups}
+use Rattle.tree.specs.Ways.{first-fixup-finds, other-fixup-finds}
+use Rattle.tree.specs.DeleteFixup.{DeleteFixupFinds}
 use Rattle.heap.specs.Rep.{Rep}
 use Rattle.heap.specs.Sites.{linkTo, links}
 use Rattle.heap.specs.Colours.{redly, colours, red-tree}
@@ -68,19 +68,19 @@ module _ (st : State) (fs : List Frame) (s : Side) (B : Node) (x : Linked) (h : 
       let p = st .pool in
       let root = st .register .root in
       let site = rest-at h fs (at s B x nil) refl in
-      let capacity = top-of st fs s B x nil site in
+      let top = top-of st fs s B x nil site in
       let l = way-short p root fs (at s B x nil) (h .small) site (h .sound) in
       let into = into-top fs s B x nil (ordered-bare f _ T (h .sound .proper .ordered)) in
       let path = path-to p root (B .key) fs into (once-way fs (at s B x nil) (h .sound .once)) (omega arith) (site .way) in
       let c = colourOf (erase f x) in
-      let is-red = red-tree p (child p s (B .num)) x (capacity .near) in
+      let is-red = red-tree p (child p s (B .num)) x (top .near) in
       let sides = way-sides p root fs (site .way) in
-      let deleteFixups : f (B .num) ≡ black → DeleteFixups c (eraseWay f fs)
-      = λ e. first-deleteFixup s (eraseWay f fs) (B .key) (B .val) (erase f x) c (rw (erase-plug f fs (at s B x nil), erase-at f s B x nil, e) at (h .sound .proper .redblack)) in
+      let fixup-finds : f (B .num) ≡ black → DeleteFixupFinds c (eraseWay f fs)
+      = λ e. first-fixup-finds s (eraseWay f fs) (B .key) (B .val) (erase f x) c (rw (erase-plug f fs (at s B x nil), erase-at f s B x nil, e) at (h .sound .proper .redblack)) in
       let goal = delete-first f fs s B x into in
-      let gone = removal-there p (B .num) (child p s (B .num)) c fs is-red sides deleteFixups in
-      let ending = removal-ending p (B .num) (child p s (B .num)) c fs is-red sides deleteFixups in
-      rw (capacity .words .key-is, path, two-no p s (B .num) (capacity .far), only-is p s (B .num) (capacity .far), ending) record {
+      let gone = removal-there p (B .num) (child p s (B .num)) c fs is-red sides fixup-finds in
+      let ending = removal-ending p (B .num) (child p s (B .num)) c fs is-red sides fixup-finds in
+      rw (top .words .key-is, path, two-no p s (B .num) (top .far), only-is p s (B .num) (top .far), ending) record {
         possible = rw (rw ending at gone);
         phase = unlink-0 (record { way = fs; side = s; B = B; only = x }) site (record { sound = h .sound; proper = changed-proper (erase f T) (deletion (B .key)) (h .sound .proper); goal = goal });
       }
@@ -96,14 +96,14 @@ sides-stand p (hole s P y ∷ gs) B C l fs h = (h .0, h .1, sides-stand p gs B C
 
 -- the outermost node of a way that turns left has a left child
 record Outer (t : Linked) : Type 0 where
-  capacity : Node
+  top : Node
   left : Linked
   right : Linked
-  is : t ≡ cell capacity left right
+  is : t ≡ cell top left right
   left-there : NotNil left
 
 outer : (gs : List Frame) (N : Node) (t u : Linked) → Along L gs → NotNil t → Outer (plug gs (cell N t u))
-outer [] N t u a n = record { capacity = N; left = t; right = u; is = refl; left-there = n }
+outer [] N t u a n = record { top = N; left = t; right = u; is = refl; left-there = n }
 outer (hole R M v ∷ gs) N t u a n = let e = a .0 in let z : _≡_ {A = ℕ} 0 1 = cc in absurd (omega arith)
 outer (hole L M v ∷ gs) N t u a n = outer gs M (cell N t u) v (a .1) tt
 
@@ -127,8 +127,8 @@ module _ (st : State) (d : Double) (gs : List Frame) (along : Along L gs) (there
   site : At st fs (doubleTop d gs)
   site = rest-at h fs (doubleTop d gs) refl
 
-  capacity : Top st fs L B l (plug gs (at L C nil y))
-  capacity = top-of st fs L B l (plug gs (at L C nil y)) site
+  top : Top st fs L B l (plug gs (at L C nil y))
+  top = top-of st fs L B l (plug gs (at L C nil y)) site
 
   siteC : At st (gs ++ (hole R B l ∷ fs)) (cell C nil y)
   siteC = site-append (st .pool) (st .register .root) gs (hole R B l ∷ fs) (cell C nil y) (far-down st fs L B l (plug gs (at L C nil y)) site)
@@ -159,23 +159,23 @@ module _ (st : State) (d : Double) (gs : List Frame) (along : Along L gs) (there
   is-red : isRed (st .pool) (child (st .pool) R (C .num)) ≡ redly (colourOf (erase f2 y))
   is-red = red-tree (st .pool) (child (st .pool) R (C .num)) y (topC .far)
 
-  deleteFixups : f2 (C .num) ≡ black → DeleteFixups (colourOf (erase f2 y)) (eraseWay f2 old)
-  deleteFixups e =
+  fixup-finds : f2 (C .num) ≡ black → DeleteFixupFinds (colourOf (erase f2 y)) (eraseWay f2 old)
+  fixup-finds e =
       rw (way-append f2 gs (hole R (standIn B C) l ∷ fs))
-      (other-deleteFixup (eraseWay f2 fs) (eraseWay f2 gs) (f2 (B .num)) (B .key) (B .val) (erase f2 l) (C .key) (C .val) (erase f2 y) (colourOf (erase f2 y))
+      (other-fixup-finds (eraseWay f2 fs) (eraseWay f2 gs) (f2 (B .num)) (B .key) (B .val) (erase f2 l) (C .key) (C .val) (erase f2 y) (colourOf (erase f2 y))
       (rw (erase-plug f2 fs (doubleTop d gs), erase-plug f2 gs (cell C nil y), e) at (h .sound .proper .redblack)))
 
-  goal : SeqDelete.delete (erase f2 T2) (B .key) ≡ lose (f2 (C .num)) (eraseWay f2 old) (erase f2 y)
+  goal : SeqDelete.delete (erase f2 T2) (B .key) ≡ afterRemoval (f2 (C .num)) (eraseWay f2 old) (erase f2 y)
   goal = delete-other f2 fs gs B C l y into along there-left ∙ rw (way-append f2 gs (hole R (standIn B C) l ∷ fs))
 
   double-plan : DoublePlan f2 (SeqDelete.delete (erase f2 T2) (B .key)) d gs
   double-plan = record { along = along; sound = h .sound; proper = changed-proper (erase f2 T2) (deletion (B .key)) (h .sound .proper); deletes = refl; goal = goal }
 
   ending : fixupAfterRemoval (st .pool) (C .num) (child (st .pool) R (C .num)) (links old) .ending ≡ removalEnding (f2 (C .num)) f2 (colourOf (erase f2 y)) old
-  ending = removal-ending (st .pool) (C .num) (child (st .pool) R (C .num)) (colourOf (erase f2 y)) old is-red sides deleteFixups
+  ending = removal-ending (st .pool) (C .num) (child (st .pool) R (C .num)) (colourOf (erase f2 y)) old is-red sides fixup-finds
 
   gone : missing (removalEnding (f2 (C .num)) f2 (colourOf (erase f2 y)) old) ≡ false
-  gone = rw ending at (removal-there (st .pool) (C .num) (child (st .pool) R (C .num)) (colourOf (erase f2 y)) old is-red sides deleteFixups)
+  gone = rw ending at (removal-there (st .pool) (C .num) (child (st .pool) R (C .num)) (colourOf (erase f2 y)) old is-red sides fixup-finds)
 
   -- the plan, but for the form
   two-plan : deletePlan st (linkTo fs) (B .num)
@@ -184,8 +184,8 @@ module _ (st : State) (d : Double) (gs : List Frame) (along : Along L gs) (there
       (plan (store (linkTo fs) (Publish (C .num)) ∷ store (linkTo fs) (Detach (B .key)) ∷ []) (removalEnding (f2 (C .num)) f2 (colourOf (erase f2 y)) old))
   unfolding deletePlan
   two-plan =
-      let two = two-yes (st .pool) (B .num) (there (st .pool) _ l there-left (capacity .near)) (there (st .pool) _ (plug gs (cell C nil y)) (plug-there gs (cell C nil y) tt) (capacity .far)) in
-      rw (capacity .words .key-is, path, two, successor, topC .is) (rw (links-stand gs B C l fs, ending, capacity .words .key-is))
+      let two = two-yes (st .pool) (B .num) (there (st .pool) _ l there-left (top .near)) (there (st .pool) _ (plug gs (cell C nil y)) (plug-there gs (cell C nil y) tt) (top .far)) in
+      rw (top .words .key-is, path, two, successor, topC .is) (rw (links-stand gs B C l fs, ending, top .words .key-is))
 
 -- the second form: C is B's right child
 abbrev DoublePlanned : State → Double → List Frame → Type 0
@@ -195,7 +195,7 @@ DoublePlanned st d gs = NotNil (d .left) → Rest st (doubleTree d gs)
 pub delete-second : (st : State) (d : Double) → DoublePlanned st d []
 delete-second st d left h =
     let b = d .B .num in
-    let low : child (st .pool) L (child (st .pool) R b) ≡ 0 = rw (capacity st d [] tt left h .far .0 .is) (topC st d [] tt left h .near) in
+    let low : child (st .pool) L (child (st .pool) R b) ≡ 0 = rw (top st d [] tt left h .far .0 .is) (topC st d [] tt left h .near) in
     rw (two-plan st d [] tt left h, eq-eqb (child (st .pool) L (child (st .pool) R b)) 0 low) record {
       possible = rw (gone st d [] tt left h);
       phase = adopt-0 d (site st d [] tt left h) (double-plan st d [] tt left h);
@@ -208,7 +208,7 @@ delete-third st d N u gs along left h =
     let p = st .pool in
     let b = d .B .num in
     let o = outer gs N (cell (d .C) nil (d .right)) u (along .1) tt in
-    let rep : Rep p (child p R b) (cell (o .capacity) (o .left) (o .right)) = subst (λ t. Rep p (child p R b) t) (o .is) (capacity st d hs along left h .far) in
+    let rep : Rep p (child p R b) (cell (o .top) (o .left) (o .right)) = subst (λ t. Rep p (child p R b) t) (o .is) (top st d hs along left h .far) in
     let low : child p L (child p R b) ≢ 0 = rw (rep .0 .is) (there p _ (o .left) (o .left-there) (rep .1)) in
     rw (two-plan st d hs along left h, ne-eqb (child p L (child p R b)) 0 low) record {
       possible = rw (gone st d hs along left h);

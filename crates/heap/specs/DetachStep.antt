@@ -18,26 +18,26 @@ use Rattle.tree.specs.Sorted.{Ordered}
 use Rattle.tree.specs.LinkedOrder.{bare, ordered-bare, into-top, ordered-within}
 use Rattle.tree.specs.Zipper.{Frame, hole, plug, plug-append, Into, same-lift}
 use Rattle.tree.specs.Erase.{erase, eraseWay, erase-plug}
-use Rattle.tree.specs.Ways.{other-deleteFixup}
+use Rattle.tree.specs.Ways.{other-fixup-finds}
 use Rattle.tree.specs.Occurs.{one, one-case, occ, occ-at, occWay, occ-plug, turnover-plug, detach-turnover}
 use Rattle.tree.specs.Phases.{writes-whole, third-writes}
 use Rattle.tree.specs.Successor.{third₀, third-order, detach-find}
-use Rattle.tree.specs.DeleteFixup.{DeleteFixups}
+use Rattle.tree.specs.DeleteFixup.{DeleteFixupFinds}
 use Rattle.heap.specs.Rep.{Rep}
 use Rattle.heap.specs.Sites.{linkTo, links}
 use Rattle.heap.specs.Colours.{redly, colours, colours-link, red-tree}
 use Rattle.heap.specs.Fill.{retire-quiet}
 use Rattle.heap.specs.Paths.{path-to, successor-path}
-use Rattle.heap.specs.Fixups.{Sides, way-sides}
+use Rattle.heap.specs.Fixups.{rep-num, Sides, way-sides}
 use Rattle.heap.specs.Moves.{At, Once, clear-of, link-size, link-held, fields-trans, fields-queued, same-fields}
 use Rattle.heap.specs.Lowers.{is-node, Top, top-of, far-down}
 use Rattle.heap.specs.Raises.{Raised, raised-link}
-use Rattle.heap.specs.ColourWork.{colours-removal}
+use Rattle.heap.specs.ColourWork.{coloursOnly-removal}
 use Rattle.heap.specs.Parts.{unchanged, same-queue, parts-of}
 use Rattle.heap.specs.Places.{Double, doubleTop, doubleTree, published, detached, copiedWay}
-use Rattle.heap.specs.Phase.{Lined, Phase, phase-alike, Copied, DetachPlan, lostStores}
+use Rattle.heap.specs.Phase.{Lined, Phase, phase-alike, Copied, DetachPlan, removalStores}
 use Rattle.heap.specs.Shift.{by-detach, Next, once-less}
-use Rattle.heap.specs.RemovalFixup.{removal-phase, removal-there, removal-alike, removal-register, rep-num}
+use Rattle.heap.specs.RemovalFixup.{removal-phase, removal-there, removal-alike, removal-register}
 use Rattle.heap.specs.Rename.{site-append, way-append, occ-append-way}
 
 pub third-count : (fs gs : List Frame) (N C : Node) (l y : Linked) (i : ℕ)
@@ -72,8 +72,8 @@ module _ (st : State) (G : Tree) (d : Double) (gs : List Frame) (n : ℕ) (h : A
   ordered : Ordered (bare (doubleTree d gs))
   ordered = ordered-bare f _ (doubleTree d gs) (sound .proper .ordered)
 
-  capacity : Top st fs L (copy C n) l (plug gs (at L C nil y))
-  capacity = top-of st fs L (copy C n) l (plug gs (at L C nil y)) h
+  top : Top st fs L (copy C n) l (plug gs (at L C nil y))
+  top = top-of st fs L (copy C n) l (plug gs (at L C nil y)) h
 
   siteW : At st W (cell C nil y)
   siteW = site-append p (st .register .root) gs (hole R (copy C n) l ∷ fs) (cell C nil y) (far-down st fs L (copy C n) l (plug gs (at L C nil y)) h)
@@ -100,7 +100,7 @@ module _ (st : State) (G : Tree) (d : Double) (gs : List Frame) (n : ℕ) (h : A
   path-is = path-to p (st .register .root) (B .key) fs into (λ i. let a = each i in omega arith) (omega arith) (h .way)
 
   way-is : detachPath st (linkTo fs) (B .key) ≡ links W
-  way-is = rw (capacity .is, path-is) (successor-path p (st .register .root) gs fs (copy C n) C l y along (omega arith) siteW)
+  way-is = rw (top .is, path-is) (successor-path p (st .register .root) gs fs (copy C n) C l y along (omega arith) siteW)
 
   abbrev linked : State
   linked = setLink st (linkTo W) x
@@ -130,10 +130,10 @@ module _ (st : State) (G : Tree) (d : Double) (gs : List Frame) (n : ℕ) (h : A
         (detach-find L B C n l y gs (third-order L B C n l y gs (ordered-within fs (third₀ L B C n l y gs) ordered) .right)) q ∙ told q;
   }
 
-  deleteFixups : f (C .num) ≡ black → DeleteFixups c (eraseWay f W)
-  deleteFixups e =
+  fixup-finds : f (C .num) ≡ black → DeleteFixupFinds c (eraseWay f W)
+  fixup-finds e =
       rw (way-append f gs (hole R (copy C n) l ∷ fs), copied)
-      (other-deleteFixup (eraseWay f fs) (eraseWay f gs) (f (B .num)) (B .key) (B .val) (erase f l) (C .key) (C .val) (erase f y) c
+      (other-fixup-finds (eraseWay f fs) (eraseWay f gs) (f (B .num)) (B .key) (B .val) (erase f l) (C .key) (C .val) (erase f y) c
       (rw (erase-plug f fs (doubleTop d gs), erase-plug f gs (cell C nil y), e) at (sound .proper .redblack)))
 
   is-red : isRed p x ≡ redly c
@@ -145,13 +145,13 @@ module _ (st : State) (G : Tree) (d : Double) (gs : List Frame) (n : ℕ) (h : A
   rep-after : Rep (linked .pool) x y
   rep-after = let a = rep-num (linked .pool) _ y (raised .site .sub) in let b = rep-num p x y (topC .far) in subst (λ i. Rep (linked .pool) i y) (a ∙ sym b) (raised .site .sub)
 
-  phase : Phase (retire coloured (C .num) .pool) (retire coloured (C .num) .register .root) G (plug fs (detached d gs n)) (lostStores f C y W)
+  phase : Phase (retire coloured (C .num) .pool) (retire coloured (C .num) .register .root) G (plug fs (detached d gs n)) (removalStores f C y W)
   phase =
       let q = retire-quiet coloured (C .num) in
       rw (q .fields .root, sym whole) (phase-alike (q .words) (coloured .register .root) G
-      (removal-phase st linked G W y x (C .num) (fun-ext (colours-link st (linkTo W) x)) (raised .site) rep-after is-red sides lined proper (f (C .num)) refl deleteFixups goal))
+      (removal-phase st linked G W y x (C .num) (fun-ext (colours-link st (linkTo W) x)) (raised .site) rep-after is-red sides lined proper (f (C .num)) refl fixup-finds goal))
 
-  pub detach-0-next : Next st G (plug fs (published d gs n)) (detachStore st (linkTo fs) (B .key)) (store (linkTo fs) (Detach (B .key))) (lostStores f C y W)
+  pub detach-0-next : Next st G (plug fs (published d gs n)) (detachStore st (linkTo fs) (B .key)) (store (linkTo fs) (Detach (B .key))) (removalStores f C y W)
   detach-0-next =
       let q = retire-quiet coloured (C .num) in
       let w = fixupAfterRemoval p (C .num) x (links W) in
@@ -161,7 +161,7 @@ module _ (st : State) (G : Tree) (d : Double) (gs : List Frame) (n : ℕ) (h : A
         gone = C .num ∷ [];
         shift = rw (rep-num p x y (topC .far)) (by-detach fs gs B C n l y along ordered (sound .once) new);
         phase = phase;
-        parts = parts-of st st coloured _ (linkTo W) x [] (C .num ∷ []) unchanged (colours-removal linked w x (links W)) (same-queue (removal-register linked w x (links W))) refl;
+        parts = parts-of st st coloured _ (linkTo W) x [] (C .num ∷ []) unchanged (coloursOnly-removal linked w x (links W)) (same-queue (removal-register linked w x (links W))) refl;
         size = q .words .size ∙ removal-alike linked w x (links W) .size ∙ link-size st (linkTo W) x;
         held = q .fields .held ∙ ap (λ r. r .held) (removal-register linked w x (links W)) ∙ link-held st (linkTo W) x;
         fields = record { readers = a .readers; awaited = a .awaited; write = a .write };
@@ -169,4 +169,4 @@ module _ (st : State) (G : Tree) (d : Double) (gs : List Frame) (n : ℕ) (h : A
 
   pub detach-0-finds : stepFinds st (linkTo fs) (Detach (B .key)) ≡ true
   unfolding stepFinds
-  detach-0-finds = rw (way-is, topC .is, is-node (C .num) (topC .words .within .low), removal-there p (C .num) x c W is-red sides deleteFixups)
+  detach-0-finds = rw (way-is, topC .is, is-node (C .num) (topC .words .within .low), removal-there p (C .num) x c W is-red sides fixup-finds)

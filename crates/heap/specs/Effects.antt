@@ -11,9 +11,8 @@ use Rattle.datatypes.specs.declared.Link.{Link}
 use Rattle.tree.specs.Order.{Ord}
 use Rattle.tree.specs.Sorted.{Ordered}
 use Rattle.base.specs.Lists.{_∈_}
-use Rattle.tree.specs.Linked.{Node, Linked, nil, cell, at, path}
+use Rattle.tree.specs.Linked.{Node, Linked, nil, cell, at}
 use Rattle.tree.specs.LinkedOrder.{bare, ordered-within}
-use Rattle.tree.specs.Thin.{Thin}
 use Rattle.tree.specs.Zipper.{Frame, plug, Same, same-lift, thin-lift, Thins}
 use Rattle.tree.specs.Rotations.{diag₀, diag₁, diag₂, zig₀, zig₁, zig₂, zig₃, diag-order, zig-order, diag-lower-find, diag-raise-find}
 use Rattle.tree.specs.Rotations.{zig-lower-A-find, zig-lower-C-find, zig-raise-find, diag-lower-path, diag-raise-path, zig-lower-A-path, zig-lower-C-path, zig-raise-path}

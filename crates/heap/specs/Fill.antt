@@ -15,13 +15,13 @@ use Rattle.datatypes.specs.declared.Register.{Register}
 use Rattle.datatypes.specs.Side.{other}
 use Rattle.base.specs.Walk.{cond-both}
 use Rattle.spec.specs.Numbers.{nodeWords}
-use Rattle.spec.specs.Pool.{word, setWord, child, keyWord, recordWord, colourWord, standingWord, holdersWord, nextWord, standingFree, standingRetired}
+use Rattle.spec.specs.Pool.{word, setWord, child, keyWord, recordAt, colourWord, standingWord, holdersWord, nextWord, standingFree, standingRetired}
 use Rattle.spec.specs.Register.{State, withQueue, readingSlots}
 use Rattle.spec.specs.Free.{queueEmpty, takeFree, fillNode, takeNode, freeNode, retire, retireTwo}
 use Rattle.spec.specs.FreeQueue.{InPool}
 use Rattle.laws.specs.Words.{length-setWord, word-set}
 use Rattle.tree.specs.Linked.{Linked, at, nodes}
-use Rattle.tree.specs.Occurs.{occ}
+use Rattle.tree.specs.Occurs.{occ, occ-apart}
 use Rattle.heap.specs.Rep.{Rep, rep-at, Agree, rep-agree, Alike, alike-trans, alike-set, upToColour}
 use Rattle.heap.specs.Colours.{hue, colours, colours-word, colours-is}
 
@@ -30,7 +30,7 @@ pub record Filled (p q : List ℕ) (n k v : ℕ) (s : Side) (x y c : ℕ) : Type
   pub size : length q ≡ length p
   pub others : (m f : ℕ) → n ≢ m → f < nodeWords → word q m f ≡ word p m f
   pub key-is : word q n keyWord ≡ k
-  pub val-is : word q n recordWord ≡ v
+  pub val-is : recordAt q n ≡ v
   pub near-is : child q s n ≡ x
   pub far-is : child q (other s) n ≡ y
   pub colour-is : colours q n ≡ hue c
@@ -64,16 +64,13 @@ fill-node p n k v R x y c w =
       colour-is = colours-is _ n c (simp (word-set, length-setWord, a, b, e));
     }
 
-apart : (d n : ℕ) (xs : List ℕ) → occ d xs ≡ 0 → 0 < occ n xs → d ≢ n
-apart d n xs z h e = let x : occ d xs ≡ occ n xs = rw e in omega arith
-
 module _ {p q : List ℕ} {n k v : ℕ} {s : Side} {x y c : ℕ} (h : Filled p q n k v s x y c) where
   -- trees without the new node stay
   pub filled-agree : (m : ℕ) → n ≢ m → Agree p q m
   filled-agree m d f l = h .others m f d (omega arith)
 
   pub filled-keeps : (t : Linked) (a : ℕ) → occ n (nodes t) ≡ 0 → Rep p a t → Rep q a t
-  filled-keeps t a o r = rep-agree p q (h .size) t a (λ m i. filled-agree m (apart n m (nodes t) o i)) r
+  filled-keeps t a o r = rep-agree p q (h .size) t a (λ m i. filled-agree m (occ-apart n m (nodes t) o i)) r
 
   pub filled-colours : (m : ℕ) → n ≢ m → colours q m ≡ colours p m
   filled-colours m d = colours-word p q m (h .others m colourWord d (omega arith))

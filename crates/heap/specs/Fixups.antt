@@ -1,6 +1,6 @@
--- The writer's climbs over the pool are the climbs of the sequential tree: `rise` is the tree's rise, `sink` the tree's sink, on the way
--- erased with the pool's colours, and a rotation that they end with is named by the link of the way at its top. In a red-black tree
--- (`Rises`, `Sinks`) no node is missing.
+-- The writer's fix-ups over the pool are those of the sequential tree: `insertFixup` is the tree's `insertFixupOn`, `deleteFixup` its
+-- `deleteFixupOn` (DeleteFixupRun), on the way erased with the pool's colours, and a rotation that they end with is named by the link of the
+-- way at its top. In a red-black tree (`InsertFixupFinds`, `DeleteFixupFinds`) no node is missing.
 use Prim.Native.Nat.{ℕ, zero, suc, _+_, _≤_}
 use mathlib.Core.Path.{_≡_, refl, _∙_}
 use mathlib.Core.Logic.{_≢_}
@@ -28,9 +28,8 @@ use Rattle.tree.specs.Sorted.{NotLeaf, colour-case}
 use Rattle.tree.specs.Linked.{Node, Linked, nil, cell}
 use Rattle.tree.specs.Zipper.{Frame, hole}
 use Rattle.tree.specs.Erase.{erase, eraseWay}
-use Rattle.tree.specs.InsertFixup as InsertFixup
-use Rattle.tree.specs.InsertFixup.{InsertFixupEnd, balanced, rotate, rootRed}
-use Rattle.tree.specs.DeleteFixup.{Nephew, noNephew, nephew, DeleteFixupEnd, darken, blackSiblingOf, passed, nephewOf}
+use Rattle.tree.specs.InsertFixup.{InsertFixup, InsertFixupEnd, balanced, rotate, rootRed, insertFixupOn}
+use Rattle.tree.specs.DeleteFixup.{Nephew, noNephew, nephew, DeleteFixupEnd, darken, atBlackSibling, atRedSibling, nephewOf}
 use Rattle.heap.specs.Rep.{Rep, Alike, rep-alike, upToLinks}
 use Rattle.heap.specs.Sites.{linkTo, links, Way}
 use Rattle.heap.specs.Colours.{redly, colours, red-is, red-tree}
@@ -39,7 +38,7 @@ pub side-at : (s : Side) (n : ℕ) → sideOf (linkAt s n) ≡ s
 side-at L n = refl
 side-at R n = refl
 
--- What a climb reads of a way: its nodes and the subtrees beside it. Keys and records do not matter.
+-- What a fix-up reads of a way: its nodes and the subtrees beside it. Keys and records do not matter.
 abbrev pub Sides : List ℕ → List Frame → Type 0
 Sides p [] = Unit {0}
 Sides p (hole s N y ∷ fs) = InPool p (N .num) × Rep p (child p (other s) (N .num)) y × Sides p fs
@@ -58,7 +57,10 @@ sides-alike {p} {q} a (hole s N y ∷ fs) w =
     kept L = a .words (N .num) rightWord (omega arith)
     kept R = a .words (N .num) leftWord (omega arith)
 
--- Insert's climb.
+-- The insert fix-up: the tree's own, on a way with the colours f; the way above m levels.
+abbrev pub insertFixupOf : (ℕ → Colour) → List Frame → InsertFixup
+insertFixupOf f fs = insertFixupOn (eraseWay f fs)
+
 abbrev pub pairsUp : ℕ → List Frame → List Frame
 pairsUp zero fs = fs
 pairsUp (suc m) [] = []
@@ -84,7 +86,7 @@ form-cond true = refl
 form-cond false = refl
 
 pub insertFixup-links : (p : List ℕ) (m : ℕ) (fs : List Frame) → Sides p fs
-    → insertFixup p m (links fs) ≡ fixupResult (m + InsertFixup.insertFixup (eraseWay (colours p) fs) .levels) (insertFixupEnding (InsertFixup.insertFixup (eraseWay (colours p) fs) .end) (pairsUp (InsertFixup.insertFixup (eraseWay (colours p) fs) .levels) fs))
+    → insertFixup p m (links fs) ≡ fixupResult (m + insertFixupOf (colours p) fs .levels) (insertFixupEnding (insertFixupOf (colours p) fs .end) (pairsUp (insertFixupOf (colours p) fs .levels) fs))
 unfolding insertFixup
 insertFixup-links p m [] w = rw (add-zero m)
 insertFixup-links p m (hole s N y ∷ []) w =
@@ -94,7 +96,7 @@ insertFixup-links p m (hole s N y ∷ []) w =
 insertFixup-links p m (hole s N y ∷ hole z G a ∷ fs) w =
     let t = red-tree p (child p (other z) (G .num)) a (w .2 .1) in
     let i = insertFixup-links p (m + 1) fs (w .2 .2) in
-    let r = InsertFixup.insertFixup (eraseWay (colours p) fs) .levels in
+    let r = insertFixupOf (colours p) fs .levels in
     let more : m + 1 + r ≡ m + suc r = omega arith in
     colour-case (colours p (N .num))
     (λ e. colour-case (colourOf (erase (colours p) a))
@@ -103,7 +105,7 @@ insertFixup-links p m (hole s N y ∷ hole z G a ∷ fs) w =
     (λ e. rw (owner-at s (N .num), red-is p (N .num), e, add-zero m))
 
 -- each level is two frames of the way
-pub insertFixup-room : (f : ℕ → Colour) (fs : List Frame) → InsertFixup.insertFixup (eraseWay f fs) .levels + InsertFixup.insertFixup (eraseWay f fs) .levels ≤ length fs
+pub insertFixup-room : (f : ℕ → Colour) (fs : List Frame) → insertFixupOf f fs .levels + insertFixupOf f fs .levels ≤ length fs
 insertFixup-room f [] = omega arith
 insertFixup-room f (hole s N y ∷ []) = colour-case (f (N .num)) (λ e. rw e (omega arith)) (λ e. rw e (omega arith))
 insertFixup-room f (hole s N y ∷ hole z G a ∷ fs) =
@@ -112,7 +114,7 @@ insertFixup-room f (hole s N y ∷ hole z G a ∷ fs) =
     (λ e. colour-case (colourOf (erase f a)) (λ d. rw (e, d) (omega arith)) (λ d. rw (e, d) (omega arith)))
     (λ e. rw e (omega arith))
 
--- Delete's climb: the colours of a sibling's children.
+-- The delete fix-up: the colours of a sibling's children.
 abbrev pub childOf : Side → Linked → Linked
 childOf s nil = nil
 childOf L (cell N l r) = l
@@ -147,7 +149,7 @@ or-sides L h = swap (h L) (h R)
     swap false true = refl
     swap false false = refl
 
--- a sibling's loan, as the plan tests it and as the tree does
+-- a sibling's nephew, as the plan tests for it and as the tree does
 pub nephew-cases {ℓ} : {A : Type ℓ} (p : List ℕ) (s : Side) (w : ℕ) (y : Linked) → Rep p w y
     → ((b : Bool) → nephewOf s (erase (colours p) y) ≡ nephew b → redChild p w ≡ true → ((l : Link) → blackSibling p l (other s) w ≡ rotation l (formOf b) (other s) BlackSibling) → A)
     → (nephewOf s (erase (colours p) y) ≡ noNephew → redChild p w ≡ false → A) → A
@@ -161,7 +163,7 @@ nephew-cases p s w y h f g =
     (λ d. f false (rw (e, d)) (either ∙ rw (out, inn, e, d)) (λ l. rw (out, e)))
     (λ d. g (rw (e, d)) (either ∙ rw (out, inn, e, d))))
 
--- where the sink ends: the way above the levels, and the colour of the node that it ends at
+-- where the delete fix-up ends: the way above the levels, and the colour of the node that it ends at
 abbrev pub framesUp : ℕ → List Frame → List Frame
 framesUp zero fs = fs
 framesUp (suc m) [] = []
@@ -176,22 +178,26 @@ abbrev pub numOf : Linked → ℕ
 numOf nil = 0
 numOf (cell N l r) = N .num
 
+pub rep-num : (p : List ℕ) (a : ℕ) (t : Linked) → Rep p a t → a ≡ numOf t
+rep-num p a nil h = h
+rep-num p a (cell N l r) h = h .0 .is
+
 abbrev pub nephewEnding : Nephew → Link → Side → ℕ → Ending
 nephewEnding noNephew l s w = Rotate (rotation l Diag (other s) RedSibling)
 nephewEnding (nephew b) l s w = RotateTwice (rotation l Diag (other s) RedSibling) (rotation (linkAt s w) (formOf b) (other s) BlackSibling)
 
 abbrev pub deleteFixupEnding : DeleteFixupEnd → Colour → List Frame → Ending
 deleteFixupEnding darken c fs = cond (redly c) Blacken Balanced
-deleteFixupEnding (blackSiblingOf b) c [] = Missing
-deleteFixupEnding (blackSiblingOf b) c (hole s N y ∷ fs) = Rotate (rotation (linkTo fs) (formOf b) (other s) BlackSibling)
-deleteFixupEnding (passed o) c [] = Missing
-deleteFixupEnding (passed o) c (hole s N y ∷ fs) = nephewEnding o (linkTo fs) s (numOf y)
+deleteFixupEnding (atBlackSibling b) c [] = Missing
+deleteFixupEnding (atBlackSibling b) c (hole s N y ∷ fs) = Rotate (rotation (linkTo fs) (formOf b) (other s) BlackSibling)
+deleteFixupEnding (atRedSibling o) c [] = Missing
+deleteFixupEnding (atRedSibling o) c (hole s N y ∷ fs) = nephewEnding o (linkTo fs) s (numOf y)
 
 -- what holds there
 pub data Stop (f : ℕ → Colour) : Colour → List Frame → DeleteFixupEnd → Type 0 where
   stop-root : {c : Colour} → Stop f c [] darken
   stop-red : {h : Frame} {fs : List Frame} → Stop f red (h ∷ fs) darken
   stop-turn : {s : Side} {N : Node} {y : Linked} {fs : List Frame} {b : Bool} → NotLeaf (erase f y) → colourOf (erase f y) ≡ black → nephewOf s (erase f y) ≡ nephew b
-      → Stop f black (hole s N y ∷ fs) (blackSiblingOf b)
-  stop-pass : {s : Side} {N : Node} {y : Linked} {fs : List Frame} {o : Nephew} → f (N .num) ≡ black → colourOf (erase f y) ≡ red → NotLeaf (Seq.child s (erase f y))
-      → colourOf (Seq.child s (erase f y)) ≡ black → nephewOf s (Seq.child s (erase f y)) ≡ o → Stop f black (hole s N y ∷ fs) (passed o)
+      → Stop f black (hole s N y ∷ fs) (atBlackSibling b)
+  stop-redSibling : {s : Side} {N : Node} {y : Linked} {fs : List Frame} {o : Nephew} → f (N .num) ≡ black → colourOf (erase f y) ≡ red → NotLeaf (Seq.child s (erase f y))
+      → colourOf (Seq.child s (erase f y)) ≡ black → nephewOf s (Seq.child s (erase f y)) ≡ o → Stop f black (hole s N y ∷ fs) (atRedSibling o)

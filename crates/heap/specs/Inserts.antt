@@ -1,5 +1,5 @@
--- The store of an insert: the climb that its turn makes is the planned one, its colours are the tree's, and the phase after it is rest or
--- the rotation that the climb ended with.
+-- The store of an insert: the fix-up that its turn makes is the planned one, its colours are the tree's, and the phase after it is rest or
+-- the rotation that the fix-up ended with.
 use Prim.Native.Nat.{ℕ, _+_, _≤_, _*_}
 use mathlib.Core.Path.{_≡_, refl, sym, ap, _∙_}
 use mathlib.Core.Logic.{inl, inr, ⊎-elim}
@@ -12,7 +12,7 @@ use Rattle.datatypes.specs.declared.Side.{Side}
 use Rattle.datatypes.specs.Side.{other, sameSide, owner-at}
 use Rattle.spec.specs.Numbers.{nodeWords, mostNodes, pathBound}
 use Rattle.spec.specs.Register.{State}
-use Rattle.spec.specs.Plan.{fixupResult, endingStores, missing, insertFixup, fixupAfterInsert}
+use Rattle.spec.specs.Plan.{fixupResult, endingStores, missing, fixupAfterInsert}
 use Rattle.spec.specs.FreeQueue.{InPool}
 use Rattle.sequential.specs.Tree as Seq
 use Rattle.sequential.specs.Tree.{Colour, red, black, Tree, mk, colourOf}
@@ -26,12 +26,12 @@ use Rattle.tree.specs.Zipper.{Frame, hole, plug, Into}
 use Rattle.tree.specs.Erase.{erase, eraseWay, erase-at}
 use Rattle.tree.specs.Occurs.{occ-distinct, occ-plug, size-bound}
 use Rattle.tree.specs.InsertFixup as InsertFixup
-use Rattle.tree.specs.InsertFixup.{InsertFixupEnd, balanced, rotate, InsertFixups, insertFixup-balanced, insertFixup-level, insertFixup-turn}
+use Rattle.tree.specs.InsertFixup.{InsertFixupEnd, balanced, rotate, InsertFixupFinds, insertFixup-balanced, insertFixup-level, insertFixup-turn}
 use Rattle.heap.specs.Rep.{Rep}
 use Rattle.heap.specs.Sites.{linkTo, Way, Site, site-of, of-site}
 use Rattle.heap.specs.Colours.{colours, colours-none, red-is}
 use Rattle.heap.specs.Paths.{OnceWay, path-to, depth}
-use Rattle.heap.specs.Fixups.{way-sides, pairsUp, insertFixupEnding, insertFixup-links}
+use Rattle.heap.specs.Fixups.{insertFixupOf, way-sides, pairsUp, insertFixupEnding, insertFixup-links}
 use Rattle.heap.specs.Moves.{Once}
 use Rattle.heap.specs.Phase.{forInsert, insertEnding, Sound, Lined, Phase, diag-0, zig-0}
 use Rattle.heap.specs.RaiseSteps.{split}
@@ -62,9 +62,9 @@ way-short p root fs t small h good =
 pub once-way : (fs : List Frame) (t : Linked) → Once (plug fs t) → OnceWay fs
 once-way fs t h i = let a = h i in let b = occ-plug fs t i in omega arith
 
--- The climb.
+-- The fix-up.
 pub insert-fixup : (st : State) (k : ℕ) (fs : List Frame) → Way (st .pool) (st .register .root) fs → Into k fs → OnceWay fs → length fs ≤ pathBound
-    → fixupAfterInsert st k (linkTo fs) ≡ fixupResult (InsertFixup.insertFixup (eraseWay (colours (st .pool)) fs) .levels) (insertEnding (colours (st .pool)) fs)
+    → fixupAfterInsert st k (linkTo fs) ≡ fixupResult (insertFixupOf (colours (st .pool)) fs .levels) (insertEnding (colours (st .pool)) fs)
 unfolding fixupAfterInsert
 insert-fixup st k [] w i o l = rw (red-is (st .pool) 0, colours-none (st .pool))
 insert-fixup st k (hole s N y ∷ fs) w i o l =
@@ -75,31 +75,31 @@ insert-fixup st k (hole s N y ∷ fs) w i o l =
     (λ e. rw (owner-at s (N .num), red-is p (N .num), e, path) (rw e at r ∙ rw zero-add))
     (λ e. rw (owner-at s (N .num), red-is p (N .num), e))
 
--- how the climb ends, in a red-black tree
+-- how the fix-up ends, in a red-black tree
 pub data Stops : List Frame → InsertFixupEnd → Type 0 where
   stops-balanced : {fs : List Frame} → Stops fs balanced
   stops-turn : {s z : Side} {P Q : Node} {y a : Linked} {fs : List Frame} → Stops (hole s P y ∷ hole z Q a ∷ fs) (rotate (sameSide s z) z)
 
 data Case (c : Colour) (d : Colour) (fs : List Seq.Frame) : Type 0 where
   case-balanced : c ≡ black → Case c d fs
-  case-level : c ≡ red → d ≡ red → InsertFixups fs → Case c d fs
+  case-level : c ≡ red → d ≡ red → InsertFixupFinds fs → Case c d fs
   case-turn : c ≡ red → d ≡ black → Case c d fs
 
-insertFixup-one : {s : Side} {c : Colour} {k v : ℕ} {y : Tree} → InsertFixups (Seq.frame s c k v y ∷ []) → c ≡ black
-insertFixup-one insertFixup-balanced = refl
+finds-one : {s : Side} {c : Colour} {k v : ℕ} {y : Tree} → InsertFixupFinds (Seq.frame s c k v y ∷ []) → c ≡ black
+finds-one insertFixup-balanced = refl
 
-insertFixup-two : {s z : Side} {c d : Colour} {k v j w : ℕ} {y a : Tree} {fs : List Seq.Frame} → InsertFixups (Seq.frame s c k v y ∷ Seq.frame z d j w a ∷ fs) → Case c (colourOf a) fs
-insertFixup-two insertFixup-balanced = case-balanced refl
-insertFixup-two (insertFixup-level e r) = case-level refl e r
-insertFixup-two (insertFixup-turn e) = case-turn refl e
+finds-two : {s z : Side} {c d : Colour} {k v j w : ℕ} {y a : Tree} {fs : List Seq.Frame} → InsertFixupFinds (Seq.frame s c k v y ∷ Seq.frame z d j w a ∷ fs) → Case c (colourOf a) fs
+finds-two insertFixup-balanced = case-balanced refl
+finds-two (insertFixup-level e r) = case-level refl e r
+finds-two (insertFixup-turn e) = case-turn refl e
 
-pub insertFixup-stops : (f : ℕ → Colour) (fs : List Frame) → InsertFixups (eraseWay f fs) → Stops (pairsUp (InsertFixup.insertFixup (eraseWay f fs) .levels) fs) (InsertFixup.insertFixup (eraseWay f fs) .end)
+pub insertFixup-stops : (f : ℕ → Colour) (fs : List Frame) → InsertFixupFinds (eraseWay f fs) → Stops (pairsUp (insertFixupOf f fs .levels) fs) (insertFixupOf f fs .end)
 insertFixup-stops f [] r = stops-balanced
-insertFixup-stops f (hole s N y ∷ []) r = let e = insertFixup-one r in rw e stops-balanced
-insertFixup-stops f (hole s N y ∷ hole z Q a ∷ fs) r = go (insertFixup-two r) (λ i. insertFixup-stops f fs i)
+insertFixup-stops f (hole s N y ∷ []) r = let e = finds-one r in rw e stops-balanced
+insertFixup-stops f (hole s N y ∷ hole z Q a ∷ fs) r = go (finds-two r) (λ i. insertFixup-stops f fs i)
   where
-    go : Case (f (N .num)) (colourOf (erase f a)) (eraseWay f fs) → (InsertFixups (eraseWay f fs) → Stops (pairsUp (InsertFixup.insertFixup (eraseWay f fs) .levels) fs) (InsertFixup.insertFixup (eraseWay f fs) .end))
-        → Stops (pairsUp (InsertFixup.insertFixup (eraseWay f (hole s N y ∷ hole z Q a ∷ fs)) .levels) (hole s N y ∷ hole z Q a ∷ fs)) (InsertFixup.insertFixup (eraseWay f (hole s N y ∷ hole z Q a ∷ fs)) .end)
+    go : Case (f (N .num)) (colourOf (erase f a)) (eraseWay f fs) → (InsertFixupFinds (eraseWay f fs) → Stops (pairsUp (insertFixupOf f fs .levels) fs) (insertFixupOf f fs .end))
+        → Stops (pairsUp (insertFixupOf f (hole s N y ∷ hole z Q a ∷ fs) .levels) (hole s N y ∷ hole z Q a ∷ fs)) (insertFixupOf f (hole s N y ∷ hole z Q a ∷ fs) .end)
     go (case-balanced e) again = rw e stops-balanced
     go (case-level e d i) again = rw (e, d) (again i)
     go (case-turn e d) again = rw (e, d) stops-turn
@@ -108,13 +108,13 @@ pub stops-there : {fs : List Frame} {e : InsertFixupEnd} → Stops fs e → miss
 stops-there stops-balanced = refl
 stops-there stops-turn = refl
 
--- the phase after the climb's colours: the tree u at the place where it ended is there
+-- the phase after the fix-up's colours: the tree u at the place where it ended is there
 module _ (q : List ℕ) (root : ℕ) (G : Tree) where
   abbrev g : ℕ → Colour
   g = colours q
 
   abbrev Turning : List Frame → InsertFixupEnd → Linked → Type 0
-  Turning U e u = Site q root U u → Lined G (plug U u) → Proper G → G ≡ Seq.paint black (InsertFixup.risen e (eraseWay g U) (erase g u))
+  Turning U e u = Site q root U u → Lined G (plug U u) → Proper G → G ≡ Seq.paint black (InsertFixup.insertEnded e (eraseWay g U) (erase g u))
       → Phase q root G (plug U u) (endingStores (insertFixupEnding e U))
 
   turn-outer : (z : Side) (P Q : Node) (y a : Linked) (fs : List Frame) (u : Linked) → Turning (hole z P y ∷ hole z Q a ∷ fs) (rotate true z) u

@@ -21,7 +21,7 @@ use Rattle.sequential.specs.Tree.{black}
 use Rattle.tree.specs.Linked.{Linked, at, nodes}
 use Rattle.tree.specs.Zipper.{Frame, hole, plug}
 use Rattle.tree.specs.Erase.{erase}
-use Rattle.tree.specs.Occurs.{one, one-same, one-other, one-case, occ, occWay, occ-plug}
+use Rattle.tree.specs.Occurs.{one, one-same, one-other, one-case, occ, occWay, occ-plug, occ-apart}
 use Rattle.heap.specs.Rep.{Rep, Alike, alike-less, upToLinks}
 use Rattle.heap.specs.Sites.{linkTo, Site, of-site, site-agree, site-alike, Clear, site-store}
 use Rattle.heap.specs.Colours.{hue, colours, colours-alike, colours-link, paint-alike, erase-occ, erase-top}
@@ -91,9 +91,6 @@ pub taken-filled : (st : State) (k v : ℕ) (s : Side) (x y c : ℕ) → InPool 
     → Filled (st .pool) (takeNode st k v s x y c .pool) (st .register .first) k v s x y c
 taken-filled st k v s x y c w = rw (take-pool st k v s x y c) (fill-node (st .pool) (st .register .first) k v s x y c w)
 
-apart : (d n : ℕ) (xs : List ℕ) → occ d xs ≡ 0 → 0 < occ n xs → d ≢ n
-apart d n xs z h e = let x : occ d xs ≡ occ n xs = rw e in omega arith
-
 -- A node is taken, filled and linked at the hole.
 pub record Linked-in (st after : State) (gs : List Frame) (u : Linked) (c : ℕ) : Type 0 where
   pub site : At after gs u
@@ -113,7 +110,7 @@ link-in st gs t k v s x y c X Y fresh h rx ry ox oy clear =
     let fill = taken-filled st k v s x y c (fresh .within) in
     let reg = take-register st k v s x y c in
     let kept : At base gs t = rw (reg .root)
-    (site-agree (st .pool) (base .pool) (st .register .root) (fill .size) gs t (λ m i. filled-agree fill m (apart n m (nodes (plug gs t)) (fresh .new) i)) h) in
+    (site-agree (st .pool) (base .pool) (st .register .root) (fill .size) gs t (λ m i. filled-agree fill m (occ-apart n m (nodes (plug gs t)) (fresh .new) i)) h) in
     record {
       site = site-store base gs t (at s (record { num = n; key = k; val = v }) X Y) n clear kept (filled-rep fill X Y (fresh .within) ox oy rx ry);
       new-colour = colours-link base (linkTo gs) n n ∙ fill .colour-is;

@@ -21,18 +21,18 @@ use Rattle.heap.specs.Moves.{new-apart}
 use Rattle.heap.specs.Tolds.{Told}
 use Rattle.heap.specs.Places.{diagTop, diagLow, Zig, zigTop, zigTree, zigLowA, zigLowC}
 use Rattle.heap.specs.Phase.{Phases, at-rest, diag-0, diag-1, zig-0, zig-1, zig-2, insert-0, unlink-0, adopt-0, replace-0, publish-0, detach-0}
-use Rattle.heap.specs.Shift.{Shift, by-insert, by-diag-lower, by-diag-raise, by-zig-A, by-zig-C, by-zig-raise, by-unlink, by-adopt, by-replace, by-publish, by-detach, listStore}
+use Rattle.heap.specs.Shift.{Shift, by-insert, by-diag-lower, by-diag-raise, by-zig-A, by-zig-C, by-zig-raise, by-unlink, by-adopt, by-replace, by-publish, by-detach, isListStore}
 use Rattle.heap.specs.AdoptStep.{form-count}
 use Rattle.heap.specs.DetachStep.{third-count}
 
 -- Counts of node i before (a) and after (b) a store: what is there after was there or came, what was there stays or leaves.
-pub record Passes (a b new gone : ℕ) : Type 0 where
+pub record NodeCounts (a b new gone : ℕ) : Type 0 where
   pub came : b ≤ 3 * (a + new)
   pub stayed : a ≤ 3 * (b + gone)
-  pub writerSide : new ≤ b
+  pub entered : new ≤ b
   pub was : gone ≤ a
 
-pub shift-nodes : {T U : Linked} {l : Link} {b : ℕ} {new gone : List ℕ} {v a : Bool} → Shift T U l b new gone v a → (i : ℕ) → Passes (occ i (nodes T)) (occ i (nodes U)) (occ i new) (occ i gone)
+pub shift-nodes : {T U : Linked} {l : Link} {b : ℕ} {new gone : List ℕ} {v a : Bool} → Shift T U l b new gone v a → (i : ℕ) → NodeCounts (occ i (nodes T)) (occ i (nodes U)) (occ i new) (occ i gone)
 shift-nodes (by-insert fs Z j z) i = simp (occ-plug, occ-at) (omega arith)
 shift-nodes (by-diag-lower fs s B C n o x r h j z) i = simp (occ-plug, occ-at) (omega arith)
 shift-nodes (by-diag-raise fs s B C n o x r h j z) i = simp (occ-plug, occ-at) (omega arith)
@@ -85,7 +85,7 @@ shift-left (by-detach fs gs B C n l y a h j z) i q =
 -- no list store is still to come
 abbrev pub Settled : List Store → Type 0
 Settled [] = Unit {0}
-Settled (x ∷ l) = (listStore (x .step) ≡ false) × Settled l
+Settled (x ∷ l) = (isListStore (x .step) ≡ false) × Settled l
 
 -- a zig's lower stores leave each lookup's answer
 module _ (d : Zig) (m n : ℕ) (h : Ordered (bare (zigTree d))) where

@@ -10,7 +10,7 @@ use Rattle.datatypes.specs.declared.Write.{Write}
 use Rattle.spec.specs.Register.{State, setLink, withHeld, withAwaited, withWrite}
 use Rattle.spec.specs.Free.{takeNode, retire, retireTwo}
 use Rattle.spec.specs.Turn.{Made, made}
-use Rattle.heap.specs.ColourWork.{ColoursOnly, colours-refl}
+use Rattle.heap.specs.ColourWork.{ColoursOnly, coloursOnly-refl}
 
 -- before the store: the state itself, or with the first free node taken
 pub data Based (st : State) : List ℕ → State → Type 0 where
@@ -61,15 +61,15 @@ pub record Parts (st : State) (m : Made) (new gone : List ℕ) : Type 0 where
   pub base : State
   pub based : Based st new base
   pub mid : State
-  pub tint : ColoursOnly (setLink base (m .link) (m .node) .pool) (mid .pool)
+  pub only : ColoursOnly (setLink base (m .link) (m .node) .pool) (mid .pool)
   pub queue : SameQueue (setLink base (m .link) (m .node) .register) (mid .register)
   pub retired : m .after ≡ retireAll mid gone
 
 -- a copying store: nothing is painted or retired
 pub copied : (st base : State) (m : Made) (l : Link) (n : ℕ) (new : List ℕ) → Based st new base → m ≡ made (setLink base l n) l n → Parts st m new []
-copied st base m l n new b e = rw e record { base = base; based = b; mid = setLink base l n; tint = colours-refl _; queue = same-queue refl; retired = refl }
+copied st base m l n new b e = rw e record { base = base; based = b; mid = setLink base l n; only = coloursOnly-refl _; queue = same-queue refl; retired = refl }
 
 -- any store, from its parts
 pub parts-of : (st base mid : State) (m : Made) (l : Link) (n : ℕ) (new gone : List ℕ) → Based st new base → ColoursOnly (setLink base l n .pool) (mid .pool)
     → SameQueue (setLink base l n .register) (mid .register) → m ≡ made (retireAll mid gone) l n → Parts st m new gone
-parts-of st base mid m l n new gone b t q e = rw e record { base = base; based = b; mid = mid; tint = t; queue = q; retired = refl }
+parts-of st base mid m l n new gone b t q e = rw e record { base = base; based = b; mid = mid; only = t; queue = q; retired = refl }

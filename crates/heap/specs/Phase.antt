@@ -6,7 +6,7 @@ use mathlib.Core.Logic.{_≢_}
 use mathlib.Core.Bool.{Bool, true, false}
 use mathlib.Core.List.{List, [], _∷_}
 use Rattle.datatypes.specs.declared.Side.{Side}
-use Rattle.datatypes.specs.declared.Side.the-variants.{L, R}
+use Rattle.datatypes.specs.declared.Side.the-variants.{L}
 use Rattle.datatypes.specs.declared.Purpose.{Purpose}
 use Rattle.datatypes.specs.declared.Purpose.the-variants.{ForInsert, RedSibling, BlackSibling}
 use Rattle.datatypes.specs.declared.Ending.{Ending}
@@ -19,7 +19,7 @@ use Rattle.spec.specs.Plan.{store, turnStores, endingStores}
 use Rattle.sequential.specs.Tree as Seq
 use Rattle.sequential.specs.Tree.{Colour, red, black, Tree, mk, colourOf}
 use Rattle.sequential.specs.Insert as SeqInsert
-use Rattle.sequential.specs.Delete.{blackOuter, lose, delete}
+use Rattle.sequential.specs.Delete.{blackOuter, afterRemoval, delete}
 use Rattle.tree.specs.Sorted.{NotLeaf, Ordered}
 use Rattle.tree.specs.Changes.{Proper}
 use Rattle.tree.specs.Linked.{Node, Linked, nil, at, nodes}
@@ -28,14 +28,13 @@ use Rattle.tree.specs.Zipper.{Frame, plug, Into, Along}
 use Rattle.tree.specs.Erase.{erase, eraseWay}
 use Rattle.tree.specs.Occurs.{occ}
 use Rattle.tree.specs.Height.{mostHeight}
-use Rattle.tree.specs.InsertFixup as InsertFixup
 use Rattle.tree.specs.DeleteFixup.{Nephew, noNephew, nephew, nephewOf}
 use native.Mathlib.Omega.{arith}
 use lib.ListN.{length}
 use Rattle.heap.specs.Rep.{Rep, Alike, upToLinks, upToColour, alike-less}
 use Rattle.heap.specs.Sites.{linkTo, Site, site-alike, of-site}
 use Rattle.heap.specs.Colours.{colours, colours-alike}
-use Rattle.heap.specs.Fixups.{pairsUp, insertFixupEnding, formOf, framesUp, tip, deleteFixupEnding}
+use Rattle.heap.specs.Fixups.{insertFixupOf, pairsUp, insertFixupEnding, formOf, framesUp, tip, deleteFixupEnding}
 use Rattle.heap.specs.DeleteFixupRun.{deleteFixupOf}
 use Rattle.heap.specs.Moves.{Once}
 use Rattle.heap.specs.Places.{Diag, diagTop, diagTree, diagLow, Zig, zigTop, zigTree, zigLowA, zigLowC, Single, singleTop, singleTree}
@@ -43,47 +42,47 @@ use Rattle.heap.specs.Places.{Double, doubleTop, doubleTree, adopted, pu
 use Rattle.heap.specs.Tolds.{Told}
 
 -- What a diag is for: an insert; a delete's last rotation; a red sibling, after which nothing or one rotation under the copy comes.
-pub data Follow : Type 0 where
-  forInsert onBlackSibling : Follow
-  onRedSibling : (o : Nephew) → Follow
+pub data DiagFor : Type 0 where
+  forInsert onBlackSibling : DiagFor
+  onRedSibling : (o : Nephew) → DiagFor
 
-abbrev pub purposeOf : Follow → Purpose
+abbrev pub purposeOf : DiagFor → Purpose
 purposeOf forInsert = ForInsert
 purposeOf onBlackSibling = BlackSibling
 purposeOf (onRedSibling o) = RedSibling
 
 -- the copies' colour
-abbrev pub lowOf : Follow → Colour
+abbrev pub lowOf : DiagFor → Colour
 lowOf forInsert = red
 lowOf onBlackSibling = black
 lowOf (onRedSibling o) = red
 
-abbrev pub followStores : Follow → Side → ℕ → List Store
+abbrev pub followStores : DiagFor → Side → ℕ → List Store
 followStores forInsert s b = []
 followStores onBlackSibling s b = []
 followStores (onRedSibling noNephew) s b = []
 followStores (onRedSibling (nephew o)) s b = turnStores (formOf o) (linkAt (other s) b) s BlackSibling
 
 -- under the red copy of the parent (k, v): x is the new sibling, on the side s, and r lacks a black node
-abbrev pub passUnder : Nephew → Side → ℕ → ℕ → Tree → Tree → Tree
-passUnder noNephew s k v x r = mk s black k v (Seq.paint red x) r
-passUnder (nephew true) s k v x r = Seq.diag s red black k v (blackOuter s x) r
-passUnder (nephew false) s k v x r = Seq.zig s red black k v x r
+abbrev pub underCopy : Nephew → Side → ℕ → ℕ → Tree → Tree → Tree
+underCopy noNephew s k v x r = mk s black k v (Seq.paint red x) r
+underCopy (nephew true) s k v x r = Seq.diag s red black k v (blackOuter s x) r
+underCopy (nephew false) s k v x r = Seq.zig s red black k v x r
 
 module _ (f : ℕ → Colour) (d : Diag) where
   open Diag d using (way, side as s, B, C, outer as o, inner as x, far as r)
 
   -- what the nodes that the last store names need
-  abbrev pub DiagNeeds : Follow → Type 0
+  abbrev pub DiagNeeds : DiagFor → Type 0
   DiagNeeds forInsert = Unit {0}
   DiagNeeds onBlackSibling = NotLeaf (erase f o)
   DiagNeeds (onRedSibling l) = NotLeaf (erase f x) × (nephewOf (other s) (erase f x) ≡ l)
 
   -- the sequential tree that a diag and what follows it make
-  abbrev pub diagGoal : Follow → Tree
+  abbrev pub diagGoal : DiagFor → Tree
   diagGoal forInsert = Seq.paint black (Seq.plug (eraseWay f way) (Seq.diag s black red (C .key) (C .val) (erase f (at s B o x)) (erase f r)))
   diagGoal onBlackSibling = Seq.plug (eraseWay f way) (Seq.diag s (f (C .num)) black (C .key) (C .val) (blackOuter s (erase f (at s B o x))) (erase f r))
-  diagGoal (onRedSibling l) = Seq.plug (eraseWay f way) (mk s black (B .key) (B .val) (erase f o) (passUnder l s (C .key) (C .val) (erase f x) (erase f r)))
+  diagGoal (onRedSibling l) = Seq.plug (eraseWay f way) (mk s black (B .key) (B .val) (erase f o) (underCopy l s (C .key) (C .val) (erase f x) (erase f r)))
 
 -- a zig, of an insert or of a delete
 abbrev pub zigPurpose : Bool → Purpose
@@ -101,13 +100,16 @@ module _ (f : ℕ → Colour) (d : Zig) where
   zigGoal true = Seq.paint black (Seq.plug (eraseWay f way) (Seq.zig s black red (C .key) (C .val) (erase f (at s A a (at s B x y))) (erase f r)))
   zigGoal false = Seq.plug (eraseWay f way) (Seq.zig s (f (C .num)) black (C .key) (C .val) (erase f (at s A a (at s B x y))) (erase f r))
 
--- how the climb after a write ends: an insert at a place; the loss of a node's colour at a place where a tree of the colour c came
+-- How the fix-up of a write ends: of an insert at a place; of a removal, where a node's colour was taken out at a place and a tree of the
+-- given colour came there.
 abbrev pub insertEnding : (ℕ → Colour) → List Frame → Ending
-insertEnding f fs = insertFixupEnding (InsertFixup.insertFixup (eraseWay f fs) .end) (pairsUp (InsertFixup.insertFixup (eraseWay f fs) .levels) fs)
+insertEnding f fs = let fix = insertFixupOf f fs in insertFixupEnding (fix .end) (pairsUp (fix .levels) fs)
 
 abbrev pub removalEnding : Colour → (ℕ → Colour) → Colour → List Frame → Ending
-removalEnding red f c fs = Balanced
-removalEnding black f c fs = deleteFixupEnding (deleteFixupOf f c fs .end) (tip f c (deleteFixupOf f c fs .levels) fs) (framesUp (deleteFixupOf f c fs .levels) fs)
+removalEnding red f came fs = Balanced
+removalEnding black f came fs =
+    let fix = deleteFixupOf f came fs in
+    deleteFixupEnding (fix .end) (tip f came (fix .levels) fs) (framesUp (fix .levels) fs)
 
 -- a tree with distinct nodes, whose coloured tree is in order and red-black
 pub record SoundBy (f : ℕ → Colour) (T : Linked) : Type 0 where
@@ -123,14 +125,14 @@ pub record Lined (G : Tree) (T : Linked) : Type 0 where
   pub ordered : Ordered (bare T)
   pub told : Told G T
 
--- The number n of a copy: no node of T, and the copy's colour.
-pub record Copied (f : ℕ → Colour) (T : Linked) (n : ℕ) (c : Colour) : Type 0 where
+-- The number n of a copy: no node of T; the copy has its colour.
+pub record Copied (f : ℕ → Colour) (T : Linked) (n : ℕ) (its : Colour) : Type 0 where
   pub new : occ n (nodes T) ≡ 0
-  pub colour : f n ≡ c
+  pub colour : f n ≡ its
 
 -- What holds of a place from its first store to its last. G is the sequential tree that the write makes, f gives the colours.
 module _ (f : ℕ → Colour) (G : Tree) where
-  pub record DiagPlan (w : Follow) (d : Diag) : Type 0 where
+  pub record DiagPlan (w : DiagFor) (d : Diag) : Type 0 where
     pub lined : Lined G (diagTree d)
     pub proper : Proper G
     pub needs : DiagNeeds f d w
@@ -149,7 +151,7 @@ module _ (f : ℕ → Colour) (G : Tree) where
   pub record UnlinkPlan (d : Single) : Type 0 where
     pub sound : SoundBy f (singleTree d)
     pub proper : Proper G
-    pub goal : G ≡ lose (f (d .B .num)) (eraseWay f (d .way)) (erase f (d .only))
+    pub goal : G ≡ afterRemoval (f (d .B .num)) (eraseWay f (d .way)) (erase f (d .only))
 
   -- delete with two children, up to its list store
   pub record DoublePlan (d : Double) (down : List Frame) : Type 0 where
@@ -157,7 +159,7 @@ module _ (f : ℕ → Colour) (G : Tree) where
     pub sound : SoundBy f (doubleTree d down)
     pub proper : Proper G
     pub deletes : G ≡ delete (erase f (doubleTree d down)) (d .B .key)
-    pub goal : G ≡ lose (f (d .C .num)) (eraseWay f (wayToC d down)) (erase f (d .right))
+    pub goal : G ≡ afterRemoval (f (d .C .num)) (eraseWay f (wayToC d down)) (erase f (d .right))
 
   -- and after a publish, n being the copy of C
   pub record DetachPlan (d : Double) (down : List Frame) (n : ℕ) : Type 0 where
@@ -167,21 +169,21 @@ module _ (f : ℕ → Colour) (G : Tree) where
     pub sound : SoundBy f (doubleTree d down)
     pub copied : Copied f (doubleTree d down) n (f (d .B .num))
     pub proper : Proper G
-    pub goal : G ≡ lose (f (d .C .num)) (eraseWay f (copiedWay d down n)) (erase f (d .right))
+    pub goal : G ≡ afterRemoval (f (d .C .num)) (eraseWay f (copiedWay d down n)) (erase f (d .right))
 
 -- stores to come
-abbrev pub raiseStores : Follow → Diag → List Store
+abbrev pub raiseStores : DiagFor → Diag → List Store
 raiseStores w d = store (linkTo (d .way)) (DiagRaise (d .side) (purposeOf w)) ∷ followStores w (d .side) (d .B .num)
 
-abbrev pub diagStores : Follow → Diag → List Store
+abbrev pub diagStores : DiagFor → Diag → List Store
 diagStores w d = store (linkTo (d .way)) (DiagLower (d .side) (purposeOf w)) ∷ raiseStores w d
 
 abbrev pub zigStore : Bool → Zig → (Side → Purpose → Step) → Store
 zigStore w d x = store (linkTo (d .way)) (x (d .side) (zigPurpose w))
 
--- the stores of the climb when C's colour is lost at the end of a way
-abbrev pub lostStores : (ℕ → Colour) → Node → Linked → List Frame → List Store
-lostStores f C y way = endingStores (removalEnding (f (C .num)) f (colourOf (erase f y)) way)
+-- the stores of the fix-up when C's colour is taken out at the end of a way
+abbrev pub removalStores : (ℕ → Colour) → Node → Linked → List Frame → List Store
+removalStores f C y way = endingStores (removalEnding (f (C .num)) f (colourOf (erase f y)) way)
 
 -- The phases. Each has the place's tree, drawn below with the side on the left, and the stores to come, which are its arrow and those right of
 -- it. Capitals are nodes, with a dash copies; the letters stand for the subtrees: o x r of a diag for outer, inner, far; a x y r of a zig for
@@ -198,8 +200,8 @@ module _ (p : List ℕ) (root : ℕ) (f : ℕ → Colour) (G : Tree) where
     --                           / \
     --                          x   r
     --     diag-0             diag-1           at rest, or a rotation at C'
-    diag-0 : (w : Follow) (d : Diag) → Site p root (d .way) (diagTop d) → DiagPlan f G w d → Phases (diagTree d) (diagStores w d)
-    diag-1 : (w : Follow) (d : Diag) (n : ℕ) → Site p root (d .way) (diagLow d n) → DiagPlan f G w d → Copied f (diagTree d) n (lowOf w)
+    diag-0 : (w : DiagFor) (d : Diag) → Site p root (d .way) (diagTop d) → DiagPlan f G w d → Phases (diagTree d) (diagStores w d)
+    diag-1 : (w : DiagFor) (d : Diag) (n : ℕ) → Site p root (d .way) (diagLow d n) → DiagPlan f G w d → Copied f (diagTree d) n (lowOf w)
         → Phases (plug (d .way) (diagLow d n)) (raiseStores w d)
     --
     --       C                 C                     C                     B
@@ -231,7 +233,7 @@ module _ (p : List ℕ) (root : ℕ) (f : ℕ → Colour) (G : Tree) where
     --
     --   unlink-0          at rest, or rotations above
     unlink-0 : (d : Single) → Site p root (d .way) (singleTop d) → UnlinkPlan f G d
-        → Phases (singleTree d) (store (linkTo (d .way)) Unlink ∷ lostStores f (d .B) (d .only) (d .way))
+        → Phases (singleTree d) (store (linkTo (d .way)) Unlink ∷ removalStores f (d .B) (d .only) (d .way))
     --
     --     B                   B
     --    / \      adopt      / \      replace     C
@@ -240,9 +242,9 @@ module _ (p : List ℕ) (root : ℕ) (f : ℕ → Colour) (G : Tree) where
     --         y               l   y
     --   adopt-0            replace-0          at rest, or rotations above y
     adopt-0 : (d : Double) → Site p root (d .way) (doubleTop d []) → DoublePlan f G d []
-        → Phases (doubleTree d []) (store (linkTo (d .way)) Adopt ∷ store (linkTo (d .way)) Replace ∷ lostStores f (d .C) (d .right) (wayToC d []))
+        → Phases (doubleTree d []) (store (linkTo (d .way)) Adopt ∷ store (linkTo (d .way)) Replace ∷ removalStores f (d .C) (d .right) (wayToC d []))
     replace-0 : (d : Double) → Site p root (d .way) (adopted d) → DoublePlan f G d []
-        → Phases (plug (d .way) (adopted d)) (store (linkTo (d .way)) Replace ∷ lostStores f (d .C) (d .right) (wayToC d []))
+        → Phases (plug (d .way) (adopted d)) (store (linkTo (d .way)) Replace ∷ removalStores f (d .C) (d .right) (wayToC d []))
     --
     --     B                  C'                 C'
     --    / \     publish    / \     detach     / \
@@ -253,9 +255,9 @@ module _ (p : List ℕ) (root : ℕ) (f : ℕ → Colour) (G : Tree) where
     --       y                  y
     --   publish-0          detach-0           at rest, or rotations above y
     publish-0 : (d : Double) (down : List Frame) → Site p root (d .way) (doubleTop d down) → DoublePlan f G d down
-        → Phases (doubleTree d down) (store (linkTo (d .way)) (Publish (d .C .num)) ∷ store (linkTo (d .way)) (Detach (d .B .key)) ∷ lostStores f (d .C) (d .right) (wayToC d down))
+        → Phases (doubleTree d down) (store (linkTo (d .way)) (Publish (d .C .num)) ∷ store (linkTo (d .way)) (Detach (d .B .key)) ∷ removalStores f (d .C) (d .right) (wayToC d down))
     detach-0 : (d : Double) (down : List Frame) (n : ℕ) → Site p root (d .way) (published d down n) → DetachPlan f G d down n
-        → Phases (plug (d .way) (published d down n)) (store (linkTo (d .way)) (Detach (d .B .key)) ∷ lostStores f (d .C) (d .right) (copiedWay d down n))
+        → Phases (plug (d .way) (published d down n)) (store (linkTo (d .way)) (Detach (d .B .key)) ∷ removalStores f (d .C) (d .right) (copiedWay d down n))
 
 abbrev pub Phase : List ℕ → ℕ → Tree → Linked → List Store → Type 0
 Phase p root G T l = Phases p root (colours p) G T l

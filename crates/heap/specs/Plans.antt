@@ -18,8 +18,8 @@ use Rattle.tree.specs.Order.{here-of}
 use Rattle.tree.specs.Linked.{Node, Linked, nil, cell, at, find}
 use Rattle.tree.specs.Zipper.{Frame, plug, Into, find-into}
 use Rattle.tree.specs.Erase.{erase, eraseWay, erase-plug}
-use Rattle.tree.specs.Ways.{insert-insertFixup}
-use Rattle.tree.specs.DeleteFixup.{DeleteFixups}
+use Rattle.tree.specs.Ways.{insert-fixup-finds}
+use Rattle.tree.specs.DeleteFixup.{DeleteFixupFinds}
 use Rattle.heap.specs.Rep.{Rep}
 use Rattle.heap.specs.Sites.{linkTo, links, site-of}
 use Rattle.heap.specs.Colours.{redly, colours}
@@ -73,11 +73,11 @@ insert-planned st k v fs h i =
     let site = rest-at h fs nil refl in
     let l = way-short (st .pool) (st .register .root) fs nil (h .small) site (h .sound) in
     let c = insert-fixup st k fs (site .way) i (once-way fs nil (h .sound .once)) (omega arith) in
-    let s = insertFixup-stops f fs (insert-insertFixup (eraseWay f fs) (rw (erase-plug f fs nil) at (h .sound .proper .redblack))) in
+    let s = insertFixup-stops f fs (insert-fixup-finds (eraseWay f fs) (rw (erase-plug f fs nil) at (h .sound .proper .redblack))) in
     rw c record { possible = rw (stops-there s); phase = insert-0 k v fs site (record { sound = h .sound; into = i; goal = refl }) }
 
--- the ending that a loss's climb plans
-pub removal-ending : (p : List ℕ) (n x : ℕ) (c : Colour) (fs : List Frame) → isRed p x ≡ redly c → Sides p fs → (colours p n ≡ black → DeleteFixups c (eraseWay (colours p) fs))
+-- the ending that a removal's fix-up plans
+pub removal-ending : (p : List ℕ) (n x : ℕ) (c : Colour) (fs : List Frame) → isRed p x ≡ redly c → Sides p fs → (colours p n ≡ black → DeleteFixupFinds c (eraseWay (colours p) fs))
     → fixupAfterRemoval p n x (links fs) .ending ≡ removalEnding (colours p n) (colours p) c fs
 removal-ending p n x c fs d w s = go (colours p n) refl
   where

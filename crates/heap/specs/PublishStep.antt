@@ -15,7 +15,6 @@ use Rattle.spec.specs.Free.{takeNode, retire}
 use Rattle.spec.specs.Plan.{store, endingStores}
 use Rattle.spec.specs.Turn.{made, colourOf as colourWordOf, oneLess, movedStore, movedWrite, publishStore, stepFinds}
 use Rattle.sequential.specs.Tree.{Colour, red, black, Tree, colourOf}
-use Rattle.sequential.specs.Delete.{delete}
 use Rattle.tree.specs.Linked.{Node, copy, Linked, nil, cell, at, nodes}
 use Rattle.tree.specs.LinkedOrder.{ordered-bare, ordered-within, into-top}
 use Rattle.tree.specs.Zipper.{Frame, hole, plug, plug-append, sameBut-lift}
@@ -32,11 +31,11 @@ use Rattle.heap.specs.Fixups.{framesUp, tip, deleteFixupEnding}
 use Rattle.heap.specs.DeleteFixupRun.{deleteFixupOf}
 use Rattle.heap.specs.Moves.{At, Fresh, new-apart, Linked-in, link-in, clear-of, at-quiet, fields-trans, held-fields}
 use Rattle.heap.specs.Lowers.{is-node, not-empty, Top, top-of, far-down}
-use Rattle.heap.specs.ColourWork.{colours-refl}
+use Rattle.heap.specs.ColourWork.{coloursOnly-refl}
 use Rattle.heap.specs.Parts.{filled, queue-trans, held-queue, await-queue, parts-of}
 use Rattle.heap.specs.Tolds.{Told, told-delete}
 use Rattle.heap.specs.Places.{Double, standIn, doubleTop, doubleTree, published, wayToC, copiedWay}
-use Rattle.heap.specs.Phase.{removalEnding, Phase, detach-0, DoublePlan, lostStores}
+use Rattle.heap.specs.Phase.{removalEnding, Phase, detach-0, DoublePlan, removalStores}
 use Rattle.heap.specs.Shift.{by-publish, Next}
 use Rattle.heap.specs.Inserts.{Small, way-short}
 use Rattle.heap.specs.InsertStep.{held-root, held-is}
@@ -113,8 +112,8 @@ module _ (st : State) (G : Tree) (d : Double) (gs : List Frame) (h : At st (d .w
   abbrev W : List Frame
   W = copiedWay d gs n
 
-  capacity : Top st fs L B l (plug gs (at L C nil y))
-  capacity = top-of st fs L B l (plug gs (at L C nil y)) h
+  top : Top st fs L B l (plug gs (at L C nil y))
+  top = top-of st fs L B l (plug gs (at L C nil y)) h
 
   siteC : At st (gs ++ (hole R B l ∷ fs)) (cell C nil y)
   siteC = site-append p (st .register .root) gs (hole R B l ∷ fs) (cell C nil y) (far-down st fs L B l (plug gs (at L C nil y)) h)
@@ -144,7 +143,7 @@ module _ (st : State) (G : Tree) (d : Double) (gs : List Frame) (h : At st (d .w
 
   publish-is : publishStore st (linkTo fs) (C .num) ≡ made (retire awaiting (B .num)) (linkTo fs) n
   unfolding publishStore
-  publish-is = let w = top-of st (gs ++ (hole R B l ∷ fs)) L C nil y siteC .words in rw (capacity .is, w .key-is, w .val-is)
+  publish-is = let w = top-of st (gs ++ (hole R B l ∷ fs)) L C nil y siteC .words in rw (top .is, w .key-is, w .val-is)
 
   in-tree : Linked-in st stored fs (published d gs n) (colourWordOf st (B .num))
   in-tree =
@@ -153,7 +152,7 @@ module _ (st : State) (G : Tree) (d : Double) (gs : List Frame) (h : At st (d .w
       let cn = count n in
       let u = occ-plug gs (cell C nil y) n in
       let e = occ-at L C nil y n in
-      link-in st fs (doubleTop d gs) (C .key) (C .val) L (child p L (B .num)) (child p R (B .num)) (colourWordOf st (B .num)) l (plug gs (at L C nil y)) fresh h (capacity .near) (capacity .far)
+      link-in st fs (doubleTop d gs) (C .key) (C .val) L (child p L (B .num)) (child p R (B .num)) (colourWordOf st (B .num)) l (plug gs (at L C nil y)) fresh h (top .near) (top .far)
       (omega arith) (omega arith)
       (clear-of fs (doubleTop d gs) (published d gs n) (good .once)
       (λ i w. let a = each i in let b = count i in let k = new-apart i n (nodes T) (fresh .new) (omega arith) in
@@ -195,10 +194,10 @@ module _ (st : State) (G : Tree) (d : Double) (gs : List Frame) (h : At st (d .w
   ways : eraseWay g W ≡ eraseWay f old
   ways = way-append g gs (hole R (copy C n) l ∷ fs) ∙ rw (way-occ f g gs in-gs, new-colour, gl, way-occ f g fs in-fs) (sym (way-append f gs (hole R (standIn B C) l ∷ fs)))
 
-  ren : Renamed (B .num) n (capacity .words .within .low) old W
-  ren = let a = each (B .num) in let b = one-same (B .num) in renamed (B .num) n (capacity .words .within .low) gs (standIn B C) (copy C n) l fs refl refl (omega arith) (omega arith) (omega arith)
+  ren : Renamed (B .num) n (top .words .within .low) old W
+  ren = let a = each (B .num) in let b = one-same (B .num) in renamed (B .num) n (top .words .within .low) gs (standIn B C) (copy C n) l fs refl refl (omega arith) (omega arith) (omega arith)
 
-  ren-fs : Renamed (B .num) n (capacity .words .within .low) fs fs
+  ren-fs : Renamed (B .num) n (top .words .within .low) fs fs
   ren-fs = let a = each (B .num) in let b = one-same (B .num) in same fs (omega arith)
 
   -- the stores to come, renamed
@@ -206,7 +205,7 @@ module _ (st : State) (G : Tree) (d : Double) (gs : List Frame) (h : At st (d .w
       → map (movedStore (B .num) n) (endingStores (deleteFixupEnding (r .end) (tip f d (r .levels) old) (framesUp (r .levels) old)))
       ≡ endingStores (deleteFixupEnding (r1 .end) (tip g c1 (r1 .levels) W) (framesUp (r1 .levels) W))
   ending-of r1 r c1 d er ec =
-      moved-stores (B .num) n (capacity .words .within .low) (r .end) (tip f d (r .levels) old) (moved-up (B .num) n (capacity .words .within .low) (r .levels) ren)
+      moved-stores (B .num) n (top .words .within .low) (r .end) (tip f d (r .levels) old) (moved-up (B .num) n (top .words .within .low) (r .levels) ren)
       ∙ sym (rw (er, ec, tip-append f g d (r .levels) gs (standIn B C) (copy C n) l fs new-colour in-gs in-fs))
 
   stores-of : (d e : Colour) → d ≡ e
@@ -215,12 +214,12 @@ module _ (st : State) (G : Tree) (d : Double) (gs : List Frame) (h : At st (d .w
   stores-of black black q =
       let c = colourOf (erase g y) in
       let d = colourOf (erase f y) in
-      ending-of (deleteFixupOf g c W) (deleteFixupOf f d old) c d (ap₂ DeleteFixup.deleteFixup (ap colourOf gy) ways) (ap colourOf gy)
+      ending-of (deleteFixupOf g c W) (deleteFixupOf f d old) c d (ap₂ DeleteFixup.deleteFixupOn (ap colourOf gy) ways) (ap colourOf gy)
   stores-of red black q = let z : _≡_ {A = ℕ} 0 1 = cc in absurd (omega arith)
   stores-of black red q = let z : _≡_ {A = ℕ} 0 1 = cc in absurd (omega arith)
 
-  stores : map (movedStore (linkNode st (linkTo fs)) n) (store (linkTo fs) (Detach (B .key)) ∷ lostStores f C y old) ≡ store (linkTo fs) (Detach (B .key)) ∷ lostStores g C y W
-  stores = rw (capacity .is, moved-link (B .num) n (capacity .words .within .low) ren-fs, stores-of (g (C .num)) (f (C .num)) gC)
+  stores : map (movedStore (linkNode st (linkTo fs)) n) (store (linkTo fs) (Detach (B .key)) ∷ removalStores f C y old) ≡ store (linkTo fs) (Detach (B .key)) ∷ removalStores g C y W
+  stores = rw (top .is, moved-link (B .num) n (top .words .within .low) ren-fs, stores-of (g (C .num)) (f (C .num)) gC)
 
   told : Told G (plug fs (published d gs n))
   told =
@@ -229,7 +228,7 @@ module _ (st : State) (G : Tree) (d : Double) (gs : List Frame) (h : At st (d .w
       told-delete G (erase f T) (B .key) T (plug fs (published d gs n)) deletes (good .proper .ordered) (erase-find f T)
       (sameBut-lift fs (into-top fs L B l (plug gs (at L C nil y)) ordered) (publish-find L B C n l y gs order along))
 
-  phase : Phase (after .pool) (after .register .root) G (plug fs (published d gs n)) (store (linkTo fs) (Detach (B .key)) ∷ lostStores g C y W)
+  phase : Phase (after .pool) (after .register .root) G (plug fs (published d gs n)) (store (linkTo fs) (Detach (B .key)) ∷ removalStores g C y W)
   phase =
       let root : awaiting .register .root ≡ stored .register .root = write-root (linked .register) _ _ ∙ held-root (stored .register) _ in
       let site : At awaiting fs (published d gs n) = rw root (in-tree .site) in
@@ -244,7 +243,7 @@ module _ (st : State) (G : Tree) (d : Double) (gs : List Frame) (h : At st (d .w
       }
 
   pub publish-0-next : Next st G T (publishStore st (linkTo fs) (C .num)) (store (linkTo fs) (Publish (C .num)))
-      (map (movedStore (linkNode st (linkTo fs)) n) (store (linkTo fs) (Detach (B .key)) ∷ lostStores f C y old))
+      (map (movedStore (linkNode st (linkTo fs)) n) (store (linkTo fs) (Detach (B .key)) ∷ removalStores f C y old))
   publish-0-next =
       let q = retire-quiet awaiting (B .num) in
       let a = fields-trans (in-tree .fields) (held-fields (stored .register) _) in
@@ -253,17 +252,17 @@ module _ (st : State) (G : Tree) (d : Double) (gs : List Frame) (h : At st (d .w
         gone = B .num ∷ [];
         shift = by-publish fs gs B C n l y along (ordered-bare f _ T (good .proper .ordered)) (good .once) (fresh .new);
         phase = phase;
-        parts = parts-of st base awaiting _ (linkTo fs) n (n ∷ []) (B .num ∷ []) (filled (C .key) (C .val) L _ _ (colourWordOf st (B .num))) (colours-refl _)
+        parts = parts-of st base awaiting _ (linkTo fs) n (n ∷ []) (B .num ∷ []) (filled (C .key) (C .val) L _ _ (colourWordOf st (B .num))) (coloursOnly-refl _)
             (queue-trans (held-queue (stored .register) _) (await-queue (linked .register) _ _)) refl;
         size = q .words .size ∙ in-tree .size;
         held = q .fields .held ∙ write-held (linked .register) _ _ ∙ held-is (stored .register) _ ∙ rw (in-tree .held);
         fields = record {
           readers = q .fields .readers ∙ write-readers (linked .register) _ _ ∙ a .readers;
           awaited = q .fields .awaited ∙ write-awaited (linked .register) _ _ ∙ slots-same (st .register) (linked .register) (a .readers);
-          write = q .fields .write ∙ write-write (linked .register) _ _ ∙ rw (capacity .is, a .write);
+          write = q .fields .write ∙ write-write (linked .register) _ _ ∙ rw (top .is, a .write);
         };
       }
 
   pub publish-0-finds : stepFinds st (linkTo fs) (Publish (C .num)) ≡ true
   unfolding stepFinds
-  publish-0-finds = rw (capacity .is, is-node (B .num) (capacity .words .within .low), not-empty st T fresh)
+  publish-0-finds = rw (top .is, is-node (B .num) (top .words .within .low), not-empty st T fresh)

@@ -35,11 +35,11 @@ use Rattle.heap.specs.Fixups.{formOf}
 use Rattle.heap.specs.Moves.{At, Once, new-apart, one-swap}
 use Rattle.heap.specs.Places.{Diag, diagTop, diagTree, withInner, diagLow, diagUp, Zig, zigTop, zigTree, zigLowC, zigUp}
 use Rattle.heap.specs.Lowers.{far-down, diag-count}
-use Rattle.heap.specs.Raises.{Raised, Ended, diag-raise-is, diag-forInsert, diag-blackSibling, diag-pass-none, diag-pass-some, diag-raise-finds, pass-finds, blackSibling-finds}
+use Rattle.heap.specs.Raises.{Raised, Ended, diag-raise-is, diag-forInsert, diag-blackSibling, diag-redSibling-none, diag-redSibling-some, diag-raise-finds, redSibling-finds, blackSibling-finds}
 use Rattle.heap.specs.ZigRaises.{zig-raise-is, zig-forInsert, zig-blackSibling, zig-raise-finds}
-use Rattle.heap.specs.ColourWork.{colours-paint, colours-trans, end-diag, end-zig}
+use Rattle.heap.specs.ColourWork.{coloursOnly-paint, coloursOnly-trans, end-diag, end-zig}
 use Rattle.heap.specs.Parts.{Parts, unchanged, same-queue, parts-of}
-use Rattle.heap.specs.Phase.{Follow, forInsert, onBlackSibling, onRedSibling, purposeOf, lowOf, followStores, DiagNeeds, diagGoal, zigPurpose, zigLow, zigGoal}
+use Rattle.heap.specs.Phase.{DiagFor, forInsert, onBlackSibling, onRedSibling, purposeOf, lowOf, followStores, DiagNeeds, diagGoal, zigPurpose, zigLow, zigGoal}
 use Rattle.heap.specs.Phase.{Lined, Copied, DiagPlan, ZigPlan, zigStore, Phase, at-rest, diag-0, zig-0}
 use Rattle.heap.specs.Shift.{by-diag-raise, by-zig-raise, Next, once-turnover, once-two}
 
@@ -107,7 +107,7 @@ module _ (st : State) (G : Tree) (n : ℕ) where
     raised-parts purpose =
         let i = end-diag purpose (risenBy purpose) s (B .num) in
         parts-of st st (endDiag purpose (risenBy purpose) s (B .num)) _ (linkTo fs) (B .num) [] (C .num ∷ []) unchanged
-        (colours-trans (colours-paint (setLink st (linkTo fs) (B .num) .pool) (B .num) (risenColour purpose st (C .num))) (i .tint)) (same-queue (i .register)) (raise-is purpose)
+        (coloursOnly-trans (coloursOnly-paint (setLink st (linkTo fs) (B .num) .pool) (B .num) (risenColour purpose st (C .num))) (i .only)) (same-queue (i .register)) (raise-is purpose)
 
     raised-next : (purpose : Purpose) (l : List Store) → Raised st (raisedBy purpose .after) fs (diagUp d n)
         → Phase (raisedBy purpose .after .pool) (raisedBy purpose .after .register .root) G (plug fs (diagUp d n)) l
@@ -144,7 +144,7 @@ module _ (st : State) (G : Tree) (n : ℕ) where
     under : (b : Bool) → f n ≡ red → nephewOf (other s) (erase f x) ≡ nephew b → Under (raisedBy RedSibling .after)
     under b en l =
         let after = raisedBy RedSibling .after in
-        let i = diag-pass-some st d n (h .site) (h .lined .once) (h .new) b l in
+        let i = diag-redSibling-some st d n (h .site) (h .lined .once) (h .new) b l in
         let e : plug underWay (at s (copy C n) x r) ≡ plug fs (diagUp d n) = ap (plug fs) (at-other s B o (at s (copy C n) x r)) in
         let g = colours (after .pool) in
         let cb = diag-count d (B .num) in
@@ -167,19 +167,19 @@ module _ (st : State) (G : Tree) (n : ℕ) where
         → Phase (raisedBy RedSibling .after .pool) (raisedBy RedSibling .after .register .root) G (plug underWay (at s (copy C n) x r)) l
         → Next st G (plug fs (diagLow d n)) (raisedBy RedSibling) (store (linkTo fs) (DiagRaise s RedSibling)) l
     made-next b e i l phase =
-        raised-next RedSibling l (diag-pass-some st d n (h .site) (h .lined .once) (h .new) b e .raised)
+        raised-next RedSibling l (diag-redSibling-some st d n (h .site) (h .lined .once) (h .new) b e .raised)
         (subst (λ T. Phase (raisedBy RedSibling .after .pool) (raisedBy RedSibling .after .register .root) G T l) (i .same) phase)
 
-  abbrev PassNext : Bool → Diag → Type 0
-  PassNext b d = Before d → f n ≡ red → Proper G → nephewOf (other (d .side)) (erase f (d .inner)) ≡ nephew b → G ≡ diagGoal f d (onRedSibling (nephew b))
+  abbrev CopyNext : Bool → Diag → Type 0
+  CopyNext b d = Before d → f n ≡ red → Proper G → nephewOf (other (d .side)) (erase f (d .inner)) ≡ nephew b → G ≡ diagGoal f d (onRedSibling (nephew b))
       → Next st G (plug (d .way) (diagLow d n)) (diagRaise st (linkTo (d .way)) (d .side) RedSibling) (store (linkTo (d .way)) (DiagRaise (d .side) RedSibling))
       (turnStores (formOf b) (linkAt (other (d .side)) (d .B .num)) (d .side) BlackSibling)
 
   module _ (d : Diag) where
     open Diag d using (way as fs, side as s, B, C, outer as o, inner as x, far as r)
 
-    pass-diag : (D : Node) (u v : Linked) → PassNext true (withInner d (at s D u v))
-    pass-diag D u v h en good l goal =
+    copy-diag : (D : Node) (u v : Linked) → CopyNext true (withInner d (at s D u v))
+    copy-diag D u v h en good l goal =
         let e = withInner d (at s D u v) in
         let i = under e h true en l in
         let after = diagRaise st (linkTo fs) s RedSibling .after in
@@ -190,8 +190,8 @@ module _ (st : State) (G : Tree) (n : ℕ) where
         let goal′ : G ≡ diagGoal g place onBlackSibling = goal ∙ sym (rw (i .way, i .copy-red, i .sub, i .lack) (plug-other s black (B .key) (B .val) (erase f o) (eraseWay f fs) _)) in
         made-next e h true l i _ (diag-0 onBlackSibling place (i .site) (record { lined = i .lined; proper = good; needs = rw sub-u (red-there (erase f u) t); goal = goal′ }))
 
-    pass-zig : (A D : Node) (a u v : Linked) → PassNext false (withInner d (at s A a (at s D u v)))
-    pass-zig A D a u v h en good l goal =
+    copy-zig : (A D : Node) (a u v : Linked) → CopyNext false (withInner d (at s A a (at s D u v)))
+    copy-zig A D a u v h en good l goal =
         let e = withInner d (at s A a (at s D u v)) in
         let i = under e h false en l in
         let g = colours (diagRaise st (linkTo fs) s RedSibling .after .pool) in
@@ -199,36 +199,36 @@ module _ (st : State) (G : Tree) (n : ℕ) where
         let goal′ : G ≡ zigGoal g place false = goal ∙ sym (rw (i .way, i .copy-red, i .sub, i .lack) (plug-other s black (B .key) (B .val) (erase f o) (eraseWay f fs) _)) in
         made-next e h false l i _ (zig-0 false place (i .site) (record { lined = i .lined; proper = good; goal = goal′ }))
 
-    pass-next : (b : Bool) → NotLeaf (erase f x) → PassNext b d
-    pass-next true there = split (λ t. PassNext true (withInner d t)) s pass-diag f x there
-    pass-next false there = split (λ t. PassNext false (withInner d t)) s (λ A a y h en good l goal.
+    copy-next : (b : Bool) → NotLeaf (erase f x) → CopyNext b d
+    copy-next true there = split (λ t. CopyNext true (withInner d t)) s copy-diag f x there
+    copy-next false there = split (λ t. CopyNext false (withInner d t)) s (λ A a y h en good l goal.
         (let t : colourOf (erase f y) ≡ red = rw (erase-far f s A a y) at (nephew-inner (other s) (erase f (at s A a y)) l .1) in
-        split (λ y. PassNext false (withInner d (at s A a y))) s (λ D u v. pass-zig A D a u v) f y (red-there (erase f y) t) h en good l goal)) f x there
+        split (λ y. CopyNext false (withInner d (at s A a y))) s (λ D u v. copy-zig A D a u v) f y (red-there (erase f y) t) h en good l goal)) f x there
 
 module _ (st : State) (G : Tree) (d : Diag) (n : ℕ) (h : At st (d .way) (diagLow d n)) where
   open Diag d using (way as fs, side as s, B)
 
-  pub diag-1-next : (w : Follow) → DiagPlan (colours (st .pool)) G w d → Copied (colours (st .pool)) (diagTree d) n (lowOf w)
+  pub diag-1-next : (w : DiagFor) → DiagPlan (colours (st .pool)) G w d → Copied (colours (st .pool)) (diagTree d) n (lowOf w)
       → Next st G (plug fs (diagLow d n)) (diagRaise st (linkTo fs) s (purposeOf w)) (store (linkTo fs) (DiagRaise s (purposeOf w))) (followStores w s (B .num))
   diag-1-next w plan copied = go w plan copied
     where
       before : Before st G n d
       before = record { site = h; lined = plan .lined; new = copied .new }
 
-      go : (w : Follow) → DiagPlan (colours (st .pool)) G w d → Copied (colours (st .pool)) (diagTree d) n (lowOf w)
+      go : (w : DiagFor) → DiagPlan (colours (st .pool)) G w d → Copied (colours (st .pool)) (diagTree d) n (lowOf w)
           → Next st G (plug fs (diagLow d n)) (diagRaise st (linkTo fs) s (purposeOf w)) (store (linkTo fs) (DiagRaise s (purposeOf w))) (followStores w s (B .num))
       go forInsert i c = rest-next st G n d before ForInsert _ (diag-forInsert st d n h (i .lined .once) (c .new) (c .colour)) (i .goal) (i .proper)
       go onBlackSibling i c = rest-next st G n d before BlackSibling _ (diag-blackSibling st d n h (i .lined .once) (c .new) (c .colour)) (i .goal) (i .proper)
-      go (onRedSibling noNephew) i c = rest-next st G n d before RedSibling _ (diag-pass-none st d n h (i .lined .once) (c .new) (c .colour) (i .needs .1)) (i .goal) (i .proper)
-      go (onRedSibling (nephew b)) i c = pass-next st G n d b (i .needs .0) before (c .colour) (i .proper) (i .needs .1) (i .goal)
+      go (onRedSibling noNephew) i c = rest-next st G n d before RedSibling _ (diag-redSibling-none st d n h (i .lined .once) (c .new) (c .colour) (i .needs .1)) (i .goal) (i .proper)
+      go (onRedSibling (nephew b)) i c = copy-next st G n d b (i .needs .0) before (c .colour) (i .proper) (i .needs .1) (i .goal)
 
-  pub diag-1-finds : (w : Follow) → DiagPlan (colours (st .pool)) G w d → occ n (nodes (diagTree d)) ≡ 0 → stepFinds st (linkTo fs) (DiagRaise s (purposeOf w)) ≡ true
+  pub diag-1-finds : (w : DiagFor) → DiagPlan (colours (st .pool)) G w d → occ n (nodes (diagTree d)) ≡ 0 → stepFinds st (linkTo fs) (DiagRaise s (purposeOf w)) ≡ true
   diag-1-finds w plan new = diag-raise-finds st d n h (plan .lined .once) new (purposeOf w) (go w (plan .needs))
     where
-      go : (w : Follow) → DiagNeeds (colours (st .pool)) d w → endDiagFinds (purposeOf w) st s (B .num) ≡ true
+      go : (w : DiagFor) → DiagNeeds (colours (st .pool)) d w → endDiagFinds (purposeOf w) st s (B .num) ≡ true
       go forInsert i = refl
       go onBlackSibling i = blackSibling-finds st d n h (plan .lined .once) new i
-      go (onRedSibling l) i = pass-finds st d n h (plan .lined .once) new (i .0)
+      go (onRedSibling l) i = redSibling-finds st d n h (plan .lined .once) new (i .0)
 
 -- the last store of a zig
 module _ (st : State) (G : Tree) (d : Zig) (m n : ℕ) (h : At st (d .way) (zigLowC d m n)) (w : Bool) (plan : ZigPlan (colours (st .pool)) G w d)
@@ -251,7 +251,7 @@ module _ (st : State) (G : Tree) (d : Zig) (m n : ℕ) (h : At st (d .way) (zigL
         phase = to-rest G e (plan .goal) (plan .proper) (once-two gone m n (zigTree d) (plug fs (zigUp d m n))
             (turnover-plug fs gone (m ∷ n ∷ []) (zigTop d) (zigUp d m n) (zig-turnover s A B C m n a x y r)) once apart (copyA .new) (copyC .new));
         parts = parts-of st st (endZig (zigPurpose w) risen) _ (linkTo fs) (B .num) [] gone unchanged
-            (colours-trans (colours-paint (setLink st (linkTo fs) (B .num) .pool) (B .num) (risenColour (zigPurpose w) st (C .num))) (end-zig (zigPurpose w) risen .tint))
+            (coloursOnly-trans (coloursOnly-paint (setLink st (linkTo fs) (B .num) .pool) (B .num) (risenColour (zigPurpose w) st (C .num))) (end-zig (zigPurpose w) risen .only))
             (same-queue (end-zig (zigPurpose w) risen .register)) is;
         size = e .raised .size;
         held = e .raised .held;

@@ -1,4 +1,4 @@
--- The last store of a diag, for each rule: the tree at its place, and the coloured tree afterwards is the sequential rotation's.
+-- The last store of a diag, for each purpose: the tree at its place, and the coloured tree afterwards is the sequential rotation's.
 use Prim.Native.Nat.{ℕ, _+_, _<_, _≤_}
 use mathlib.Core.Path.{_≡_, refl, sym, ap, _∙_}
 use mathlib.Core.Bool.{Bool, true}
@@ -224,9 +224,9 @@ module _ (st : State) (d : Diag) (n : ℕ) (h : At st (d .way) (diagLow d n)) (o
   copy-top c = top-of (up c) (hole (other s) B o ∷ fs) s (copy C n) x r (far-down (up c) fs s B o low (diag-risen c .site))
 
   -- the new sibling without a red child turns red, and the copy black
-  pub diag-pass-none : f n ≡ red → nephewOf (other s) (erase f x) ≡ noNephew → Ended st (diagRaise st (linkTo fs) s RedSibling .after) fs (diagUp d n)
+  pub diag-redSibling-none : f n ≡ red → nephewOf (other s) (erase f x) ≡ noNephew → Ended st (diagRaise st (linkTo fs) s RedSibling .after) fs (diagUp d n)
       (Seq.plug (eraseWay f fs) (mk s black (B .key) (B .val) (erase f o) (mk s black (C .key) (C .val) (Seq.paint red (erase f x)) (erase f r))))
-  diag-pass-none e none =
+  diag-redSibling-none e none =
       let r0 = up blackColour in
       let g1 = colours (r0 .pool) in
       let a = apart in
@@ -258,13 +258,13 @@ module _ (st : State) (d : Diag) (n : ℕ) (h : At st (d .way) (diagLow d n)) (o
       } (retire-quiet mid (C .num)))
 
   -- a rotation under the copy is still to come
-  pub record Passed (after : State) : Type 0 where
+  pub record CopyLeft (after : State) : Type 0 where
     pub raised : Raised st after fs (diagUp d n)
     pub risen-black : colours (after .pool) (B .num) ≡ black
     pub elsewhere : (i : ℕ) → one (B .num) i ≡ 0 → colours (after .pool) i ≡ f i
 
-  pub diag-pass-some : (b : Bool) → nephewOf (other s) (erase f x) ≡ nephew b → Passed (diagRaise st (linkTo fs) s RedSibling .after)
-  diag-pass-some b some =
+  pub diag-redSibling-some : (b : Bool) → nephewOf (other s) (erase f x) ≡ nephew b → CopyLeft (diagRaise st (linkTo fs) s RedSibling .after)
+  diag-redSibling-some b some =
       let r0 = up blackColour in
       let a = apart in
       let t = copy-top blackColour in
@@ -281,8 +281,8 @@ module _ (st : State) (d : Diag) (n : ℕ) (h : At st (d .way) (diagLow d n)) (o
   unfolding stepFinds
   diag-raise-finds purpose e = rw (now-at .topC .is, now-at .is-B, is-node (B .num) (now-at .topB .words .within .low), e)
 
-  pub pass-finds : NotLeaf (erase f x) → endDiagFinds RedSibling st s (B .num) ≡ true
-  pass-finds there =
+  pub redSibling-finds : NotLeaf (erase f x) → endDiagFinds RedSibling st s (B .num) ≡ true
+  redSibling-finds there =
       let c = below-is st (other s) s (B .num) (copy C n) x r (now-at .topB .far) in
       let tc = top-of st (hole (other s) B o ∷ diagWayB d) s (copy C n) x r (far-down st (diagWayB d) s B o low (now-at .placeB)) in
       let k = there-tree f (st .pool) (child (st .pool) s n) x (tc .near) there in

@@ -1,4 +1,4 @@
--- The colour work of a delete's store, `paintLoss`, gives the phase after it.
+-- The colour work of a delete's store, `paintDeleteFixup`, gives the phase after it.
 use Prim.Native.Nat.{ℕ, zero, suc, _≤_}
 use mathlib.Core.Path.{_≡_, refl, sym, ap, _∙_}
 use mathlib.Core.Bool.{cond}
@@ -17,21 +17,21 @@ use Rattle.spec.specs.Register.{State, state, nodeAt, linkNode}
 use Rattle.spec.specs.Plan.{fixupResult, endingStores, paintDeleteLevels, paintEnd, paintDeleteFixup}
 use Rattle.sequential.specs.Tree as Seq
 use Rattle.sequential.specs.Tree.{Colour, red, black, Tree, mk, colourOf}
-use Rattle.sequential.specs.Delete.{fixup}
+use Rattle.sequential.specs.Delete.{rbDeleteFixup}
 use Rattle.tree.specs.Sorted.{colourOf-mk}
 use Rattle.tree.specs.Changes.{Proper}
 use Rattle.tree.specs.Linked.{Linked}
 use Rattle.tree.specs.Zipper.{Frame, hole, plug}
 use Rattle.tree.specs.Erase.{erase, eraseWay, erase-plug}
-use Rattle.tree.specs.Recolour.{DeleteFixupTo}
+use Rattle.tree.specs.Recolour.{DeleteColours}
 use Rattle.tree.specs.DeleteFixup as DeleteFixup
-use Rattle.tree.specs.DeleteFixup.{DeleteFixupEnd, fixup-deleteFixup}
+use Rattle.tree.specs.DeleteFixup.{DeleteFixupEnd, deleteFixup-ends}
 use Rattle.heap.specs.Rep.{Alike, upToLinks}
 use Rattle.heap.specs.Sites.{linkTo, links, Site, site-of, of-site, site-alike}
 use Rattle.heap.specs.Colours.{colours}
-use Rattle.heap.specs.Fixups.{framesUp, tip, deleteFixupEnding, Stop, stop-root, stop-red, stop-turn, stop-pass}
+use Rattle.heap.specs.Fixups.{framesUp, tip, deleteFixupEnding, Stop, stop-root, stop-red, stop-turn, stop-redSibling}
 use Rattle.heap.specs.DeleteFixupRun.{deleteFixupOf}
-use Rattle.heap.specs.Paints.{sunkTree, sunk-plug, over-frames, sunk-way, sunk-tree}
+use Rattle.heap.specs.Paints.{treeUp, treeUp-plug, over-frames, framesUp-way, treeUp-erased}
 use Rattle.heap.specs.Moves.{At}
 use Rattle.heap.specs.Phase.{Lined, Phase, at-rest}
 use Rattle.heap.specs.RaiseSteps.{root-site}
@@ -86,12 +86,12 @@ stop-way f g (hole s N y ∷ U) (hole z M x ∷ W) h (stop-turn {b = b} n d l) =
     let e : erase g x ≡ erase f y = ap headTree h in
     let i : z ≡ s = ap headSide h in
     stop-turn {s = z} {y = x} {b = b} (rw e n) (rw e d) (rw (e, i) l)
-stop-way f g (hole s N y ∷ U) [] h (stop-pass b a n d l) = one-none (sym (ap count h))
-stop-way f g (hole s N y ∷ U) (hole z M x ∷ W) h (stop-pass {o = o} b a n d l) =
+stop-way f g (hole s N y ∷ U) [] h (stop-redSibling b a n d l) = one-none (sym (ap count h))
+stop-way f g (hole s N y ∷ U) (hole z M x ∷ W) h (stop-redSibling {o = o} b a n d l) =
     let e : erase g x ≡ erase f y = ap headTree h in
     let i : z ≡ s = ap headSide h in
     let j : g (M .num) ≡ f (N .num) = ap headColour h in
-    stop-pass {s = z} {y = x} {o = o} (j ∙ b) (rw e a) (rw (e, i) n) (rw (e, i) d) (rw (e, i) l)
+    stop-redSibling {s = z} {y = x} {o = o} (j ∙ b) (rw e a) (rw (e, i) n) (rw (e, i) d) (rw (e, i) l)
 
 end-pool : (q : List ℕ) (root : ℕ) (G : Tree) (good : Proper G) (e : Ending) (st : State) (n : ℕ) → st .pool ≡ q → paintEnd e st n ≡ endPool q root G good e n
 end-pool q root G good Balanced st n h = h
@@ -116,9 +116,9 @@ module _ (st : State) (G : Tree) (gs : List Frame) (t : Linked) (x : ℕ) (path 
   abbrev e : Ending
   e = deleteFixupEnding (deleteFixupOf f c gs .end) (tip f c m gs) U
 
-  -- a black node is lost: the fixup's levels, then its end
-  pub black-core : Stop f (tip f c m gs) U (deleteFixupOf f c gs .end) → G ≡ fixup (eraseWay f gs) (erase f t) → Alike upToLinks (st .pool) (paintDeleteLevels m path (st .pool))
-      → DeleteFixupTo m f (colours (paintDeleteLevels m path (st .pool))) gs → erase (colours (paintDeleteLevels m path (st .pool))) t ≡ erase f t
+  -- a black node was taken out: the fix-up's levels, then its end
+  pub black-core : Stop f (tip f c m gs) U (deleteFixupOf f c gs .end) → G ≡ rbDeleteFixup (eraseWay f gs) (erase f t) → Alike upToLinks (st .pool) (paintDeleteLevels m path (st .pool))
+      → DeleteColours m f (colours (paintDeleteLevels m path (st .pool))) gs → erase (colours (paintDeleteLevels m path (st .pool))) t ≡ erase f t
       → cond (eqb m 0) x (linkNode st (getD path m Root)) ≡ linkNode st (linkTo U)
       → Phase (paintDeleteFixup st (fixupResult m e) x path .pool) (paintDeleteFixup st (fixupResult m e) x path .register .root) G (plug gs t) (endingStores e)
   unfolding paintDeleteFixup
@@ -126,11 +126,11 @@ module _ (st : State) (G : Tree) (gs : List Frame) (t : Linked) (x : ℕ) (path 
       let root = st .register .root in
       let q = paintDeleteLevels m path (st .pool) in
       let g = colours q in
-      let u = sunkTree m gs t in
-      let same : plug U u ≡ plug gs t = sunk-plug m gs t in
-      let way = sunk-way m f g gs to in
-      let sub : erase g u ≡ DeleteFixup.reddened m (eraseWay f gs) (erase f t) = sunk-tree m f g gs t to ∙ ap (DeleteFixup.reddened m (eraseWay f gs)) kept in
-      let is : G ≡ DeleteFixup.sunk (deleteFixupOf f c gs .end) (eraseWay g U) (erase g u) = goal ∙ fixup-deleteFixup (eraseWay f gs) (erase f t) ∙ rw (over-frames m f gs, sym way, sym sub) in
+      let u = treeUp m gs t in
+      let same : plug U u ≡ plug gs t = treeUp-plug m gs t in
+      let way = framesUp-way m f g gs to in
+      let sub : erase g u ≡ DeleteFixup.reddened m (eraseWay f gs) (erase f t) = treeUp-erased m f g gs t to ∙ ap (DeleteFixup.reddened m (eraseWay f gs)) kept in
+      let is : G ≡ DeleteFixup.deleteEnded (deleteFixupOf f c gs .end) (eraseWay g U) (erase g u) = goal ∙ deleteFixup-ends (eraseWay f gs) (erase f t) ∙ rw (over-frames m f gs, sym way, sym sub) in
       let site : Site q root U u = site-of q root U u (rw same (of-site q root gs t (site-alike alike root gs t h))) in
       let tipped : colourOf (erase g u) ≡ tip f c m gs = ap colourOf sub ∙ tip-is m f gs (erase f t) in
       let pool = end-pool q root G good e (state q (st .register)) (cond (eqb m 0) x (linkNode st (getD path m Root))) refl in

@@ -1,4 +1,4 @@
--- The climb after a loss, read before the store and painted after it: for the stores that change no colour (unlink, detach).
+-- The fix-up after a removal, read before the store and painted after it: for the stores that change no colour (unlink, detach).
 use Prim.Native.Nat.{ℕ, zero, suc, _≤_}
 use mathlib.Core.Path.{_≡_, refl, sym, _∙_}
 use mathlib.Core.Bool.{false, cond}
@@ -19,17 +19,17 @@ use Rattle.spec.specs.Pool.{paint, child, isRed, redColour, blackColour}
 use Rattle.spec.specs.Register.{State, state, linkNode}
 use Rattle.spec.specs.Plan.{fixupResult, endingStores, missing, fixupAfterRemoval, paintDeleteLevels, paintEnd, paintDeleteFixup}
 use Rattle.sequential.specs.Tree.{Colour, red, black, Tree, colourOf}
-use Rattle.sequential.specs.Delete.{lose}
+use Rattle.sequential.specs.Delete.{afterRemoval}
 use Rattle.tree.specs.Changes.{Proper}
-use Rattle.tree.specs.Linked.{Linked, nil, cell}
+use Rattle.tree.specs.Linked.{Linked}
 use Rattle.tree.specs.Zipper.{Frame, plug}
 use Rattle.tree.specs.Erase.{erase, eraseWay}
 use Rattle.tree.specs.Occurs.{occ-plug}
-use Rattle.tree.specs.DeleteFixup.{DeleteFixups}
+use Rattle.tree.specs.DeleteFixup.{DeleteFixupFinds}
 use Rattle.heap.specs.Rep.{Rep, Alike, alike-refl, alike-trans, upToLinks}
 use Rattle.heap.specs.Sites.{linkTo, links}
 use Rattle.heap.specs.Colours.{redly, colours, red-is, paint-alike, erase-occ}
-use Rattle.heap.specs.Fixups.{Sides, way-sides, framesUp, numOf}
+use Rattle.heap.specs.Fixups.{Sides, way-sides, framesUp, rep-num}
 use Rattle.heap.specs.DeleteFixupRun.{deleteFixupOf, deleteFixup-run, stop-there}
 use Rattle.heap.specs.Paints.{paint-deleteFixup}
 use Rattle.heap.specs.Moves.{At}
@@ -41,7 +41,7 @@ pub removal-red : (p : List ℕ) (n x : ℕ) (path : List Link) → colours p n 
 unfolding fixupAfterRemoval
 removal-red p n x path e = rw (red-is p n, e)
 
-pub removal-black : (p : List ℕ) (n x : ℕ) (c : Colour) (fs : List Frame) → colours p n ≡ black → isRed p x ≡ redly c → Sides p fs → DeleteFixups c (eraseWay (colours p) fs)
+pub removal-black : (p : List ℕ) (n x : ℕ) (c : Colour) (fs : List Frame) → colours p n ≡ black → isRed p x ≡ redly c → Sides p fs → DeleteFixupFinds c (eraseWay (colours p) fs)
     → fixupAfterRemoval p n x (links fs) ≡ fixupResult (deleteFixupOf (colours p) c fs .levels) (removalEnding black (colours p) c fs)
 unfolding fixupAfterRemoval
 removal-black p n x c fs e d w s = rw (red-is p n, e) (deleteFixup-run p 0 x c fs d w s .is ∙ rw zero-add)
@@ -70,10 +70,6 @@ pub removal-register : (st : State) (c : Fixup) (x : ℕ) (path : List Link) →
 unfolding paintDeleteFixup
 removal-register st c x path = refl
 
-pub rep-num : (p : List ℕ) (a : ℕ) (t : Linked) → Rep p a t → a ≡ numOf t
-rep-num p a nil h = h
-rep-num p a (cell N l r) h = h .0 .is
-
 pub end-is : (st : State) (fs : List Frame) (t : Linked) (x m : ℕ) → At st fs t → Rep (st .pool) x t → m ≤ length fs
     → cond (eqb m 0) x (linkNode st (getD (links fs) m Root)) ≡ linkNode st (linkTo (framesUp m fs))
 end-is st fs t x m h r l =
@@ -90,7 +86,7 @@ module _ (st st1 : State) (G : Tree) (gs : List Frame) (t : Linked) (x n : ℕ) 
   abbrev lost : State
   lost = paintDeleteFixup st1 (fixupAfterRemoval (st .pool) n x (links gs)) x (links gs)
 
-  black-phase : f n ≡ black → DeleteFixups (colourOf (erase f t)) (eraseWay f gs) → G ≡ lose black (eraseWay f gs) (erase f t)
+  black-phase : f n ≡ black → DeleteFixupFinds (colourOf (erase f t)) (eraseWay f gs) → G ≡ afterRemoval black (eraseWay f gs) (erase f t)
       → Phase (lost .pool) (lost .register .root) G (plug gs t) (endingStores (removalEnding black f (colourOf (erase f t)) gs))
   black-phase e s goal =
       let run = deleteFixup-run (st .pool) 0 x (colourOf (erase f t)) gs is-red sides s in
@@ -100,17 +96,17 @@ module _ (st st1 : State) (G : Tree) (gs : List Frame) (t : Linked) (x n : ℕ) 
       let p1 = st1 .pool in
       let m = deleteFixupOf (colours p1) (colourOf (erase (colours p1) t)) gs .levels in
       let painted = paint-deleteFixup m p1 gs room (way-sides p1 (st1 .register .root) gs (h .way)) (once-way gs t (lined .once)) in
-      let kept = erase-occ (colours p1) (colours _) t (λ i j. painted .tinted .outside i (let a = lined .once i in let b = occ-plug gs t i in omega arith)) in
+      let kept = erase-occ (colours p1) (colours _) t (λ i j. painted .on-way .outside i (let a = lined .once i in let b = occ-plug gs t i in omega arith)) in
       rw (removal-black (st .pool) n x (colourOf (erase f t)) gs e is-red sides s, sym same)
-      (black-core st1 G gs t x (links gs) h lined good stop goal1 (painted .tinted .links-kept) (painted .to) kept (end-is st1 gs t x m h rep room))
+      (black-core st1 G gs t x (links gs) h lined good stop goal1 (painted .on-way .links-kept) (painted .to) kept (end-is st1 gs t x m h rep room))
 
-  pub removal-phase : (c : Colour) → f n ≡ c → (f n ≡ black → DeleteFixups (colourOf (erase f t)) (eraseWay f gs)) → G ≡ lose c (eraseWay f gs) (erase f t)
+  pub removal-phase : (c : Colour) → f n ≡ c → (f n ≡ black → DeleteFixupFinds (colourOf (erase f t)) (eraseWay f gs)) → G ≡ afterRemoval c (eraseWay f gs) (erase f t)
       → Phase (lost .pool) (lost .register .root) G (plug gs t) (endingStores (removalEnding c f (colourOf (erase f t)) gs))
   removal-phase black e s goal = black-phase e (s e) goal
   removal-phase red e s goal = rw (removal-red (st .pool) n x (links gs) e) (red-core st1 G gs t x (links gs) h lined good (rw (sym same) at goal))
 
 -- no node is missing
-pub removal-there : (p : List ℕ) (n x : ℕ) (c : Colour) (fs : List Frame) → isRed p x ≡ redly c → Sides p fs → (colours p n ≡ black → DeleteFixups c (eraseWay (colours p) fs))
+pub removal-there : (p : List ℕ) (n x : ℕ) (c : Colour) (fs : List Frame) → isRed p x ≡ redly c → Sides p fs → (colours p n ≡ black → DeleteFixupFinds c (eraseWay (colours p) fs))
     → missing (fixupAfterRemoval p n x (links fs) .ending) ≡ false
 removal-there p n x c fs d w s = go (colours p n) refl
   where

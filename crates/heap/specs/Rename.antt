@@ -1,5 +1,5 @@
 -- The one renaming of planned stores: when a publish puts n in B's place, the stores that hang on B's right hang on n. Renamed stores of a
--- climb's ending are the stores of that ending on the renamed way.
+-- fix-up's ending are the stores of that ending on the renamed way.
 use Prim.Native.Nat.{ℕ, zero, suc, _+_, _≤_}
 use mathlib.Core.Path.{_≡_, refl, _∙_}
 use mathlib.Core.Logic.{_≢_}
@@ -19,7 +19,7 @@ use Rattle.sequential.specs.Tree.{Colour, red, black}
 use Rattle.tree.specs.Linked.{Node, Linked, nil, cell, nodes}
 use Rattle.tree.specs.Zipper.{Frame, hole, plug, plug-append}
 use Rattle.tree.specs.Erase.{eraseWay}
-use Rattle.tree.specs.DeleteFixup.{noNephew, nephew, DeleteFixupEnd, darken, blackSiblingOf, passed}
+use Rattle.tree.specs.DeleteFixup.{noNephew, nephew, DeleteFixupEnd, darken, atBlackSibling, atRedSibling}
 use Rattle.tree.specs.Occurs.{one, one-same, occ, occWay}
 use Rattle.heap.specs.Sites.{linkTo, Site, site-of, of-site}
 use Rattle.heap.specs.Fixups.{framesUp, numOf, deleteFixupEnding, formOf}
@@ -70,24 +70,24 @@ module _ (b n : ℕ) (low : 1 ≤ b) where
   moved-up (suc m) (swapped M N l fs e d o w) = same (framesUp m fs) (up-none m fs w)
   moved-up (suc m) (above s P y a o r) = moved-up m r
 
-  moved-turn : (form : Form) (l : Link) (s : Side) (c : Purpose) → map (movedStore b n) (turnStores form l s c) ≡ turnStores form (movedLink b n l) s c
-  moved-turn Diag l s c = refl
-  moved-turn Zig l s c = refl
+  moved-turn : (form : Form) (l : Link) (s : Side) (purpose : Purpose) → map (movedStore b n) (turnStores form l s purpose) ≡ turnStores form (movedLink b n l) s purpose
+  moved-turn Diag l s purpose = refl
+  moved-turn Zig l s purpose = refl
 
   head-stores : (e : DeleteFixupEnd) (c : Colour) (s : Side) (M N : Node) (y : Linked) {fs gs : List Frame} → occ b (nodes y) ≡ 0 → Renamed fs gs
       → map (movedStore b n) (endingStores (deleteFixupEnding e c (hole s M y ∷ fs))) ≡ endingStores (deleteFixupEnding e c (hole s N y ∷ gs))
   head-stores darken red s M N y o r = refl
   head-stores darken black s M N y o r = refl
-  head-stores (blackSiblingOf q) c s M N y {fs} o r = moved-turn (formOf q) (linkTo fs) _ _ ∙ rw (moved-link r)
-  head-stores (passed noNephew) c s M N y o r = rw (moved-link r)
-  head-stores (passed (nephew q)) c s M N y o r = rw (moved-link r, moved-turn (formOf q) (linkAt s (numOf y)) _ _, moved-other s (numOf y) (num-apart y o))
+  head-stores (atBlackSibling q) c s M N y {fs} o r = moved-turn (formOf q) (linkTo fs) _ _ ∙ rw (moved-link r)
+  head-stores (atRedSibling noNephew) c s M N y o r = rw (moved-link r)
+  head-stores (atRedSibling (nephew q)) c s M N y o r = rw (moved-link r, moved-turn (formOf q) (linkAt s (numOf y)) _ _, moved-other s (numOf y) (num-apart y o))
 
   pub moved-stores : (e : DeleteFixupEnd) (c : Colour) {fs gs : List Frame} → Renamed fs gs
       → map (movedStore b n) (endingStores (deleteFixupEnding e c fs)) ≡ endingStores (deleteFixupEnding e c gs)
   moved-stores darken red (same [] o) = refl
   moved-stores darken black (same [] o) = refl
-  moved-stores (blackSiblingOf q) c (same [] o) = refl
-  moved-stores (passed q) c (same [] o) = refl
+  moved-stores (atBlackSibling q) c (same [] o) = refl
+  moved-stores (atRedSibling q) c (same [] o) = refl
   moved-stores e c (same (hole s P y ∷ fs) o) = head-stores e c s P P y (omega arith) (same fs (omega arith))
   moved-stores e c (swapped M N l fs a d o w) = head-stores e c R M N l o (same fs w)
   moved-stores e c (above s P y a o r) = head-stores e c s P P y o r

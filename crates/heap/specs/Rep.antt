@@ -10,18 +10,18 @@ use Rattle.datatypes.specs.declared.Side.{Side}
 use Rattle.datatypes.specs.declared.Side.the-variants.{L, R}
 use Rattle.datatypes.specs.Side.{other}
 use Rattle.spec.specs.Numbers.{nodeWords}
-use Rattle.spec.specs.Pool.{word, setWord, child, keyWord, recordWord, rightWord, colourWord, leftWord}
+use Rattle.spec.specs.Pool.{word, setWord, child, keyWord, recordAt, recordWord, rightWord, colourWord, leftWord}
 use Rattle.spec.specs.FreeQueue.{InPool}
 use Rattle.laws.specs.Words.{length-setWord, word-other}
 use Rattle.tree.specs.Linked.{Node, Linked, nil, cell, at, nodes}
-use Rattle.tree.specs.Occurs.{one-same, one-other, occ, occ-append}
+use Rattle.tree.specs.Occurs.{one-same, one-other, occ, occ-append, occ-apart}
 
 -- a is the node N, whose words the pool has
 pub record Words (p : List ℕ) (a : ℕ) (N : Node) : Type 0 where
   pub is : a ≡ N .num
   pub within : InPool p (N .num)
   pub key-is : word p (N .num) keyWord ≡ N .key
-  pub val-is : word p (N .num) recordWord ≡ N .val
+  pub val-is : recordAt p (N .num) ≡ N .val
 
 -- the link value a unfolds to the tree
 abbrev pub Rep : List ℕ → ℕ → Linked → Type 0
@@ -56,10 +56,10 @@ words-agree p q e h w = record {
 pub rep-agree : (p q : List ℕ) → length q ≡ length p → (t : Linked) (a : ℕ) → ((n : ℕ) → 0 < occ n (nodes t) → Agree p q n) → Rep p a t → Rep q a t
 rep-agree p q e nil a h r = r
 rep-agree p q e (cell N l r) a h w =
-    let capacity = h (N .num) (let x = one-same (N .num) in omega arith) in (
-      words-agree p q e capacity (w .0),
-      rw (capacity leftWord (omega arith)) (rep-agree p q e l _ (λ n i. h n (let x = occ-append n (nodes l) (nodes r) in omega arith)) (w .1)),
-      rw (capacity rightWord (omega arith)) (rep-agree p q e r _ (λ n i. h n (let x = occ-append n (nodes l) (nodes r) in omega arith)) (w .2)),
+    let top = h (N .num) (let x = one-same (N .num) in omega arith) in (
+      words-agree p q e top (w .0),
+      rw (top leftWord (omega arith)) (rep-agree p q e l _ (λ n i. h n (let x = occ-append n (nodes l) (nodes r) in omega arith)) (w .1)),
+      rw (top rightWord (omega arith)) (rep-agree p q e r _ (λ n i. h n (let x = occ-append n (nodes l) (nodes r) in omega arith)) (w .2)),
     )
 
 -- q has the same words below the k-th of each node
@@ -86,18 +86,15 @@ rep-alike {p} {q} h t a r = rep-agree p q (h .size) t a (λ n _. h .words n) r
 pub set-elsewhere : (p : List ℕ) (d f v n : ℕ) → f < nodeWords → d ≢ n → Agree p (setWord p d f v) n
 set-elsewhere p d f v n h e g i = word-other p d n f g v h (omega arith) (inl e)
 
-not-there : (d n : ℕ) (xs : List ℕ) → occ d xs ≡ 0 → 0 < occ n xs → d ≢ n
-not-there d n xs z h e = let x : occ d xs ≡ occ n xs = rw e in omega arith
-
 pub rep-elsewhere : (p : List ℕ) (d f v : ℕ) → f < nodeWords → (t : Linked) (a : ℕ) → occ d (nodes t) ≡ 0 → Rep p a t → Rep (setWord p d f v) a t
-rep-elsewhere p d f v h t a o r = rep-agree p (setWord p d f v) (length-setWord p d f v) t a (λ n i. set-elsewhere p d f v n h (not-there d n (nodes t) o i)) r
+rep-elsewhere p d f v h t a o r = rep-agree p (setWord p d f v) (length-setWord p d f v) t a (λ n i. set-elsewhere p d f v n h (occ-apart d n (nodes t) o i)) r
 
 -- A link unfolds to one tree.
 same-node : (p : List ℕ) (a b : ℕ) (N M : Node) → a ≡ b → Words p a N → Words p b M → N ≡ M
 same-node p a b N M e w x =
     let n : N .num ≡ M .num = sym (w .is) ∙ e ∙ x .is in
     let k : N .key ≡ M .key = sym (w .key-is) ∙ ap (λ m. word p m keyWord) n ∙ x .key-is in
-    let v : N .val ≡ M .val = sym (w .val-is) ∙ ap (λ m. word p m recordWord) n ∙ x .val-is in
+    let v : N .val ≡ M .val = sym (w .val-is) ∙ ap (λ m. recordAt p m) n ∙ x .val-is in
     λ i. record { num = n i; key = k i; val = v i }
 
 pub rep-unique : (p : List ℕ) (t u : Linked) (a b : ℕ) → a ≡ b → Rep p a t → Rep p b u → t ≡ u
@@ -125,9 +122,9 @@ small-free p d big hb (cell N l r) a (w, hl, hr) s =
 pub not-below : (p : List ℕ) (a : ℕ) (N : Node) (l r : Linked) → Rep p a (cell N l r) → (occ (N .num) (nodes l) ≡ 0) × (occ (N .num) (nodes r) ≡ 0)
 not-below p a N l r h =
     let i = h .0 .is in
-    let capacity : Rep p (N .num) (cell N l r) = rw i at h in
+    let top : Rep p (N .num) (cell N l r) = rw i at h in
     let len = length-append (nodes l) (nodes r) in
-    (small-free p (N .num) (cell N l r) capacity l (child p L (N .num)) (h .1) (omega arith), small-free p (N .num) (cell N l r) capacity r (child p R (N .num)) (h .2) (omega arith))
+    (small-free p (N .num) (cell N l r) top l (child p L (N .num)) (h .1) (omega arith), small-free p (N .num) (cell N l r) top r (child p R (N .num)) (h .2) (omega arith))
 
 pub not-below-at : (p : List ℕ) (a : ℕ) (s : Side) (N : Node) (x y : Linked) → Rep p a (at s N x y) → (occ (N .num) (nodes x) ≡ 0) × (occ (N .num) (nodes y) ≡ 0)
 not-below-at p a L N x y h = not-below p a N x y h

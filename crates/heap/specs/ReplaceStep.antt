@@ -1,4 +1,4 @@
--- The second store of delete's second form, replace, from phase to phase. Its climb is read on the path through B, whose place C takes: the
+-- The second store of delete's second form, replace, from phase to phase. Its fix-up is read on the path through B, whose place C takes: the
 -- way erased is the same.
 use Prim.Native.Nat.{ℕ, _+_, _<_, _≤_}
 use mathlib.Core.Path.{_≡_, refl, sym, ap, ap₂, _∙_, subst}
@@ -20,39 +20,39 @@ use Rattle.spec.specs.Plan.{fixupResult, endingStores, fixupAfterRemoval, paint
 use Rattle.spec.specs.Turn.{made, painted, colourOf as colourWordOf, oneLess, replaceStore, stepFinds}
 use Rattle.sequential.specs.Tree as Seq
 use Rattle.sequential.specs.Tree.{Colour, red, black, Tree, colourOf}
-use Rattle.sequential.specs.Delete.{lose, fixup, delete}
-use Rattle.tree.specs.Linked.{Node, Linked, nil, at, nodes}
+use Rattle.sequential.specs.Delete.{afterRemoval, rbDeleteFixup}
+use Rattle.tree.specs.Linked.{Linked, nil, at, nodes}
 use Rattle.tree.specs.LinkedOrder.{ordered-bare, ordered-within, into-top}
 use Rattle.tree.specs.Zipper.{Frame, hole, plug, Into, same-lift, sameBut-lift}
 use Rattle.tree.specs.Erase.{erase, eraseWay, erase-plug, erase-find}
 use Rattle.tree.specs.Height.{mostHeight}
-use Rattle.tree.specs.Ways.{other-deleteFixup}
+use Rattle.tree.specs.Ways.{other-fixup-finds}
 use Rattle.tree.specs.Occurs.{one, one-same, one-other, occ, in-occ, occ-in, occ-at, occWay, turnover-plug, form-turnover}
 use Rattle.tree.specs.Phases.{writes-whole, form-writes}
 use Rattle.tree.specs.Stores.{form-order, adopt-find, replace-find}
 use Rattle.tree.specs.DeleteFixup as DeleteFixup
-use Rattle.tree.specs.DeleteFixup.{DeleteFixup, DeleteFixups}
+use Rattle.tree.specs.DeleteFixup.{DeleteFixup, DeleteFixupFinds}
 use Rattle.heap.specs.Rep.{Rep}
 use Rattle.heap.specs.Sites.{linkTo, links, of-site}
 use Rattle.heap.specs.Colours.{redly, colours, colours-is, colours-link, paint-alike, paint-other, paint-same, red-tree, erase-occ, way-occ}
 use Rattle.heap.specs.Fill.{retire-quiet}
 use Rattle.heap.specs.Paths.{path-to, OnceWay}
-use Rattle.heap.specs.Fixups.{Sides, way-sides, framesUp, tip, deleteFixupEnding, Stop}
-use Rattle.heap.specs.DeleteFixupRun.{deleteFixupOf, deleteFixup-run, Run}
-use Rattle.heap.specs.Paints.{Sunk, paint-deleteFixup}
+use Rattle.heap.specs.Fixups.{Sides, way-sides, framesUp, tip, deleteFixupEnding, Stop, rep-num}
+use Rattle.heap.specs.DeleteFixupRun.{deleteFixupOf, deleteFixup-run, FixupRun}
+use Rattle.heap.specs.Paints.{DeletePainted, paint-deleteFixup}
 use Rattle.heap.specs.Moves.{At, apart-one, clear-of, link-size, link-held, fields-trans, fields-queued, held-fields, same-fields}
 use Rattle.heap.specs.Lowers.{is-node, Top, top-of, far-down, below-is}
 use Rattle.heap.specs.Raises.{Raised, raised-link, raised-painted}
-use Rattle.heap.specs.ColourWork.{colours-trans, colours-paint, colours-removal}
+use Rattle.heap.specs.ColourWork.{coloursOnly-trans, coloursOnly-paint, coloursOnly-removal}
 use Rattle.heap.specs.Parts.{unchanged, same-queue, queue-trans, held-queue, parts-of}
 use Rattle.heap.specs.Tolds.{told-delete}
 use Rattle.heap.specs.Places.{Double, standIn, doubleTop, doubleTree, adopted, replaced, wayToC}
-use Rattle.heap.specs.Phase.{removalEnding, Lined, Phase, phase-alike, DoublePlan, lostStores}
+use Rattle.heap.specs.Phase.{removalEnding, Lined, Phase, phase-alike, DoublePlan, removalStores}
 use Rattle.heap.specs.Shift.{by-replace, Next, once-less}
 use Rattle.heap.specs.Inserts.{Small, rep-range, way-bound}
 use Rattle.heap.specs.InsertStep.{held-root, held-is}
 use Rattle.heap.specs.RemovalCore.{links-get, stop-way, black-core, red-core}
-use Rattle.heap.specs.RemovalFixup.{removal-red, removal-black, removal-there, removal-alike, removal-register, deleteFixup-alike, rep-num}
+use Rattle.heap.specs.RemovalFixup.{removal-red, removal-black, removal-there, removal-alike, removal-register, deleteFixup-alike}
 use Rattle.heap.specs.AdoptStep.{form-count}
 use Rattle.heap.specs.Swap.{tipOf, tip-way, ending-swap, up-swap, up-way, deleteFixup-swap, link-else}
 
@@ -79,14 +79,14 @@ module _ (st : State) (G : Tree) (d : Double) (h : At st (d .way) (adopted d)) (
   abbrev c : Colour
   c = colourOf (erase f y)
 
-  capacity : Top st fs L B l (at L C l y)
-  capacity = top-of st fs L B l (at L C l y) h
+  top : Top st fs L B l (at L C l y)
+  top = top-of st fs L B l (at L C l y) h
 
   low : Top st (hole R B l ∷ fs) L C l y
   low = top-of st (hole R B l ∷ fs) L C l y (far-down st fs L B l (at L C l y) h)
 
   c-is : child p R (B .num) ≡ C .num
-  c-is = below-is st R L (B .num) C l y (capacity .far)
+  c-is = below-is st R L (B .num) C l y (top .far)
 
   each : (i : ℕ) → one i (B .num) + occ i (nodes l) + (one i (C .num) + occ i (nodes y)) + occWay i fs ≤ 1
   each i = let a = good .once i in let b = form-count fs B C l nil y i in omega arith
@@ -114,12 +114,12 @@ module _ (st : State) (G : Tree) (d : Double) (h : At st (d .way) (adopted d)) (
 
   replace-is : replaceStore st (linkTo fs) ≡ made (retire coloured (B .num)) (linkTo fs) (C .num)
   unfolding replaceStore
-  replace-is = rw (capacity .is, c-is, capacity .words .key-is, path-is)
+  replace-is = rw (top .is, c-is, top .words .key-is, path-is)
 
   raised : Raised st (setLink st (linkTo fs) (C .num)) fs (replaced d)
   raised =
       raised-link st fs (adopted d) (replaced d) (C .num)
-      (clear-of fs (doubleTop d []) (replaced d) (good .once) (λ i w. let a = each i in let b = occ-at L C l y i in omega arith)) h (rw c-is at (capacity .far))
+      (clear-of fs (doubleTop d []) (replaced d) (good .once) (λ i w. let a = each i in let b = occ-at L C l y i in omega arith)) h (rw c-is at (top .far))
 
   site2 : At linked fs (replaced d)
   site2 = rw (held-root (setLink st (linkTo fs) (C .num) .register) _) (raised-painted raised (C .num) (colourWordOf st (B .num)) .site)
@@ -163,13 +163,13 @@ module _ (st : State) (G : Tree) (d : Double) (h : At st (d .way) (adopted d)) (
   }
 
   sides : Sides p old
-  sides = (capacity .words .within, capacity .near, way-sides p (st .register .root) fs (h .way))
+  sides = (top .words .within, top .near, way-sides p (st .register .root) fs (h .way))
 
   is-red : isRed p n ≡ redly c
   is-red = red-tree p n y (low .far)
 
-  deleteFixups : f (C .num) ≡ black → DeleteFixups c (eraseWay f old)
-  deleteFixups e = other-deleteFixup (eraseWay f fs) [] (f (B .num)) (B .key) (B .val) (erase f l) (C .key) (C .val) (erase f y) c (rw (erase-plug f fs (doubleTop d []), e) at (good .proper .redblack))
+  fixup-finds : f (C .num) ≡ black → DeleteFixupFinds c (eraseWay f old)
+  fixup-finds e = other-fixup-finds (eraseWay f fs) [] (f (B .num)) (B .key) (B .val) (erase f l) (C .key) (C .val) (erase f y) c (rw (erase-plug f fs (doubleTop d []), e) at (good .proper .redblack))
 
   once-old : OnceWay old
   once-old i = let a = each i in omega arith
@@ -183,8 +183,8 @@ module _ (st : State) (G : Tree) (d : Double) (h : At st (d .way) (adopted d)) (
       let t2 = top-of linked fs L C l y site2 in
       let b : child (linked .pool) L (B .num) ≡ child p L (B .num)
       = alike .words (B .num) leftWord (omega arith) ∙ link-else st fs (C .num) (B .num) L (let a = each (B .num) in let b = one-same (B .num) in omega arith) in
-      let num : child (linked .pool) L (C .num) ≡ child (linked .pool) L (B .num) = rep-num (linked .pool) _ l (t2 .near) ∙ sym (rep-num p _ l (capacity .near)) ∙ sym b in (
-        record { low = capacity .words .within .low; high = rw len (capacity .words .within .high) },
+      let num : child (linked .pool) L (C .num) ≡ child (linked .pool) L (B .num) = rep-num (linked .pool) _ l (t2 .near) ∙ sym (rep-num p _ l (top .near)) ∙ sym b in (
+        record { low = top .words .within .low; high = rw len (top .words .within .high) },
         subst (λ i. Rep (linked .pool) i l) num (t2 .near),
         way-sides (linked .pool) (linked .register .root) fs (site2 .way),
       )
@@ -208,7 +208,7 @@ module _ (st : State) (G : Tree) (d : Double) (h : At st (d .way) (adopted d)) (
       rw (er, ec, tip-same d (r .levels)) (stop-way f f1 (framesUp (r .levels) old) (framesUp (r .levels) gs) (up-way (standIn B C) C l fs f f1 (r .levels) ways) s)
 
   run-same : deleteFixupOf f1 (colourOf (erase f1 y)) gs ≡ deleteFixupOf f c old
-  run-same = ap₂ DeleteFixup.deleteFixup (ap colourOf f1y) ways
+  run-same = ap₂ DeleteFixup.deleteFixupOn (ap colourOf f1y) ways
 
   levels-same : m1 ≡ deleteFixupOf f c old .levels
   levels-same = ap (λ r. r .levels) run-same
@@ -217,8 +217,8 @@ module _ (st : State) (G : Tree) (d : Double) (h : At st (d .way) (adopted d)) (
   ending-same = ending-of (deleteFixupOf f1 (colourOf (erase f1 y)) gs) (deleteFixupOf f c old) (colourOf (erase f1 y)) c run-same (ap colourOf f1y)
 
   module _ (e : f (C .num) ≡ black) where
-    run : Run p 0 n c old
-    run = deleteFixup-run p 0 n c old is-red sides (deleteFixups e)
+    run : FixupRun p 0 n c old
+    run = deleteFixup-run p 0 n c old is-red sides (fixup-finds e)
 
     stop1 : Stop f1 (tip f1 (colourOf (erase f1 y)) m1 gs) (framesUp m1 gs) (deleteFixupOf f1 (colourOf (erase f1 y)) gs .end)
     stop1 = stop-of (deleteFixupOf f1 (colourOf (erase f1 y)) gs) (deleteFixupOf f c old) (colourOf (erase f1 y)) c run-same (ap colourOf f1y) (run .stop)
@@ -226,8 +226,8 @@ module _ (st : State) (G : Tree) (d : Double) (h : At st (d .way) (adopted d)) (
     room1 : m1 ≤ length old
     room1 = subst (λ m. m ≤ length old) (sym levels-same) (run .room)
 
-    tint : Sunk m1 (linked .pool) (paintDeleteLevels m1 (links old) (linked .pool)) old
-    tint = paint-deleteFixup m1 (linked .pool) old room1 sides1 once-old
+    painted-levels : DeletePainted m1 (linked .pool) (paintDeleteLevels m1 (links old) (linked .pool)) old
+    painted-levels = paint-deleteFixup m1 (linked .pool) old room1 sides1 once-old
 
     end1 : cond (eqb m1 0) n (linkNode linked (getD (links old) m1 Root)) ≡ linkNode linked (linkTo (framesUp m1 gs))
     end1 = go m1 room1
@@ -239,15 +239,15 @@ module _ (st : State) (G : Tree) (d : Double) (h : At st (d .way) (adopted d)) (
               | no d ↦ rw (ne-eqb m 0 d, links-get m old r, up-swap (standIn B C) C l fs m d)
             ]
 
-    black-phase : G ≡ lose black (eraseWay f old) (erase f y) → Phase (coloured .pool) (coloured .register .root) G (plug gs y) (endingStores (removalEnding black f c old))
+    black-phase : G ≡ afterRemoval black (eraseWay f old) (erase f y) → Phase (coloured .pool) (coloured .register .root) G (plug gs y) (endingStores (removalEnding black f c old))
     black-phase g =
         let q = paintDeleteLevels m1 (links old) (linked .pool) in
-        let kept = erase-occ f1 (colours q) y (λ i j. tint .tinted .outside i (let a = each i in omega arith)) in
-        let keptC = tint .tinted .outside (C .num) (let a = each (C .num) in let b = one-same (C .num) in omega arith) in
-        let to = deleteFixup-swap (standIn B C) C l fs m1 f1 (colours q) keptC (tint .to) in
-        let core = black-core linked G gs y n (links old) site lined proper stop1 (g ∙ sym (ap₂ fixup ways f1y)) (deleteFixup-alike m1 (links old) (linked .pool)) to kept end1 in
+        let kept = erase-occ f1 (colours q) y (λ i j. painted-levels .on-way .outside i (let a = each i in omega arith)) in
+        let keptC = painted-levels .on-way .outside (C .num) (let a = each (C .num) in let b = one-same (C .num) in omega arith) in
+        let to = deleteFixup-swap (standIn B C) C l fs m1 f1 (colours q) keptC (painted-levels .to) in
+        let core = black-core linked G gs y n (links old) site lined proper stop1 (g ∙ sym (ap₂ rbDeleteFixup ways f1y)) (deleteFixup-alike m1 (links old) (linked .pool)) to kept end1 in
         let cl : fixupAfterRemoval p (C .num) n (links old) ≡ fixupResult m1 (removalEnding black f1 (colourOf (erase f1 y)) gs)
-        = removal-black p (C .num) n c old e is-red sides (deleteFixups e) ∙ (λ i. fixupResult (levels-same′ i) (ending-same′ i)) in
+        = removal-black p (C .num) n c old e is-red sides (fixup-finds e) ∙ (λ i. fixupResult (levels-same′ i) (ending-same′ i)) in
         rw (cl, sym ending-same) core
       where
         levels-same′ : deleteFixupOf f c old .levels ≡ m1
@@ -256,11 +256,11 @@ module _ (st : State) (G : Tree) (d : Double) (h : At st (d .way) (adopted d)) (
         ending-same′ : removalEnding black f c old ≡ removalEnding black f1 (colourOf (erase f1 y)) gs
         ending-same′ = sym ending-same
 
-  phase : (d : Colour) → f (C .num) ≡ d → G ≡ lose d (eraseWay f old) (erase f y) → Phase (coloured .pool) (coloured .register .root) G (plug gs y) (endingStores (removalEnding d f c old))
+  phase : (d : Colour) → f (C .num) ≡ d → G ≡ afterRemoval d (eraseWay f old) (erase f y) → Phase (coloured .pool) (coloured .register .root) G (plug gs y) (endingStores (removalEnding d f c old))
   phase black e g = black-phase e g
   phase red e g = rw (removal-red p (C .num) n (links old) e) (red-core linked G gs y n (links old) site lined proper (g ∙ sym (ap₂ Seq.plug ways f1y)))
 
-  pub replace-0-next : Next st G (plug fs (adopted d)) (replaceStore st (linkTo fs)) (store (linkTo fs) Replace) (lostStores f C y old)
+  pub replace-0-next : Next st G (plug fs (adopted d)) (replaceStore st (linkTo fs)) (store (linkTo fs) Replace) (removalStores f C y old)
   replace-0-next =
       let q = retire-quiet coloured (B .num) in
       let w = fixupAfterRemoval p (C .num) n (links old) in
@@ -272,7 +272,7 @@ module _ (st : State) (G : Tree) (d : Double) (h : At st (d .way) (adopted d)) (
         shift = by-replace fs B C l y (ordered-bare f _ (doubleTree d []) (good .proper .ordered)) (good .once);
         phase = rw (q .fields .root) (phase-alike (q .words) (coloured .register .root) G (phase (f (C .num)) refl goal));
         parts = parts-of st st coloured _ (linkTo fs) (C .num) [] (B .num ∷ []) unchanged
-            (colours-trans (colours-paint (setLink st (linkTo fs) (C .num) .pool) (C .num) (colourWordOf st (B .num))) (colours-removal linked w n (links old)))
+            (coloursOnly-trans (coloursOnly-paint (setLink st (linkTo fs) (C .num) .pool) (C .num) (colourWordOf st (B .num))) (coloursOnly-removal linked w n (links old)))
             (queue-trans (held-queue (setLink st (linkTo fs) (C .num) .register) _) (same-queue (removal-register linked w n (links old)))) refl;
         size = q .words .size ∙ removal-alike linked w n (links old) .size
             ∙ paint-alike (setLink st (linkTo fs) (C .num) .pool) (C .num) (colourWordOf st (B .num)) .size ∙ link-size st (linkTo fs) (C .num);
@@ -282,4 +282,4 @@ module _ (st : State) (G : Tree) (d : Double) (h : At st (d .way) (adopted d)) (
 
   pub replace-0-finds : stepFinds st (linkTo fs) Replace ≡ true
   unfolding stepFinds
-  replace-0-finds = rw (capacity .is, c-is, capacity .words .key-is, path-is, is-node (C .num) (low .words .within .low), removal-there p (C .num) n c old is-red sides deleteFixups)
+  replace-0-finds = rw (top .is, c-is, top .words .key-is, path-is, is-node (C .num) (low .words .within .low), removal-there p (C .num) n c old is-red sides fixup-finds)

@@ -6,7 +6,6 @@ use mathlib.Core.List.{List, [], _∷_, _++_, map}
 use Rattle.base.specs.Walk.{cond-both}
 use Rattle.datatypes.specs.declared.Link.{Link}
 use Rattle.datatypes.specs.declared.Side.{Side}
-use Rattle.datatypes.specs.declared.Side.the-variants.{R}
 use Rattle.datatypes.specs.declared.Form.{Form}
 use Rattle.datatypes.specs.declared.Form.the-variants.{Diag, Zig}
 use Rattle.datatypes.specs.declared.Purpose.{Purpose}
@@ -23,15 +22,15 @@ use Rattle.tree.specs.Zipper.{Frame, Same}
 use Rattle.tree.specs.Erase.{erase}
 use Rattle.heap.specs.Tolds.{Told}
 use Rattle.heap.specs.Places.{wayToC}
-use Rattle.heap.specs.Phase.{insertEnding, removalEnding, Phases, diag-0, diag-1, zig-0, zig-1, zig-2, insert-0, unlink-0, adopt-0, replace-0, publish-0, detach-0, lostStores}
-use Rattle.heap.specs.Shift.{listStore, later}
+use Rattle.heap.specs.Phase.{insertEnding, removalEnding, Phases, diag-0, diag-1, zig-0, zig-1, zig-2, insert-0, unlink-0, adopt-0, replace-0, publish-0, detach-0, removalStores}
+use Rattle.heap.specs.Shift.{isListStore, later}
 use Rattle.heap.specs.Effects.{shift-same}
 use Rattle.heap.specs.Nodes.{Settled, phase-told}
 use Rattle.heap.specs.Writes.{Turn}
 
-turn-settled : (f : Form) (l : Link) (s : Side) (c : Purpose) (w : List Store) → Settled w → Settled (turnStores f l s c ++ w)
-turn-settled Diag l s c w h = (refl, (refl, h))
-turn-settled Zig l s c w h = (refl, (refl, (refl, h)))
+turn-settled : (f : Form) (l : Link) (s : Side) (purpose : Purpose) (w : List Store) → Settled w → Settled (turnStores f l s purpose ++ w)
+turn-settled Diag l s purpose w h = (refl, (refl, h))
+turn-settled Zig l s purpose w h = (refl, (refl, (refl, h)))
 
 ending-settled : (e : Ending) → Settled (endingStores e)
 ending-settled Balanced = tt
@@ -48,14 +47,14 @@ ending-settled (RotateTwice t u) = turn-settled (t .form) (t .link) (t .side) (t
     plain Zig = (refl, (refl, (refl, tt)))
 ending-settled Missing = tt
 
-lost-settled : (f : ℕ → Colour) (C : Node) (y : Linked) (way : List Frame) → Settled (lostStores f C y way)
+lost-settled : (f : ℕ → Colour) (C : Node) (y : Linked) (way : List Frame) → Settled (removalStores f C y way)
 lost-settled f C y way = ending-settled (removalEnding (f (C .num)) f (colourOf (erase f y)) way)
 
 no : {A : Type 0} → false ≡ true → A
 no e = absurd (false≢true e)
 
 -- after the list store no other comes
-pub phase-settles : {p : List ℕ} {root : ℕ} {f : ℕ → Colour} {G : Tree} {T : Linked} {x : Store} {l : List Store} → Phases p root f G T (x ∷ l) → listStore (x .step) ≡ true → Settled l
+pub phase-settles : {p : List ℕ} {root : ℕ} {f : ℕ → Colour} {G : Tree} {T : Linked} {x : Store} {l : List Store} → Phases p root f G T (x ∷ l) → isListStore (x .step) ≡ true → Settled l
 phase-settles (diag-0 w d h i) q = no q
 phase-settles (diag-1 w d n h i c) q = no q
 phase-settles (zig-0 w d h i) q = no q
@@ -80,5 +79,5 @@ pub turn-told : {st : State} {G : Tree} {T : Linked} {x : Store} {l : List Store
 turn-told {st} {x = x} {l = l} t h = phase-told (t .next .phase) (later-settled st (x .link) (x .step) l h)
 
 -- any other leaves each lookup's answer
-pub turn-same : {st : State} {G : Tree} {T : Linked} {x : Store} {l : List Store} (t : Turn st G T x l) → listStore (x .step) ≡ false → Same T (t .next .tree)
+pub turn-same : {st : State} {G : Tree} {T : Linked} {x : Store} {l : List Store} (t : Turn st G T x l) → isListStore (x .step) ≡ false → Same T (t .next .tree)
 turn-same t e = shift-same (rw e at (t .next .shift))

@@ -1,12 +1,12 @@
 -- What a store does to the whole tree, as a relation: the eleven changes, each at a place, with the link stored, its new
 -- value, the nodes that come, the nodes that leave, whether it is a list store and whether reading slots are awaited after it; and what the facts
 -- of lookups (crate tree) ask. `Next` is what a turn leaves: such a change and the phase after it.
-use Prim.Native.Nat.{ℕ, suc}
-use mathlib.Core.Path.{_≡_, refl, sym, ap, _∙_}
+use Prim.Native.Nat.{ℕ}
+use mathlib.Core.Path.{_≡_, refl, sym, _∙_}
 use mathlib.Core.Logic.{_≢_}
 use mathlib.Core.Bool.{Bool, true, false, cond}
 use mathlib.Core.List.{List, [], _∷_, _++_, map}
-use lib.ListN.{length}
+use lib.ListN.{length-map, length}
 use Rattle.base.specs.Walk.{cond-both}
 use native.Mathlib.Omega.{arith}
 use Rattle.datatypes.specs.declared.Side.{Side}
@@ -36,6 +36,7 @@ use Rattle.heap.specs.Moves.{Fresh, Once}
 use Rattle.heap.specs.Parts.{Parts}
 use Rattle.heap.specs.Phase.{Phase}
 
+-- the tree before, after; the link, its value; who comes, who leaves; list store or not, awaits or not
 pub data Shift : Linked → Linked → Link → ℕ → List ℕ → List ℕ → Bool → Bool → Type 0 where
   by-insert : (fs : List Frame) (Z : Node) → Into (Z .key) fs → occ (Z .num) (nodes (plug fs nil)) ≡ 0
       → Shift (plug fs nil) (plug fs (cell Z nil nil)) (linkTo fs) (Z .num) (Z .num ∷ []) [] true false
@@ -71,8 +72,8 @@ pub data Shift : Linked → Linked → Link → ℕ → List ℕ → List ℕ �
       → Shift (plug fs (third₁ L B C n l y gs)) (plug fs (third₂ L B C n l y gs)) (linkTo (gs ++ (hole R (copy C n) l ∷ fs))) (numOf y) [] (C .num ∷ []) false false
 
 -- Of a step, read off its profile. The list stores:
-abbrev pub listStore : Step → Bool
-listStore x = isListed (profile x .listing)
+abbrev pub isListStore : Step → Bool
+isListStore x = isListed (profile x .listing)
 
 -- the node that it takes, if it takes one
 abbrev pub takenIf : Bool → ℕ → List ℕ
@@ -102,12 +103,8 @@ awaitedAfter x r = cond (profile x .awaits) (readingSlots r) (r .awaited)
 abbrev pub writeAfter : Step → ℕ → Register → Write
 writeAfter x b r = cond (profile x .renames) (movedWrite b (r .first) (r .write)) (r .write)
 
-pub map-length : (f : Store → Store) (l : List Store) → length (map f l) ≡ length l
-map-length f [] = refl
-map-length f (x ∷ l) = ap suc (map-length f l)
-
 pub later-length : (st : State) (l : Link) (x : Step) (w : List Store) → length (later st l x w) ≡ length w
-later-length st l x w = cond-both (λ v. length v ≡ length w) (profile x .renames) (map-length (movedStore (linkNode st l) (st .register .first)) w) refl
+later-length st l x w = cond-both (λ v. length v ≡ length w) (profile x .renames) (length-map w (movedStore (linkNode st l) (st .register .first))) refl
 
 pub record FieldsAfter (x : Step) (b : ℕ) (r q : Register) : Type 0 where
   pub readers : q .readers ≡ r .readers
@@ -118,7 +115,7 @@ pub record FieldsAfter (x : Step) (b : ℕ) (r q : Register) : Type 0 where
 pub record Next (st : State) (G : Tree) (T : Linked) (m : Made) (x : Store) (rest : List Store) : Type 0 where
   pub tree : Linked
   pub gone : List ℕ
-  pub shift : Shift T tree (m .link) (m .node) (takenBy (x .step) (st .register .first)) gone (listStore (x .step)) (profile (x .step) .awaits)
+  pub shift : Shift T tree (m .link) (m .node) (takenBy (x .step) (st .register .first)) gone (isListStore (x .step)) (profile (x .step) .awaits)
   pub phase : Phase (m .after .pool) (m .after .register .root) G tree rest
   pub parts : Parts st m (takenBy (x .step) (st .register .first)) gone
   pub size : length (m .after .pool) ≡ length (st .pool)

@@ -94,9 +94,9 @@ linkTo-agree p q root (hole s N y ∷ fs) h =
 pub way-agree : (p q : List ℕ) (root : ℕ) → length q ≡ length p → (fs : List Frame) → ((n : ℕ) → 0 < occWay n fs → Agree p q n) → Way p root fs → Way q root fs
 way-agree p q root e [] h w = tt
 way-agree p q root e (hole s N y ∷ fs) h w =
-    let capacity = h (N .num) (let x = one-same (N .num) in omega arith) in (
-      rw (linkTo-agree p q root fs (λ n i. h n (omega arith))) (words-agree p q e capacity (w .0)),
-      rw (capacity (linkWord (other s)) (link-low (other s))) (rep-agree p q e y _ (λ n i. h n (omega arith)) (w .1)),
+    let top = h (N .num) (let x = one-same (N .num) in omega arith) in (
+      rw (linkTo-agree p q root fs (λ n i. h n (omega arith))) (words-agree p q e top (w .0)),
+      rw (top (linkWord (other s)) (link-low (other s))) (rep-agree p q e y _ (λ n i. h n (omega arith)) (w .1)),
       way-agree p q root e fs (λ n i. h n (omega arith)) (w .2),
     )
 
@@ -136,7 +136,7 @@ redirect p root s D y fs t u b c i r =
     let len = length-setWord p d (linkWord s) b in
     let agree : (n : ℕ) → 0 < occWay n fs → Agree p q n = λ n h. set-elsewhere p d (linkWord s) b n low (apart-way d n fs (c .1) h) in
     let w = i .way in
-    let capacity : Words q (nodeAt p root (linkTo fs)) D = record {
+    let top : Words q (nodeAt p root (linkTo fs)) D = record {
       is = w .0 .is;
       within = record { low = w .0 .within .low; high = rw len (w .0 .within .high) };
       key-is = word-other p d d (linkWord s) keyWord b low (omega arith) (inr (omega (arith, link-high s))) ∙ w .0 .key-is;
@@ -145,7 +145,7 @@ redirect p root s D y fs t u b c i r =
     let other-kept : child q (other s) d ≡ child p (other s) d = word-other p d d (linkWord s) (linkWord (other s)) b low (omega (arith, link-low (other s))) (inr (links-apart s)) in
     record {
       way = (
-        rw (linkTo-agree p q root fs agree) capacity,
+        rw (linkTo-agree p q root fs agree) top,
         rw other-kept (rep-elsewhere p d (linkWord s) b low y _ (c .0) (w .1)),
         way-agree p q root len fs agree (w .2),
       );

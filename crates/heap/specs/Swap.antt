@@ -1,4 +1,4 @@
--- Two ways that differ in one node on the right, as B's and C's in a replace: a climb's ending, its levels and its colours are the same
+-- Two ways that differ in one node on the right, as B's and C's in a replace: a fix-up's ending, its levels and its colours are the same
 -- where the erased ways are.
 use Prim.Native.Nat.{ℕ, zero, suc, _<_}
 use mathlib.Core.Path.{_≡_, refl, ap}
@@ -17,8 +17,8 @@ use Rattle.tree.specs.Linked.{Node, Linked}
 use Rattle.tree.specs.Zipper.{Frame, hole}
 use Rattle.tree.specs.Erase.{erase, eraseWay}
 use Rattle.tree.specs.Occurs.{one, one-same, occWay}
-use Rattle.tree.specs.Recolour.{DeleteFixupTo}
-use Rattle.tree.specs.DeleteFixup.{DeleteFixupEnd, darken, blackSiblingOf, passed}
+use Rattle.tree.specs.Recolour.{DeleteColours}
+use Rattle.tree.specs.DeleteFixup.{DeleteFixupEnd, darken, atBlackSibling, atRedSibling}
 use Rattle.heap.specs.Sites.{linkTo, set-link, set-root}
 use Rattle.heap.specs.Fixups.{framesUp, tip, deleteFixupEnding}
 
@@ -38,8 +38,8 @@ tip-way f c (suc m) (hole s N y ∷ fs) = tip-way f (f (N .num)) m fs
 module _ (M N : Node) (l : Linked) (fs : List Frame) where
   pub ending-swap : (e : DeleteFixupEnd) (c : Colour) (m : ℕ) → deleteFixupEnding e c (framesUp m (hole R M l ∷ fs)) ≡ deleteFixupEnding e c (framesUp m (hole R N l ∷ fs))
   ending-swap darken c zero = refl
-  ending-swap (blackSiblingOf b) c zero = refl
-  ending-swap (passed o) c zero = refl
+  ending-swap (atBlackSibling b) c zero = refl
+  ending-swap (atRedSibling o) c zero = refl
   ending-swap e c (suc m) = refl
 
   pub up-swap : (m : ℕ) → m ≢ 0 → framesUp m (hole R M l ∷ fs) ≡ framesUp m (hole R N l ∷ fs)
@@ -59,7 +59,7 @@ module _ (M N : Node) (l : Linked) (fs : List Frame) where
       over (suc m) [] h = refl
       over (suc m) (hole s P y ∷ fs) h = over m fs (ap tailOf h)
 
-  pub deleteFixup-swap : (m : ℕ) (f g : ℕ → Colour) → g (N .num) ≡ f (N .num) → DeleteFixupTo m f g (hole R M l ∷ fs) → DeleteFixupTo m f g (hole R N l ∷ fs)
+  pub deleteFixup-swap : (m : ℕ) (f g : ℕ → Colour) → g (N .num) ≡ f (N .num) → DeleteColours m f g (hole R M l ∷ fs) → DeleteColours m f g (hole R N l ∷ fs)
   deleteFixup-swap zero f g e h =
       let a : erase g l ≡ erase f l = ap treeOf h in
       let b : eraseWay g fs ≡ eraseWay f fs = ap tailOf h in

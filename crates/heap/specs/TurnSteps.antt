@@ -22,7 +22,7 @@ use Rattle.heap.specs.Places.{Diag, diagTop, diagTree, diagLow, Zig, zig
 use Rattle.heap.specs.Lowers.{diag-count, zig-count, diag-lower-is, zig-lower-A-is, zig-lower-C-is, diag-lower, diag-lower-stores}
 use Rattle.heap.specs.Lowers.{diag-lower-finds, zig-lower-A, zig-lower-A-stores, zig-lower-A-finds, zig-lower-C, zig-lower-C-stores, zig-lower-C-finds}
 use Rattle.heap.specs.Parts.{filled, copied}
-use Rattle.heap.specs.Phase.{Follow, forInsert, onBlackSibling, onRedSibling, purposeOf, lowOf, DiagNeeds, diagGoal, zigPurpose, zigLow, zigGoal, Copied}
+use Rattle.heap.specs.Phase.{DiagFor, forInsert, onBlackSibling, onRedSibling, purposeOf, lowOf, DiagNeeds, diagGoal, zigPurpose, zigLow, zigGoal, Copied}
 use Rattle.heap.specs.Phase.{DiagPlan, ZigPlan, raiseStores, zigStore, diag-1, zig-1, zig-2}
 use Rattle.heap.specs.Shift.{by-diag-lower, by-zig-A, by-zig-C, Next}
 
@@ -33,7 +33,7 @@ way-as f g fs t h = way-occ f g fs (λ i w. h i (let e = occ-plug fs t i in omeg
 module _ (f g : ℕ → Colour) (d : Diag) (h : (i : ℕ) → 0 < occ i (nodes (diagTree d)) → g i ≡ f i) where
   open Diag d using (way as fs, side as s, B, C, outer as o, inner as x, far as r)
 
-  pub diag-as : (w : Follow) → (diagGoal g d w ≡ diagGoal f d w) × (DiagNeeds f d w → DiagNeeds g d w)
+  pub diag-as : (w : DiagFor) → (diagGoal g d w ≡ diagGoal f d w) × (DiagNeeds f d w → DiagNeeds g d w)
   diag-as w = go w
     where
       way : eraseWay g fs ≡ eraseWay f fs
@@ -54,7 +54,7 @@ module _ (f g : ℕ → Colour) (d : Diag) (h : (i : ℕ) → 0 < occ i (nodes (
       ec : g (C .num) ≡ f (C .num)
       ec = h (C .num) (let e = diag-count d (C .num) in let k = one-same (C .num) in omega arith)
 
-      go : (w : Follow) → (diagGoal g d w ≡ diagGoal f d w) × (DiagNeeds f d w → DiagNeeds g d w)
+      go : (w : DiagFor) → (diagGoal g d w ≡ diagGoal f d w) × (DiagNeeds f d w → DiagNeeds g d w)
       go forInsert = (rw (way, eb, er), λ n. n)
       go onBlackSibling = (rw (way, eb, er, ec), λ n. rw eo n)
       go (onRedSibling l) = (rw (way, eo, ex, er), λ n. rw ex n)
@@ -86,7 +86,7 @@ old-colour : {st after : State} {fs : List Frame} {u : Linked} {c : ℕ} → Lin
     → (i : ℕ) → 0 < occ i (nodes T) → colours (after .pool) i ≡ colours (st .pool) i
 old-colour {st} h T z i m = h .old-colours i (λ e. let x : occ (st .register .first) (nodes T) ≡ occ i (nodes T) = rw e in omega arith)
 
-low-hue : (w : Follow) → hue (copyColour (purposeOf w)) ≡ lowOf w
+low-hue : (w : DiagFor) → hue (copyColour (purposeOf w)) ≡ lowOf w
 low-hue forInsert = refl
 low-hue onBlackSibling = refl
 low-hue (onRedSibling o) = refl
@@ -95,7 +95,7 @@ zig-hue : (w : Bool) → hue (copyColour (zigPurpose w)) ≡ zigLow w
 zig-hue true = refl
 zig-hue false = refl
 
-module _ (st : State) (G : Tree) (w : Follow) (d : Diag) (h : At st (d .way) (diagTop d)) (plan : DiagPlan (colours (st .pool)) G w d) (fresh : Fresh st (diagTree d)) where
+module _ (st : State) (G : Tree) (w : DiagFor) (d : Diag) (h : At st (d .way) (diagTop d)) (plan : DiagPlan (colours (st .pool)) G w d) (fresh : Fresh st (diagTree d)) where
   open Diag d using (way as fs, side as s, B, C, outer as o, inner as x, far as r)
 
   pub diag-0-next : Next st G (diagTree d) (diagLower st (linkTo fs) s (purposeOf w)) (store (linkTo fs) (DiagLower s (purposeOf w))) (raiseStores w d)

@@ -23,28 +23,28 @@ use Rattle.tree.specs.Zipper.{plug, Into, sameBut-lift}
 use Rattle.tree.specs.Stores.{unlink-order, unlink-find}
 use Rattle.tree.specs.Forms.{delete-first}
 use Rattle.tree.specs.Erase.{erase, eraseWay, erase-at, erase-plug, erase-find}
-use Rattle.tree.specs.Ways.{first-deleteFixup}
+use Rattle.tree.specs.Ways.{first-fixup-finds}
 use Rattle.tree.specs.Occurs.{occ-at, occ-plug, turnover-plug, unlink-turnover}
 use Rattle.tree.specs.Phases.{writes-whole, unlink-writes}
-use Rattle.tree.specs.DeleteFixup.{DeleteFixups}
+use Rattle.tree.specs.DeleteFixup.{DeleteFixupFinds}
 use Rattle.heap.specs.Rep.{Rep}
 use Rattle.heap.specs.Sites.{linkTo, links}
 use Rattle.heap.specs.Colours.{redly, colours, colours-link, red-tree}
 use Rattle.heap.specs.Fill.{retire-quiet}
 use Rattle.heap.specs.Paths.{path-to}
-use Rattle.heap.specs.Fixups.{Sides, way-sides}
+use Rattle.heap.specs.Fixups.{Sides, way-sides, rep-num}
 use Rattle.heap.specs.Moves.{At, clear-of, link-size, link-held, fields-trans, fields-queued, held-fields, same-fields}
 use Rattle.heap.specs.Lowers.{is-node, Top, top-of}
 use Rattle.heap.specs.Raises.{Raised, raised-link}
-use Rattle.heap.specs.ColourWork.{colours-removal}
+use Rattle.heap.specs.ColourWork.{coloursOnly-removal}
 use Rattle.heap.specs.Parts.{unchanged, same-queue, queue-trans, held-queue, parts-of}
 use Rattle.heap.specs.Tolds.{told-delete}
 use Rattle.heap.specs.Places.{Single, singleTop, singleTree}
-use Rattle.heap.specs.Phase.{Lined, Phase, phase-alike, UnlinkPlan, lostStores}
+use Rattle.heap.specs.Phase.{Lined, Phase, phase-alike, UnlinkPlan, removalStores}
 use Rattle.heap.specs.Shift.{by-unlink, Next, once-less}
 use Rattle.heap.specs.Inserts.{Small, way-short, once-way}
 use Rattle.heap.specs.InsertStep.{held-root, held-is}
-use Rattle.heap.specs.RemovalFixup.{removal-phase, removal-there, removal-alike, removal-register, rep-num}
+use Rattle.heap.specs.RemovalFixup.{removal-phase, removal-there, removal-alike, removal-register}
 
 -- the child that there is, or 0
 pub only-is : (p : List ℕ) (s : Side) (b : ℕ) → child p (other s) b ≡ 0 → onlyChild p b ≡ child p s b
@@ -67,8 +67,8 @@ module _ (st : State) (G : Tree) (d : Single) (h : At st (d .way) (singleTop d))
   abbrev n : ℕ
   n = child (st .pool) s (B .num)
 
-  capacity : Top st fs s B x nil
-  capacity = top-of st fs s B x nil h
+  top : Top st fs s B x nil
+  top = top-of st fs s B x nil h
 
   into : Into (B .key) fs
   into = into-top fs s B x nil (ordered-bare f _ T (good .proper .ordered))
@@ -86,12 +86,12 @@ module _ (st : State) (G : Tree) (d : Single) (h : At st (d .way) (singleTop d))
 
   unlink-is : unlinkStore st (linkTo fs) ≡ made (retire coloured (B .num)) (linkTo fs) n
   unfolding unlinkStore
-  unlink-is = rw (capacity .is, capacity .words .key-is, only-is p s (B .num) (capacity .far), path-is)
+  unlink-is = rw (top .is, top .words .key-is, only-is p s (B .num) (top .far), path-is)
 
   raised : Raised st (setLink st (linkTo fs) n) fs x
   raised =
       raised-link st fs (at s B x nil) x n
-      (clear-of fs (at s B x nil) x (good .once) (λ i w. let a = good .once i in let b = occ-plug fs (at s B x nil) i in let c = occ-at s B x nil i in omega arith)) h (capacity .near)
+      (clear-of fs (at s B x nil) x (good .once) (λ i w. let a = good .once i in let b = occ-plug fs (at s B x nil) i in let c = occ-at s B x nil i in omega arith)) h (top .near)
 
   site : At linked fs x
   site = rw (held-root (setLink st (linkTo fs) n .register) _) (raised .site)
@@ -104,25 +104,25 @@ module _ (st : State) (G : Tree) (d : Single) (h : At st (d .way) (singleTop d))
         (sameBut-lift fs into (unlink-find s B x (unlink-order s B x (ordered-within fs (at s B x nil) (ordered-bare f _ T (good .proper .ordered))))));
   }
 
-  deleteFixups : f (B .num) ≡ black → DeleteFixups (colourOf (erase f x)) (eraseWay f fs)
-  deleteFixups e = first-deleteFixup s (eraseWay f fs) (B .key) (B .val) (erase f x) (colourOf (erase f x)) (rw (erase-plug f fs (at s B x nil), erase-at f s B x nil, e) at (good .proper .redblack))
+  fixup-finds : f (B .num) ≡ black → DeleteFixupFinds (colourOf (erase f x)) (eraseWay f fs)
+  fixup-finds e = first-fixup-finds s (eraseWay f fs) (B .key) (B .val) (erase f x) (colourOf (erase f x)) (rw (erase-plug f fs (at s B x nil), erase-at f s B x nil, e) at (good .proper .redblack))
 
   is-red : isRed p n ≡ redly (colourOf (erase f x))
-  is-red = red-tree p n x (capacity .near)
+  is-red = red-tree p n x (top .near)
 
   sides : Sides p fs
   sides = way-sides p (st .register .root) fs (h .way)
 
   rep-after : Rep (linked .pool) n x
-  rep-after = let a = rep-num (linked .pool) _ x (site .sub) in let b = rep-num p n x (capacity .near) in subst (λ i. Rep (linked .pool) i x) (a ∙ sym b) (site .sub)
+  rep-after = let a = rep-num (linked .pool) _ x (site .sub) in let b = rep-num p n x (top .near) in subst (λ i. Rep (linked .pool) i x) (a ∙ sym b) (site .sub)
 
-  phase : Phase (retire coloured (B .num) .pool) (retire coloured (B .num) .register .root) G (plug fs x) (lostStores f B x fs)
+  phase : Phase (retire coloured (B .num) .pool) (retire coloured (B .num) .register .root) G (plug fs x) (removalStores f B x fs)
   phase =
       let q = retire-quiet coloured (B .num) in
       rw (q .fields .root) (phase-alike (q .words) (coloured .register .root) G
-      (removal-phase st linked G fs x n (B .num) (fun-ext (colours-link st (linkTo fs) n)) site rep-after is-red sides lined proper (f (B .num)) refl deleteFixups goal))
+      (removal-phase st linked G fs x n (B .num) (fun-ext (colours-link st (linkTo fs) n)) site rep-after is-red sides lined proper (f (B .num)) refl fixup-finds goal))
 
-  pub unlink-0-next : Next st G T (unlinkStore st (linkTo fs)) (store (linkTo fs) Unlink) (lostStores f B x fs)
+  pub unlink-0-next : Next st G T (unlinkStore st (linkTo fs)) (store (linkTo fs) Unlink) (removalStores f B x fs)
   unlink-0-next =
       let q = retire-quiet coloured (B .num) in
       let c = fixupAfterRemoval p (B .num) n (links fs) in
@@ -131,9 +131,9 @@ module _ (st : State) (G : Tree) (d : Single) (h : At st (d .way) (singleTop d))
       rw unlink-is record {
         tree = plug fs x;
         gone = B .num ∷ [];
-        shift = rw (rep-num p n x (capacity .near)) (by-unlink fs s B x (ordered-bare f _ T (good .proper .ordered)) (good .once));
+        shift = rw (rep-num p n x (top .near)) (by-unlink fs s B x (ordered-bare f _ T (good .proper .ordered)) (good .once));
         phase = phase;
-        parts = parts-of st st coloured _ (linkTo fs) n [] (B .num ∷ []) unchanged (colours-removal linked c n (links fs))
+        parts = parts-of st st coloured _ (linkTo fs) n [] (B .num ∷ []) unchanged (coloursOnly-removal linked c n (links fs))
             (queue-trans (held-queue (setLink st (linkTo fs) n .register) _) (same-queue (removal-register linked c n (links fs)))) refl;
         size = q .words .size ∙ removal-alike linked c n (links fs) .size ∙ link-size st (linkTo fs) n;
         held = q .fields .held ∙ ap (λ r. r .held) (removal-register linked c n (links fs)) ∙ held-is (setLink st (linkTo fs) n .register) _ ∙ rw (link-held st (linkTo fs) n);
@@ -143,4 +143,11 @@ module _ (st : State) (G : Tree) (d : Single) (h : At st (d .way) (singleTop d))
   pub unlink-0-finds : stepFinds st (linkTo fs) Unlink ≡ true
   unfolding stepFinds
   unlink-0-finds =
-      rw (capacity .is, capacity .words .key-is, only-is p s (B .num) (capacity .far), path-is, is-node (B .num) (capacity .words .within .low), removal-there p (B .num) n (colourOf (erase f x)) fs is-red sides deleteFixups)
+      rw (
+        top .is,
+        top .words .key-is,
+        only-is p s (B .num) (top .far),
+        path-is,
+        is-node (B .num) (top .words .within .low),
+        removal-there p (B .num) n (colourOf (erase f x)) fs is-red sides fixup-finds,
+      )

@@ -4,7 +4,7 @@ use Prim.Native.Nat.{ℕ, zero, suc, _-_, _<_, _≤_}
 use mathlib.Core.Path.{_≡_, refl, ap, _∙_}
 use mathlib.Core.Bool.{Bool, true, false, cond}
 use mathlib.Core.List.{List, [], _∷_, _++_, map}
-use lib.ListN.{length, getD, take, replicate}
+use lib.ListN.{length-map, length, getD, take, replicate}
 use native.Mathlib.Omega.{arith}
 use Rattle.datatypes.specs.declared.Link.{Link}
 use Rattle.datatypes.specs.declared.Step.{Step}
@@ -23,7 +23,7 @@ use Rattle.heap.specs.Rep.{Alike, upToColour}
 use Rattle.heap.specs.Sites.{of-site}
 use Rattle.heap.specs.Colours.{colours}
 use Rattle.heap.specs.Phase.{Phase, at-rest, phase-alike}
-use Rattle.heap.specs.Shift.{takenBy, Ready, later, writeAfter, map-length, later-length, Next}
+use Rattle.heap.specs.Shift.{takenBy, Ready, later, writeAfter, later-length, Next}
 use Rattle.heap.specs.Inserts.{Small}
 use Rattle.heap.specs.Advance.{advance}
 use Rattle.heap.specs.Plans.{Rest}
@@ -60,7 +60,7 @@ pub moved-write : (b n : ℕ) (l : List Store) → movedWrite b n (writeOf l) �
 unfolding movedWrite writeOf
 moved-write b n l =
     let e = map-take (movedStore b n) mostStores (l ++ replicate mostStores vacant) ∙ ap (take mostStores) (map-vacants b n mostStores l) in
-    let c = map-length (movedStore b n) l in
+    let c = length-map l (movedStore b n) in
     cc
 
 pub store-first : (x : Store) (l : List Store) → getD (writeOf (x ∷ l) .stores) 0 vacant ≡ x
@@ -112,7 +112,7 @@ left-of st s x l e h = go (profile x .renames)
     n = st .register .first
 
     go : (renames : Bool) → lessFirst (cond renames (movedWrite b n (st .register .write)) (st .register .write)) ≡ writeOf (cond renames (map (movedStore b n) l) l)
-    go true = rw (e, moved-write b n (store s x ∷ l)) (less-first _ (map (movedStore b n) l) (let len = map-length (movedStore b n) l in omega arith))
+    go true = rw (e, moved-write b n (store s x ∷ l)) (less-first _ (map (movedStore b n) l) (let len = length-map l (movedStore b n) in omega arith))
     go false = rw e (less-first (store s x) l h)
 
 pub with-root : (r : Register) (w : Write) → withWrite r w .root ≡ r .root

@@ -18,7 +18,7 @@ use Rattle.spec.specs.Free.{takeFree, fillNode, takeNode, freeNode}
 use Rattle.spec.specs.FreeQueue.{InPool, Chain, lastOf, Queue}
 use Rattle.laws.specs.Words.{length-setWord, word-same, word-other}
 
-node-kept : (p : List ℕ) (m n f v : ℕ) → InPool p m → InPool (setWord p n f v) m
+pub node-kept : (p : List ℕ) (m n f v : ℕ) → InPool p m → InPool (setWord p n f v) m
 node-kept p m n f v h = record { low = h .low; high = rw length-setWord (h .high) }
 
 -- a word of a node that is not in the list

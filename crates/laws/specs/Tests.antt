@@ -25,7 +25,7 @@ pub right-length : (p : List ℕ) → lengthRight p ≡ true → length p < pool
 unfolding lengthRight
 right-length p h =
     let a = eqb (length p % nodeWords) 0 && leb leastNodes (nodes p) in
-    let capacity = leb-true (nodes p) mostNodes (and-right a (leb (nodes p) mostNodes) h) in
+    let bound = leb-true (nodes p) mostNodes (and-right a (leb (nodes p) mostNodes) h) in
     let whole = eqb-true (length p % nodeWords) 0 (and-left (eqb (length p % nodeWords) 0) (leb leastNodes (nodes p)) (and-left a (leb (nodes p) mostNodes) h)) in
     omega arith
 

@@ -2,7 +2,6 @@
 use mathlib.Core.Path.{_≡_, refl}
 use mathlib.Core.Bool.{Bool, true, false, not, _&&_}
 use borrow.Author.Tests.{eq-eqb, ne-eqb}
-use lib.Dec.{eqb}
 use Prim.Native.Nat.{ℕ}
 use Rattle.spec.specs.Register.{State}
 use Rattle.spec.specs.Free.{queueEmpty}

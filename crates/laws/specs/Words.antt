@@ -5,7 +5,7 @@ use mathlib.Core.Bool.{true, cond, _&&_}
 use mathlib.Core.Logic.{_≢_, _⊎_, inl, inr}
 use lib.Dec.{eqb, leb, ltb}
 use lib.ListN.{length, getD, set, length-set}
-use lib.Seq.{getD-set-same, getD-set-other, set-set}
+use lib.Seq.{getD-set-same, getD-set-other}
 use borrow.Author.Tests.{eq-eqb, ne-eqb, leb-true, ltb-true}
 use native.Mathlib.Decide.{ℕ-discrete}
 use native.Mathlib.Omega.{arith}
@@ -73,13 +73,4 @@ word-set p n m f g v hn hp hf hg =
             | no d ↦ rw (ne-eqb f g d, eq-eqb n m e) (word-other p n m f g v (ltb-true f _ hf) (ltb-true g _ hg) (inr d))
             | yes i ↦ rw (eq-eqb n m e, eq-eqb f g i, sym e, sym i) (word-same p n f v (omega (arith, leb-true)) (ltb-true f _ hf))
           ]
-    ]
-
--- a word set twice
-pub set-twice : (p : List ℕ) (n f v w : ℕ) → setWord (setWord p n f v) n f w ≡ setWord p n f w
-set-twice p n f v w =
-    elim (ℕ-discrete n 0) [
-      | yes e ↦ rw (e, set-none p f v)
-      | no d ↦
-          rw (set-at p n f v (omega arith), set-at (set p (place n f) v) n f w (omega arith), set-at p n f w (omega arith)) (set-set p (place n f) v w)
     ]

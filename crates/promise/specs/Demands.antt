@@ -17,7 +17,7 @@ use Rattle.sequential.specs.Tree.{Colour, red, black, Tree, leaf, node}
 use Rattle.sequential.specs.Delete.{changedBy}
 use Rattle.base.specs.Lists.{_∈_, Distinct}
 use Rattle.spec.specs.Numbers.{slots, mostStores}
-use Rattle.spec.specs.Pool.{word, child, nodes, keyWord, recordWord, colourWord, standingWord, standingFree, blackColour, redColour}
+use Rattle.spec.specs.Pool.{word, child, nodes, keyWord, recordAt, colourWord, standingWord, standingFree, blackColour, redColour}
 use Rattle.spec.specs.Register.{State, state, withReader, readerOf, storeOf, hasSlot, readingAt}
 use Rattle.spec.specs.Turn.{profile}
 use Rattle.spec.specs.Calls.{Answer, go, absent, found, more, done, wait, refused, Outcome, Call, writing, call, reading, writeInHand, readerStep}
@@ -107,7 +107,7 @@ Stands p a leaf = a ≡ 0
 Stands p a (node c k v l r) =
     (1 ≤ a) × (a ≤ nodes p)
     × (word p a keyWord ≡ k)
-    × (word p a recordWord ≡ v)
+    × (recordAt p a ≡ v)
     × (word p a colourWord ≡ colourNumber c)
     × Stands p (child p L a) l
     × Stands p (child p R a) r
@@ -146,13 +146,13 @@ pub record NeverMet (S : Start) (cs : List Call) : Type 0 where
   pub steps : (j : ℕ) (c : Call) → ¬ (Gives S cs j c (refused 12))
   pub lent : (j : ℕ) (c : Call) → ¬ (Gives S cs j c (refused 1))
 
--- What holds of every list of calls from a start; for which starts: theorem `promise-from` (crate joined).
+-- What holds of every list of calls from a start; for which starts: `promise-from` (crate theorem).
 pub record PromiseFrom (S : Start) (cs : List Call) : Type 0 where
   pub demand2 : Demand2 S cs
   pub demand3 : Demand3 S cs
   pub never : NeverMet S cs
 
--- What theorem `promise` (crate joined) says of every N from 8 to 1,023 and every list of calls: they start on a pool of N nodes just set up,
--- with no ticket and the tree `leaf`.
+-- What `promise` (crate theorem) says of every N from 8 to 1,023 and every list of calls: they start on a pool of N nodes just set up, with
+-- no ticket and the tree `leaf`.
 abbrev pub Promise : ℕ → List Call → Type 0
 Promise N cs = PromiseFrom (justSetUp N) cs

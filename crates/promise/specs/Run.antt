@@ -22,7 +22,7 @@ pub record Start : Type 0 where
 abbrev pub justSetUp : ℕ → Start
 justSetUp N = record { size = N; index = fresh N; tree = leaf; tickets = [] }
 
--- Pool and register as the calls leave them, and the plain list, which hears of each call only its arguments, whether it was refused,
+-- Pool and register as the calls leave them, and the plain list, which is fed of each call only its arguments, whether it was refused,
 -- and of a writer's turn whether it answered wait.
 pub record Moment : Type 0 where
   pub index : State

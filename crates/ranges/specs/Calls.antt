@@ -143,8 +143,10 @@ load-fits capacity st s n h (atNode a b e) = rw e (child-fits capacity (st .pool
 
 pub ranged-next : (capacity : ℕ) (st : State) (c : Call) (o : Outcome) → CallCase st c o → Ranged capacity st → Ranged capacity (o .after)
 ranged-next capacity st c o (refuses d x) h = h
-ranged-next capacity st c o (plansInsert k v e) h = ranged-plan capacity st (insertAt st k v (placeOf st k)) (h .within) (insert-at capacity st k v (h .within) (placeOf st k) (place-ok capacity st k (h .within)))
-ranged-next capacity st c o (plansDelete k e) h = ranged-plan capacity st (deleteAt st (placeOf st k)) (h .within) (delete-at capacity st (h .within) (placeOf st k) (place-ok capacity st k (h .within)))
+ranged-next capacity st c o (plansInsert k v e) h =
+    ranged-plan capacity st (insertAt st k v (placeOf st k)) (h .within) (insert-at capacity st k v (h .within) (placeOf st k) (place-ok capacity st k (h .within)))
+ranged-next capacity st c o (plansDelete k e) h =
+    ranged-plan capacity st (deleteAt st (placeOf st k)) (h .within) (delete-at capacity st (h .within) (placeOf st k) (place-ok capacity st k (h .within)))
 ranged-next capacity st c o (waits d) h = h
 ranged-next capacity st c o (stores a w f) h = ranged-store capacity st (storeOf (st .register) 0 .link) (storeOf (st .register) 0 .step) h f
 ranged-next capacity st c o (begins s k u e) h = ranged-reader capacity st s _ (omega arith) h

@@ -31,7 +31,7 @@ use Rattle.laws.specs.Slots.{drop-le}
 use Rattle.readers.specs.Marks.{reading-below}
 use Rattle.readers.specs.Words.{fill-length}
 
--- word f may be v, with N = top
+-- word f may be v; the capacity is N
 pub record Fit (capacity f v : ℕ) : Type 0 where
   pub left : f ≡ leftWord → v ≤ capacity
   pub right : f ≡ rightWord → v ≤ capacity
@@ -173,7 +173,8 @@ within-free capacity st n hn h =
     let a = setWord p n standingWord standingFree in
     let b = setWord a n holdersWord 0 in
     let d = setWord b (st .register .last) nextWord n in
-    let fb : Fits capacity b = fits-set capacity a n holdersWord 0 (omega arith) (fit-zero capacity holdersWord) (fits-set capacity p n standingWord standingFree (omega arith) (fit-zero capacity standingWord) (h .fits)) in
+    let fb : Fits capacity b
+    = fits-set capacity a n holdersWord 0 (omega arith) (fit-zero capacity holdersWord) (fits-set capacity p n standingWord standingFree (omega arith) (fit-zero capacity standingWord) (h .fits)) in
     let fd : Fits capacity d = fits-set capacity b (st .register .last) nextWord n (omega arith) (fit-next capacity n hn) fb in
     let lb : length b ≡ length p = length-setWord a n holdersWord 0 ∙ length-setWord p n standingWord standingFree in
     let ld : length d ≡ length p = length-setWord b (st .register .last) nextWord n ∙ lb in

@@ -21,7 +21,7 @@ use Rattle.datatypes.specs.declared.Step.{Step}
 use Rattle.datatypes.specs.declared.Step.the-variants.{Vacant, Insert, DiagLower, DiagRaise, ZigLowerA, ZigLowerC, ZigRaise, Unlink, Adopt, Replace, Publish, Detach}
 use Rattle.datatypes.specs.declared.Write.{Write}
 use Rattle.datatypes.specs.Side.{other}
-use Rattle.spec.specs.Pool.{word, setWord, child, nodes, redColour, keyWord, recordWord, standingWord, holdersWord, standingRetired}
+use Rattle.spec.specs.Pool.{word, setWord, child, nodes, redColour, keyWord, recordAt, standingWord, holdersWord, standingRetired}
 use Rattle.spec.specs.Register.{State, state, noReader, linkNode, setLink, withRoot, withQueue, withHeld, withReader, withAwaited, withWrite, readingSlots, dropSlot}
 use Rattle.spec.specs.Free.{queueEmpty, takeFree, takeNode, freeNode, retire, release, endReading}
 use Rattle.spec.specs.Search.{pathTo}
@@ -136,7 +136,7 @@ publish-hand st l c =
     let r = oneLess base .register in
     let mid = state (base .pool) (withWrite (withAwaited r (readingSlots r)) (movedWrite b n (r .write))) in
     hand-retire mid b ∙ ap (movedWrite b n) (hand-link (copyNode st c L (child p L b) (child p R b) (colourOf st b)) l n
-    ∙ hand-take st (word p c keyWord) (word p c recordWord) L (child p L b) (child p R b) (colourOf st b))
+    ∙ hand-take st (word p c keyWord) (recordAt p c) L (child p L b) (child p R b) (colourOf st b))
 
 module _ (capacity : ℕ) (st : State) (h : Within capacity st) (w : WriteOk capacity (st .register .write)) where
   same : (x : Write) → x ≡ st .register .write → WriteOk capacity x

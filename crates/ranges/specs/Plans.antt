@@ -24,12 +24,13 @@ use Rattle.datatypes.specs.declared.Fixup.{Fixup}
 use Rattle.datatypes.specs.declared.Step.the-variants.{Insert, Unlink, Adopt, Replace, Publish, Detach}
 use Rattle.datatypes.specs.declared.Store.{Store}
 use Rattle.datatypes.specs.Side.{other, linkAt, owner, sideOf}
-use Rattle.spec.specs.Numbers.{pathBound}
+use Rattle.spec.specs.Numbers.{pathBound, mostStores}
 use Rattle.spec.specs.Pool.{word, child, isRed, keyWord}
 use Rattle.spec.specs.Register.{State, nodeAt, linkNode}
 use Rattle.spec.specs.Search.{towards, seek, sameLink, trail, pathTo, leftmost}
 use Rattle.spec.specs.Plan.{fixupResult, insertFixup, fixupAfterInsert, redChild, redSibling, deleteFixup, fixupAfterRemoval, store, turnStores, rotationStores, endingStores, Plan}
 use Rattle.spec.specs.Plan.{plan, insertPlan, twoChildren, onlyChild, successorPath, unlinkPlan, successorPlan, deletePlan}
+use Rattle.heap.specs.Accept.{turn-room}
 use Rattle.ranges.specs.Fits.{Fits, child-fits, Within, node-fits}
 use Rattle.ranges.specs.Writes.{Number, LinkOk, StoresOk, stores-append}
 
@@ -132,9 +133,9 @@ module _ (capacity : ℕ) (p : List ℕ) (fits : Fits capacity p) where
   removal-ok n x path h = cond-both FixupOk (isRed p n) tt (deleteFixup-ok 0 x path h)
 
   -- What an ending plans.
-  rotation-ok : (f : Form) (l : Link) (s : Side) (c : Purpose) → LinkOk capacity l → StoresOk capacity (turnStores f l s c)
-  rotation-ok Diag l s c h = ((h, tt), ((h, tt), tt))
-  rotation-ok Zig l s c h = ((h, tt), ((h, tt), ((h, tt), tt)))
+  rotation-ok : (f : Form) (l : Link) (s : Side) (purpose : Purpose) → LinkOk capacity l → StoresOk capacity (turnStores f l s purpose)
+  rotation-ok Diag l s purpose h = ((h, tt), ((h, tt), tt))
+  rotation-ok Zig l s purpose h = ((h, tt), ((h, tt), ((h, tt), tt)))
 
   pub ending-ok : (e : Ending) → EndingOk e → StoresOk capacity (endingStores e)
   ending-ok Balanced h = tt
@@ -144,16 +145,12 @@ module _ (capacity : ℕ) (p : List ℕ) (fits : Fits capacity p) where
       stores-append capacity (rotationStores t) (rotationStores u) (rotation-ok (t .form) (t .link) (t .side) (t .purpose) (h .0)) (rotation-ok (u .form) (u .link) (u .side) (u .purpose) (h .2))
   ending-ok Missing h = tt
 
-  turn-few : (f : Form) (l : Link) (s : Side) (c : Purpose) → length (turnStores f l s c) ≤ 3
-  turn-few Diag l s c = omega arith
-  turn-few Zig l s c = omega arith
-
   pub ending-few : (e : Ending) → EndingOk e → length (endingStores e) ≤ 5
   ending-few Balanced h = omega arith
   ending-few Blacken h = omega arith
-  ending-few (Rotate t) h = let a = turn-few (t .form) (t .link) (t .side) (t .purpose) in omega arith
+  ending-few (Rotate t) h = let a = turn-room (t .form) (t .link) (t .side) (t .purpose) in omega arith
   ending-few (RotateTwice t u) h =
-      let a = turn-few (u .form) (u .link) (u .side) (u .purpose) in
+      let a = turn-room (u .form) (u .link) (u .side) (u .purpose) in
       let b : length (rotationStores t) ≡ 2 = rw (h .1) in
       let c = length-append (rotationStores t) (rotationStores u) in
       omega arith
@@ -162,7 +159,7 @@ module _ (capacity : ℕ) (p : List ℕ) (fits : Fits capacity p) where
 -- a plan in range
 pub record PlanOk (capacity : ℕ) (w : Plan) : Type 0 where
   pub stores : StoresOk capacity (w .stores)
-  pub few : length (w .stores) ≤ 7
+  pub few : length (w .stores) ≤ mostStores
 
 module _ (capacity : ℕ) (st : State) (h : Within capacity st) where
   abbrev p : List ℕ

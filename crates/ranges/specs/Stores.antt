@@ -23,7 +23,7 @@ use Rattle.spec.specs.Plan.{fixupAfterInsert, paintInsertFixup, paintDeleteLeve
 use Rattle.spec.specs.Turn.{painted, colourOf, oneMore, oneLess, endInsert, insertStore, copyColour, risenColour, copyNode, diagLower, underCopy}
 use Rattle.spec.specs.Turn.{endDiag, diagRaise, zigLowerA, zigLowerC, endZig, zigRaise, stepMade}
 use Rattle.spec.specs.Turn.{unlinkPath, unlinkFixup, unlinkStore, adoptStore, replacePath, replaceFixup, replaceStore, publishStore, detachPath, detachFixup, detachStore}
-use Rattle.heap.specs.ColourWork.{colours-paint, colours-insertFixup, colours-deleteFixup}
+use Rattle.heap.specs.ColourWork.{coloursOnly-paint, coloursOnly-insertFixup, coloursOnly-deleteFixup}
 use Rattle.ranges.specs.Fits.{Fits, child-fits, colour-fits, Within, within-pool, within-take, within-retire, within-retireTwo, within-write}
 use Rattle.ranges.specs.Fits.{within-await, within-link, fits-paint, within-more, within-less, node-fits}
 
@@ -46,7 +46,7 @@ fits-deleteFixup capacity (suc m) [] p h = h
 fits-deleteFixup capacity (suc m) (l ∷ up) p h = fits-deleteFixup capacity m up _ (fits-paint capacity p (child p (other (sideOf l)) (owner l)) redColour (omega arith) h)
 
 within-paint : (capacity : ℕ) (st : State) (n c : ℕ) → c ≤ 1 → Within capacity st → Within capacity (painted st n c)
-within-paint capacity st n c hc h = within-pool capacity st (paint (st .pool) n c) (colours-paint (st .pool) n c .size) (fits-paint capacity (st .pool) n c hc (h .fits)) h
+within-paint capacity st n c hc h = within-pool capacity st (paint (st .pool) n c) (coloursOnly-paint (st .pool) n c .size) (fits-paint capacity (st .pool) n c hc (h .fits)) h
 
 within-ending : (capacity : ℕ) (e : Ending) (st : State) (n : ℕ) → Within capacity st → Within capacity (state (paintEnd e st n) (st .register))
 within-ending capacity Balanced st n h = h
@@ -59,7 +59,7 @@ within-removal : (capacity : ℕ) (st : State) (c : Fixup) (x : ℕ) (path : Lis
 unfolding paintDeleteFixup
 within-removal capacity st c x path h =
     let q = paintDeleteLevels (c .levels) path (st .pool) in
-    let mid = within-pool capacity st q (colours-deleteFixup (c .levels) path (st .pool) .size) (fits-deleteFixup capacity (c .levels) path (st .pool) (h .fits)) h in
+    let mid = within-pool capacity st q (coloursOnly-deleteFixup (c .levels) path (st .pool) .size) (fits-deleteFixup capacity (c .levels) path (st .pool) (h .fits)) h in
     within-ending capacity (c .ending) (state q (st .register)) _ mid
 
 within-insert-end : (capacity : ℕ) (e : Ending) (st : State) → Within capacity st → Within capacity (endInsert e st)
@@ -115,7 +115,7 @@ module _ (capacity : ℕ) (st : State) (h : Within capacity st) where
       let base = setLink (takeNode st k v L 0 0 redColour) l (st .register .first) in
       let linked = oneMore base in
       let a = within-more capacity base (within-link capacity _ l (st .register .first) (h .first) (within-take capacity st k v L 0 0 redColour (omega arith) (omega arith) (omega arith) h)) in
-      within-insert-end capacity (c .ending) _ (within-pool capacity linked (paintInsertFixup (c .levels) path (linked .pool)) (colours-insertFixup (c .levels) path (linked .pool) .size)
+      within-insert-end capacity (c .ending) _ (within-pool capacity linked (paintInsertFixup (c .levels) path (linked .pool)) (coloursOnly-insertFixup (c .levels) path (linked .pool) .size)
       (fits-insertFixup capacity (c .levels) path (linked .pool) (a .fits)) a)
 
   diag-lower-within : (l : Link) (s : Side) (purpose : Purpose) → Within capacity (diagLower st l s purpose .after)
@@ -161,7 +161,8 @@ module _ (capacity : ℕ) (st : State) (h : Within capacity st) where
   unlink-within l =
       let b = linkNode st l in
       let x = onlyChild (st .pool) b in
-      within-retire capacity _ b (node-fits capacity st l h) (within-removal capacity _ (unlinkFixup st l) x (unlinkPath st l) (within-less capacity _ (within-link capacity st l x (only-fits capacity (st .pool) b (h .fits)) h)))
+      within-retire capacity _ b (node-fits capacity st l h)
+      (within-removal capacity _ (unlinkFixup st l) x (unlinkPath st l) (within-less capacity _ (within-link capacity st l x (only-fits capacity (st .pool) b (h .fits)) h)))
 
   adopt-within : (l : Link) → Within capacity (adoptStore st l .after)
   unfolding adoptStore

@@ -1,16 +1,15 @@
 -- An index with no write in hand that passes test 2 is in range, word by word: the other way than `ranged-in`. Used for a run's start.
-use Prim.Native.Nat.{ℕ, zero, _+_}
+use Prim.Native.Nat.{ℕ, _+_}
 use mathlib.Core.Path.{_≡_, subst}
 use mathlib.Core.Bool.{Bool, true, false, _&&_}
 use mathlib.Core.List.{List}
 use native.Mathlib.Omega.{arith}
 use native.Mathlib.Decide.{ℕ-discrete, decLe, decLt}
 use lib.Dec.{leb}
-use lib.ListN.{length, getD}
-use borrow.Author.Tests.{leb-true}
+use lib.ListN.{length}
+use borrow.Author.Tests.{not-false, leb-true}
 use Rattle.base.specs.Lists.{getD-past}
 use Rattle.base.specs.Walk.{allIn, all-in}
-use Rattle.datatypes.specs.declared.Reader.{Reader}
 use Rattle.spec.specs.Numbers.{slots, allSlots, mostStores}
 use Rattle.spec.specs.Pool.{place, word, nodes, leftWord, rightWord, colourWord, standingWord, holdersWord, nodeInRange, poolInRange}
 use Rattle.spec.specs.Register.{State, noReader, noWrite, readerInRange, registerInRange}
@@ -18,7 +17,6 @@ use Rattle.spec.specs.Calls.{outOfRange}
 use Rattle.laws.specs.Words.{word-none, word-at}
 use Rattle.laws.specs.Tests.{and-left, and-right}
 use Rattle.readers.specs.Words.{Whole}
-use Rattle.readers.specs.CallCase.{not-false}
 use Rattle.ranges.specs.Fits.{Fit, Fits, fit-zero}
 use Rattle.ranges.specs.Writes.{write-none}
 use Rattle.ranges.specs.Calls.{Ranged}

@@ -1,22 +1,23 @@
 -- What a call does, case by case: it is refused and changes nothing, or it does one of these, its tests passed.
 use Prim.Native.Nat.{ℕ, _<_}
-use mathlib.Core.Path.{_≡_, refl, sym}
+use mathlib.Core.Path.{_≡_, refl}
 use mathlib.Core.Bool.{Bool, true, false, cond, not, _&&_}
 use mathlib.Core.List.{List, [], _∷_}
 use mathlib.Core.Logic.{_≢_}
 use native.Mathlib.Omega.{arith}
 use native.Mathlib.Decide.{ℕ-discrete}
 use lib.Dec.{eqb}
-use borrow.Author.Tests.{eqb-true, eqb-false, leb-false}
+use borrow.Author.Tests.{not-false, eqb-true, eqb-false, leb-false}
 use Rattle.spec.specs.Numbers.{slots}
-use Rattle.spec.specs.Pool.{word, child, keyWord, recordWord}
+use Rattle.spec.specs.Pool.{word, child, keyWord, recordAt}
 use Rattle.spec.specs.Register.{State, state, readerOf, storeOf, withReader, withWrite, writeOf, begunReader, movedReader}
 use Rattle.spec.specs.Free.{endReading}
 use Rattle.spec.specs.Search.{towards}
 use Rattle.spec.specs.Turn.{stepFinds, stepMade}
-use Rattle.spec.specs.Calls.{ok, go, absent, wait, found, refused, Outcome, outcome, Test, _gives_, firstOf, unless, wrongLength, outOfRange}
-use Rattle.spec.specs.Calls.{insertTests, deleteTests, waiting, firstFinds, writerTests, beginTests, reading, writeInHand, placeOf, insertAt, deleteAt, insert, delete, stored, writerTurn, begin, loaded}
-use Rattle.spec.specs.Calls.{readerStep, readerTests, tooDeep, isHeld, full, fewerFree, readerTurn, giveUp, Call, inserting, deleting, writing}
+use Rattle.spec.specs.Calls.{ok, go, absent, wait, found, refused, Outcome, outcome, Test, _gives_, firstOf, unless}
+use Rattle.spec.specs.Calls.{insertTests, deleteTests, waiting, firstFinds, writerTests, beginTests, reading, writeInHand, placeOf, insertAt, deleteAt}
+use Rattle.spec.specs.Calls.{insert, delete, stored, writerTurn, begin, loaded}
+use Rattle.spec.specs.Calls.{readerStep, readerTests, readerTurn, giveUp, Call, inserting, deleting, writing}
 use Rattle.spec.specs.Calls.{beginning, turning, givingUp, call}
 use Rattle.promise.specs.Run.{Reads}
 use Rattle.readers.specs.Descends.{step-root, step-found, step-child, load-none, load-some}
@@ -55,7 +56,7 @@ pub data CallCase (st : State) : Call → Outcome → Type 0 where
       → CallCase st (turning s) (outcome go (state (st .pool) (withReader (st .register) s (movedReader (readerOf (st .register) s) n))))
   misses : (s n : ℕ) → Passed st s → Loads st s n → n ≡ 0 → CallCase st (turning s) (outcome absent (endReading st s))
   finds : (s : ℕ) → Passed st s → readerOf (st .register) s .node ≢ 0 → readerOf (st .register) s .key ≡ word (st .pool) (readerOf (st .register) s .node) keyWord
-      → CallCase st (turning s) (outcome (found (word (st .pool) (readerOf (st .register) s .node) recordWord)) (endReading st s))
+      → CallCase st (turning s) (outcome (found (recordAt (st .pool) (readerOf (st .register) s .node))) (endReading st s))
   leaves : (s : ℕ) → Passed st s → CallCase st (givingUp s) (outcome ok (endReading st s))
 
 -- a call with tests: refused, or all tests passed
@@ -80,29 +81,26 @@ clear [] h e = tt
 clear ((true gives n) ∷ ts) h e = absurd (h .0 e)
 clear ((false gives n) ∷ ts) h e = (refl, clear ts (h .1) e)
 
-pub not-false : (b : Bool) → not b ≡ false → b ≡ true
-not-false true e = refl
-not-false false e = sym e
-
-load-callCase : (st : State) (s n : ℕ) → Passed st s → Loads st s n → CallCase st (turning s) (loaded st s (readerOf (st .register) s) n)
-load-callCase st s n p l = elim (ℕ-discrete n 0) [
+load-case : (st : State) (s n : ℕ) → Passed st s → Loads st s n → CallCase st (turning s) (loaded st s (readerOf (st .register) s) n)
+load-case st s n p l = elim (ℕ-discrete n 0) [
   | yes e ↦ rw (load-none st s (readerOf (st .register) s) n e) (misses s n p l e)
   | no d ↦ rw (load-some st s (readerOf (st .register) s) n d) (loads s n p l d)
 ]
 
-step-callCase : (st : State) (s : ℕ) → Passed st s → CallCase st (turning s) (readerStep st s)
-step-callCase st s p =
+step-case : (st : State) (s : ℕ) → Passed st s → CallCase st (turning s) (readerStep st s)
+step-case st s p =
     let x = readerOf (st .register) s in
     elim (ℕ-discrete (x .node) 0) [
-      | yes e ↦ rw (step-root st s x refl e) (load-callCase st s (st .register .root) p (atRoot e refl))
+      | yes e ↦ rw (step-root st s x refl e) (load-case st s (st .register .root) p (atRoot e refl))
       | no d ↦ elim (ℕ-discrete (x .key) (word (st .pool) (x .node) keyWord)) [
         | yes e ↦ rw (step-found st s x refl d e) (finds s p d e)
-        | no e ↦ rw (step-child st s x refl d e) (load-callCase st s _ p (atNode d e refl))
+        | no e ↦ rw (step-child st s x refl d e) (load-case st s _ p (atNode d e refl))
       ]
     ]
 
-turn-callCase : (st : State) → firstOf (writerTests st) ≡ 0 → CallCase st writing (cond (waiting st) (outcome wait st) (stored (stepMade st (storeOf (st .register) 0 .link) (storeOf (st .register) 0 .step))))
-turn-callCase st e =
+turn-case : (st : State) → firstOf (writerTests st) ≡ 0
+    → CallCase st writing (cond (waiting st) (outcome wait st) (stored (stepMade st (storeOf (st .register) 0 .link) (storeOf (st .register) 0 .step))))
+turn-case st e =
     let c = clear (writerTests st) (omega arith, (omega arith, (omega arith, (omega arith, tt)))) e in
     go (eqb (st .register .awaited) 0) refl (not-false (writeInHand st) (c .1 .1 .0)) (c .1 .1 .1 .0)
   where
@@ -116,17 +114,17 @@ passed st s e =
     let c = clear (readerTests st s) (omega arith, (omega arith, (omega arith, (omega arith, tt)))) e in
     record { low = leb-false slots s (c .1 .1 .0); reads = not-false (reading st s) (c .1 .1 .1 .0) }
 
-begin-callCase : (st : State) (s k : ℕ) → firstOf (beginTests st s) ≡ 0
+begin-case : (st : State) (s k : ℕ) → firstOf (beginTests st s) ≡ 0
     → CallCase st (beginning s k) (outcome ok (state (st .pool) (withReader (st .register) s (begunReader k))))
-begin-callCase st s k e =
+begin-case st s k e =
     let c = clear (beginTests st s) (omega arith, (omega arith, (omega arith, (omega arith, tt)))) e in
     begins s k (leb-false slots s (c .1 .1 .0)) (c .1 .1 .1 .0)
 
-pub callCase : (st : State) (c : Call) → CallCase st c (call st c)
+pub call-case : (st : State) (c : Call) → CallCase st c (call st c)
 unfolding insert delete writerTurn begin readerTurn giveUp
-callCase st (inserting k v) = tested st (inserting k v) (outcome ok (state (st .pool) (withWrite (st .register) (writeOf (insertAt st k v (placeOf st k) .stores))))) (plansInsert k v)
-callCase st (deleting k) = tested st (deleting k) (outcome ok (state (st .pool) (withWrite (st .register) (writeOf (deleteAt st (placeOf st k) .stores))))) (plansDelete k)
-callCase st writing = tested st writing (cond (waiting st) (outcome wait st) (stored (stepMade st (storeOf (st .register) 0 .link) (storeOf (st .register) 0 .step)))) (turn-callCase st)
-callCase st (beginning s k) = tested st (beginning s k) (outcome ok (state (st .pool) (withReader (st .register) s (begunReader k)))) (begin-callCase st s k)
-callCase st (turning s) = tested st (turning s) (readerStep st s) (λ e. step-callCase st s (passed st s e))
-callCase st (givingUp s) = tested st (givingUp s) (outcome ok (endReading st s)) (λ e. leaves s (passed st s e))
+call-case st (inserting k v) = tested st (inserting k v) (outcome ok (state (st .pool) (withWrite (st .register) (writeOf (insertAt st k v (placeOf st k) .stores))))) (plansInsert k v)
+call-case st (deleting k) = tested st (deleting k) (outcome ok (state (st .pool) (withWrite (st .register) (writeOf (deleteAt st (placeOf st k) .stores))))) (plansDelete k)
+call-case st writing = tested st writing (cond (waiting st) (outcome wait st) (stored (stepMade st (storeOf (st .register) 0 .link) (storeOf (st .register) 0 .step)))) (turn-case st)
+call-case st (beginning s k) = tested st (beginning s k) (outcome ok (state (st .pool) (withReader (st .register) s (begunReader k)))) (begin-case st s k)
+call-case st (turning s) = tested st (turning s) (readerStep st s) (λ e. step-case st s (passed st s e))
+call-case st (givingUp s) = tested st (givingUp s) (outcome ok (endReading st s)) (λ e. leaves s (passed st s e))

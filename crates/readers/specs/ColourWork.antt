@@ -5,22 +5,19 @@ use mathlib.Core.List.{List, [], _∷_}
 use native.Mathlib.Omega.{arith}
 use lib.ListN.{length}
 use Rattle.datatypes.specs.declared.Link.{Link}
-use Rattle.datatypes.specs.declared.Ending.{Ending}
-use Rattle.datatypes.specs.declared.Ending.the-variants.{Balanced, Blacken, Rotate, RotateTwice, Missing}
-use Rattle.spec.specs.Pool.{word, paint, keyWord, recordWord, linkWord, standingWord, holdersWord, nextWord, blackColour}
-use Rattle.spec.specs.Register.{State, state, withHeld}
-use Rattle.spec.specs.Turn.{painted, oneMore, endInsert}
+use Rattle.spec.specs.Pool.{word, keyWord, recordWord, linkWord, standingWord, holdersWord, nextWord}
+use Rattle.spec.specs.Register.{State, state}
 use Rattle.spec.specs.FreeQueue.{Chain}
 use Rattle.laws.specs.Queue.{link-low}
-use Rattle.heap.specs.ColourWork.{ColoursOnly, colours-refl, colours-trans, colours-paint}
+use Rattle.heap.specs.ColourWork.{ColoursOnly}
 use Rattle.readers.specs.Words.{node-length}
 use Rattle.readers.specs.QueueExact.{pool-exact, field-exact}
 use Rattle.readers.specs.Owned.{Owned}
 use Rattle.readers.specs.Stored.{Stored}
 
--- Only colours differ (heap: Tints), and keys held.
+-- Only colours differ (heap: ColourWork), and keys held.
 pub record Recoloured (a b : State) : Type 0 where
-  pub tint : ColoursOnly (a .pool) (b .pool)
+  pub only : ColoursOnly (a .pool) (b .pool)
   pub root : b .register .root ≡ a .register .root
   pub first : b .register .first ≡ a .register .first
   pub last : b .register .last ≡ a .register .last
@@ -28,37 +25,9 @@ pub record Recoloured (a b : State) : Type 0 where
   pub readers : b .register .readers ≡ a .register .readers
   pub awaited : b .register .awaited ≡ a .register .awaited
 
-pub recoloured-trans : {a b c : State} → Recoloured a b → Recoloured b c → Recoloured a c
-recoloured-trans x y = record {
-  tint = colours-trans (x .tint) (y .tint);
-  root = y .root ∙ x .root;
-  first = y .first ∙ x .first;
-  last = y .last ∙ x .last;
-  free = y .free ∙ x .free;
-  readers = y .readers ∙ x .readers;
-  awaited = y .awaited ∙ x .awaited;
-}
-
--- a pool that is tinted, under the same register
+-- another pool that differs in colours alone, under the same register
 pub recoloured-pool : (st : State) (q : List ℕ) → ColoursOnly (st .pool) q → Recoloured st (state q (st .register))
-recoloured-pool st q t = record { tint = t; root = refl; first = refl; last = refl; free = refl; readers = refl; awaited = refl }
-
-pub recoloured-refl : (st : State) → Recoloured st st
-recoloured-refl st = recoloured-pool st (st .pool) (colours-refl (st .pool))
-
-pub recoloured-paint : (st : State) (n c : ℕ) → Recoloured st (painted st n c)
-recoloured-paint st n c = recoloured-pool st (paint (st .pool) n c) (colours-paint (st .pool) n c)
-
-pub recoloured-more : (st : State) → Recoloured st (oneMore st)
-unfolding withHeld
-recoloured-more st = record { tint = colours-refl (st .pool); root = refl; first = refl; last = refl; free = refl; readers = refl; awaited = refl }
-
-pub recoloured-insert : (e : Ending) (st : State) → Recoloured st (endInsert e st)
-recoloured-insert Balanced st = recoloured-paint st (st .register .root) blackColour
-recoloured-insert Blacken st = recoloured-refl st
-recoloured-insert (Rotate t) st = recoloured-refl st
-recoloured-insert (RotateTwice t u) st = recoloured-refl st
-recoloured-insert Missing st = recoloured-refl st
+recoloured-pool st q t = record { only = t; root = refl; first = refl; last = refl; free = refl; readers = refl; awaited = refl }
 
 -- Who has which node stays.
 chain-same : (p q : List ℕ) → length q ≡ length p → ((n : ℕ) → word q n nextWord ≡ word p n nextWord) → (a : ℕ) (l : List ℕ) → Chain p a l → Chain q a l
@@ -72,23 +41,23 @@ own-recoloured a b l t h =
     let r = a .register in
     record {
       exact = field-exact q r (b .register) l (t .first) (t .last) (t .free)
-          (pool-exact p q r l (t .tint .size) (chain-same p q (t .tint .size) (λ n. t .tint .words n nextWord (omega arith) (omega arith)) (r .first) l (h .exact .queued .chain))
-          (λ m hm. rw (t .tint .words m standingWord (omega arith) (omega arith)) (λ z. z, λ z. z)) (h .exact));
-      good = λ n hn. rw (t .readers, t .tint .words n standingWord (omega arith) (omega arith), t .tint .words n holdersWord (omega arith) (omega arith))
-          (h .good n (node-length q p n (sym (t .tint .size)) hn));
+          (pool-exact p q r l (t .only .size) (chain-same p q (t .only .size) (λ n. t .only .words n nextWord (omega arith) (omega arith)) (r .first) l (h .exact .queued .chain))
+          (λ m hm. rw (t .only .words m standingWord (omega arith) (omega arith)) (λ z. z, λ z. z)) (h .exact));
+      good = λ n hn. rw (t .readers, t .only .words n standingWord (omega arith) (omega arith), t .only .words n holdersWord (omega arith) (omega arith))
+          (h .good n (node-length q p n (sym (t .only .size)) hn));
       awaited = rw (t .readers, t .awaited) (h .awaited);
       perSlot = ap length (t .readers) ∙ h .perSlot;
     }
 
 pub stored-recoloured : (st a b : State) (came : List ℕ) (l : Link) (v : ℕ) → Recoloured a b → Stored st a came l v → Stored st b came l v
 stored-recoloured st a b came l v t h = record {
-  size = t .tint .size ∙ h .size;
-  standing = λ n i. t .tint .words n standingWord (omega arith) (omega arith) ∙ h .standing n i;
-  holders = λ n i. t .tint .words n holdersWord (omega arith) (omega arith) ∙ h .holders n i;
-  keys = λ n i. t .tint .words n keyWord (omega arith) (omega arith) ∙ h .keys n i;
-  records = λ n i. t .tint .words n recordWord (omega arith) (omega arith) ∙ h .records n i;
-  links = λ n z i. t .tint .words n (linkWord z) (let u = link-low z in omega arith) (let u = link-low z in omega arith) ∙ h .links n z i;
-  new = λ n i. (let e = h .new n i in (e .0, t .tint .words n standingWord (omega arith) (omega arith) ∙ e .1));
+  size = t .only .size ∙ h .size;
+  standing = λ n i. t .only .words n standingWord (omega arith) (omega arith) ∙ h .standing n i;
+  holders = λ n i. t .only .words n holdersWord (omega arith) (omega arith) ∙ h .holders n i;
+  keys = λ n i. t .only .words n keyWord (omega arith) (omega arith) ∙ h .keys n i;
+  records = λ n i. t .only .words n recordWord (omega arith) (omega arith) ∙ h .records n i;
+  links = λ n z i. t .only .words n (linkWord z) (let u = link-low z in omega arith) (let u = link-low z in omega arith) ∙ h .links n z i;
+  new = λ n i. (let e = h .new n i in (e .0, t .only .words n standingWord (omega arith) (omega arith) ∙ e .1));
   root = t .root ∙ h .root;
   readers = t .readers ∙ h .readers;
   free = let a = h .free in let b = t .free in omega arith;

@@ -13,7 +13,7 @@ use borrow.Author.Tests.{eq-eqb, ne-eqb, lt-ltb, le-ltb}
 use Rattle.datatypes.specs.declared.Side.the-variants.{L}
 use Rattle.datatypes.specs.declared.Reader.{Reader}
 use Rattle.spec.specs.Numbers.{slots}
-use Rattle.spec.specs.Pool.{word, child, keyWord, recordWord}
+use Rattle.spec.specs.Pool.{word, child, keyWord, recordAt}
 use Rattle.spec.specs.Register.{State, state, readerOf, withReader, begunReader, movedReader, readingAt}
 use Rattle.spec.specs.Free.{endReading}
 use Rattle.spec.specs.Search.{towards}
@@ -32,7 +32,7 @@ module _ (st : State) (s : ℕ) (x : Reader) (at : readerOf (st .register) s ≡
   unfolding readerStep
   step-root e = rw (at, e)
 
-  pub step-found : x .node ≢ 0 → x .key ≡ word (st .pool) (x .node) keyWord → readerStep st s ≡ outcome (found (word (st .pool) (x .node) recordWord)) (endReading st s)
+  pub step-found : x .node ≢ 0 → x .key ≡ word (st .pool) (x .node) keyWord → readerStep st s ≡ outcome (found (recordAt (st .pool) (x .node))) (endReading st s)
   unfolding readerStep
   step-found d e = rw (at, ne-eqb (x .node) 0 d, eq-eqb (x .key) (word (st .pool) (x .node) keyWord) e)
 
@@ -50,12 +50,12 @@ load-some st s x n d = rw (ne-eqb n 0 d)
 
 -- At a node that unfolds to t: the key is there with its record, or the child loaded has what t has, and the way is one node shorter.
 pub data Compared (p : List ℕ) (n k : ℕ) (t : Linked) : Type 0 where
-  met : k ≡ word p n keyWord → find t k ≡ some (word p n recordWord) → Compared p n k t
+  met : k ≡ word p n keyWord → find t k ≡ some (recordAt p n) → Compared p n k t
   on : k ≢ word p n keyWord → (u : Linked) → Rep p (child p (towards p k n) n) u → find u k ≡ find t k → path t k ≡ n ∷ path u k → Compared p n k t
 
-pub compared : (p : List ℕ) (n k : ℕ) (t : Linked) → n ≢ 0 → Rep p n t → Compared p n k t
-compared p n k nil d h = absurd (d h)
-compared p n k (cell N l r) d h =
+pub compared-at : (p : List ℕ) (n k : ℕ) (t : Linked) → n ≢ 0 → Rep p n t → Compared p n k t
+compared-at p n k nil d h = absurd (d h)
+compared-at p n k (cell N l r) d h =
     let w = h .0 in
     let key : word p n keyWord ≡ N .key = rw (w .is) (w .key-is) in
     tri-case L k (N .key)
@@ -65,7 +65,7 @@ compared p n k (cell N l r) d h =
 
 -- R1 and R2 go on.
 pub turn-finds : (p : List ℕ) (A : Option ℕ → Type 0) (n k : ℕ) → n ≢ 0 → k ≢ word p n keyWord → Finds p A n k → Finds p A (child p (towards p k n) n) k
-turn-finds p A n k d e f = case (compared p n k (f .tree) d (f .unfolds))
+turn-finds p A n k d e f = case (compared-at p n k (f .tree) d (f .unfolds))
   where
     case : Compared p n k (f .tree) → Finds p A (child p (towards p k n) n) k
     case (met i j) = absurd (e i)
@@ -73,7 +73,7 @@ turn-finds p A n k d e f = case (compared p n k (f .tree) d (f .unfolds))
 
 pub turn-way : (p : List ℕ) (root : ℕ) (seen : List ℕ) (n k : ℕ) → n ≢ 0 → k ≢ word p n keyWord → OnWay p root seen n k
     → OnWay p root (seen ++ n ∷ []) (child p (towards p k n) n) k
-turn-way p root seen n k d e w = case (compared p n k (w .tree) d (w .unfolds))
+turn-way p root seen n k d e w = case (compared-at p n k (w .tree) d (w .unfolds))
   where
     case : Compared p n k (w .tree) → OnWay p root (seen ++ n ∷ []) (child p (towards p k n) n) k
     case (met i j) = absurd (e i)
@@ -86,10 +86,10 @@ turn-way p root seen n k d e w = case (compared p n k (w .tree) d (w .unfolds))
     }
 
 -- The answer is right: one of those possible so far.
-pub turn-found : (p : List ℕ) (A : Option ℕ → Type 0) (n k : ℕ) → n ≢ 0 → k ≡ word p n keyWord → Finds p A n k → A (some (word p n recordWord))
-turn-found p A n k d e f = case (compared p n k (f .tree) d (f .unfolds))
+pub turn-found : (p : List ℕ) (A : Option ℕ → Type 0) (n k : ℕ) → n ≢ 0 → k ≡ word p n keyWord → Finds p A n k → A (some (recordAt p n))
+turn-found p A n k d e f = case (compared-at p n k (f .tree) d (f .unfolds))
   where
-    case : Compared p n k (f .tree) → A (some (word p n recordWord))
+    case : Compared p n k (f .tree) → A (some (recordAt p n))
     case (met i j) = subst A j (f .answer)
     case (on i u r a b) = absurd (i e)
 
@@ -128,7 +128,7 @@ module _ (st : State) (k : ℕ) (perSlot : length (st .register .readers) ≡ sl
       let p = st .pool in
       let w = h .0 in
       let key : word p n keyWord ≡ N .key = rw (w .is) (w .key-is) in
-      let val : word p n recordWord ≡ N .val = rw (w .is) (w .val-is) in
+      let val : recordAt p n ≡ N .val = rw (w .is) (w .val-is) in
       let step : k ≢ word p n keyWord → turnAt st k n ≡ loaded (posed n) 0 (readingAt k n) (child p (towards p k n) n) = λ e. step-child (posed n) 0 (readingAt k n) (there n) d e in
       let left : ltb k (word p n keyWord) ≡ true → Rep p (child p (towards p k n) n) l = λ e. rw (e, w .is) (h .1) in
       let right : ltb k (word p n keyWord) ≡ false → Rep p (child p (towards p k n) n) r = λ e. rw (e, w .is) (h .2) in

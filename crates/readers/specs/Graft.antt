@@ -9,7 +9,7 @@ use lib.ListN.{length}
 use borrow.Author.Tests.{ne-eqb}
 use Rattle.datatypes.specs.declared.Side.{Side}
 use Rattle.datatypes.specs.declared.Side.the-variants.{L, R}
-use Rattle.spec.specs.Pool.{word, child, keyWord, recordWord}
+use Rattle.spec.specs.Pool.{word, child, keyWord, recordAt}
 use Rattle.tree.specs.Linked.{Linked, nil, cell}
 use Rattle.tree.specs.Graft.{hits, graft, All, Keyed}
 use Rattle.heap.specs.Rep.{Rep}
@@ -18,7 +18,7 @@ use Rattle.heap.specs.Rep.{Rep}
 pub record Redirects (p q : List ℕ) (U : ℕ → Type 0) (d : ℕ) (s : Side) (b : ℕ) : Type 0 where
   pub size : length q ≡ length p
   pub keys : (n : ℕ) → U n → word q n keyWord ≡ word p n keyWord
-  pub records : (n : ℕ) → U n → word q n recordWord ≡ word p n recordWord
+  pub records : (n : ℕ) → U n → recordAt q n ≡ recordAt p n
   pub links : (n : ℕ) (z : Side) → U n → child q z n ≡ cond (hits d s n z) b (child p z n)
 
 module _ (p q : List ℕ) (U : ℕ → Type 0) (d : ℕ) (s : Side) (b : ℕ) (tb : Linked) (h : Redirects p q U d s b) (hb : Rep q b tb) where
@@ -40,9 +40,9 @@ module _ (p q : List ℕ) (U : ℕ → Type 0) (d : ℕ) (s : Side) (b : ℕ) (t
   )
 
 -- with no node's link redirected (0 is no node) the trees are the same
-pub rep-leavesTree : (p q : List ℕ) (U : ℕ → Type 0) → Redirects p q U 0 L 0 → (t : Linked) (a : ℕ) → All U t → Rep p a t → Rep q a t
-rep-leavesTree p q U h nil a u r = r
-rep-leavesTree p q U h (cell N l r) a u w =
+pub rep-same : (p q : List ℕ) (U : ℕ → Type 0) → Redirects p q U 0 L 0 → (t : Linked) (a : ℕ) → All U t → Rep p a t → Rep q a t
+rep-same p q U h nil a u r = r
+rep-same p q U h (cell N l r) a u w =
     let z = ne-eqb 0 (N .num) (let x = w .0 .within .low in omega arith) in (
       record {
         is = w .0 .is;
@@ -50,8 +50,8 @@ rep-leavesTree p q U h (cell N l r) a u w =
         key-is = h .keys (N .num) (u .0) ∙ w .0 .key-is;
         val-is = h .records (N .num) (u .0) ∙ w .0 .val-is;
       },
-      rw (h .links (N .num) L (u .0), z) (rep-leavesTree p q U h l _ (u .1) (w .1)),
-      rw (h .links (N .num) R (u .0)) (rep-leavesTree p q U h r _ (u .2) (w .2)),
+      rw (h .links (N .num) L (u .0), z) (rep-same p q U h l _ (u .1) (w .1)),
+      rw (h .links (N .num) R (u .0)) (rep-same p q U h r _ (u .2) (w .2)),
     )
 
 -- every occurrence of d has the pool's key

@@ -13,6 +13,5 @@ pub mod Once
 pub mod Stored
 pub mod ColourWork
 pub mod Turns
-pub mod Steps
 pub mod CallCase
 pub mod Safe

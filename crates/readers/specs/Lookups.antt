@@ -18,7 +18,7 @@ use Rattle.tree.specs.Linked.{Linked, find, path}
 use Rattle.tree.specs.Graft.{graft, All, all-path, Keyed, Passes, apart, through, passes}
 use Rattle.heap.specs.Rep.{Rep, rep-unique}
 use Rattle.readers.specs.Thinner.{thin-members, thin-end, thin-cut, path-once, once-there}
-use Rattle.readers.specs.Graft.{Redirects, rep-leavesTree, rep-graft, rep-keyed}
+use Rattle.readers.specs.Graft.{Redirects, rep-same, rep-graft, rep-keyed}
 
 -- R2 of trees: t where the lookup is, T the whole tree; P are the nodes that are linked no longer
 abbrev pub Follows : (ℕ → Type 0) → List ℕ → Linked → Linked → ℕ → Type 0
@@ -103,8 +103,8 @@ module _ {p q : List ℕ} {U : ℕ → Type 0} {d : ℕ} {s : Side} {b root : �
   store-finds A A′ more n k seen now f u w =
       let t = f .tree in
       let same : w .tree ≡ t = rep-unique p (w .tree) t n n refl (w .unfolds) (f .unfolds) in
-      let capacity : w .whole ≡ T = rep-unique p (w .whole) T root root refl (w .rooted) (h .before) in
-      let way : Follows (Unlinked p) seen t T k = rw (same, capacity) at (w .follows) in
+      let same-whole : w .whole ≡ T = rep-unique p (w .whole) T root root refl (w .rooted) (h .before) in
+      let way : Follows (Unlinked p) seen t T k = rw (same, same-whole) at (w .follows) in
       let key = word p d keyWord in
       let case = find-after d s key (h .below) t T k seen (Unlinked p) (λ x. x (h .linked)) (rep-keyed p d t n (f .unfolds)) (rep-keyed p d T root (h .before)) way in
       record {
@@ -118,8 +118,8 @@ module _ {p q : List ℕ} {U : ℕ → Type 0} {d : ℕ} {s : Side} {b root : �
       → (w : OnWay p root seen n k) → All U (w .tree) → OnWay q root seen n k
   store-way n k seen gone usable thins w u =
       let t = w .tree in
-      let capacity : w .whole ≡ T = rep-unique p (w .whole) T root root refl (w .rooted) (h .before) in
-      let way : Follows (Unlinked p) seen t T k = rw capacity at (w .follows) in
+      let same-whole : w .whole ≡ T = rep-unique p (w .whole) T root root refl (w .rooted) (h .before) in
+      let way : Follows (Unlinked p) seen t T k = rw same-whole at (w .follows) in
       let key = word p d keyWord in
       let member : (m : ℕ) → m ∈ (seen ++ path t k) → U m = λ m i. ⊎-elim (usable m) (all-path U t k m u) (in-append m seen (path t k) .0 i) in
       record {
@@ -138,23 +138,23 @@ pub record Anew (p q : List ℕ) (U : ℕ → Type 0) (root root′ : ℕ) (T T�
   pub after : Rep q root′ T′
 
 module _ {p q : List ℕ} {U : ℕ → Type 0} {root root′ : ℕ} {T T′ : Linked} (h : Anew p q U root root′ T T′) where
-  pub unfolds-leavesTree : (t : Linked) (n : ℕ) → All U t → Rep p n t → Rep q n t
-  unfolds-leavesTree t n u r = rep-leavesTree p q U (h .words) t n u r
+  pub unfolds-same : (t : Linked) (n : ℕ) → All U t → Rep p n t → Rep q n t
+  unfolds-same t n u r = rep-same p q U (h .words) t n u r
 
   pub anew-finds : (A A′ : Option ℕ → Type 0) → ((o : Option ℕ) → A o → A′ o) → (n k : ℕ) → (f : Finds p A n k) → All U (f .tree) → Finds q A′ n k
-  anew-finds A A′ more n k f u = record { tree = f .tree; unfolds = unfolds-leavesTree (f .tree) n u (f .unfolds); answer = more _ (f .answer) }
+  anew-finds A A′ more n k f u = record { tree = f .tree; unfolds = unfolds-same (f .tree) n u (f .unfolds); answer = more _ (f .answer) }
 
   pub anew-way : (n k : ℕ) (seen : List ℕ) → ((m : ℕ) → U m → Unlinked p m → Unlinked q m) → ((m : ℕ) → m ∈ seen → U m) → Thin (Unlinked q) (path T k) (path T′ k)
       → (w : OnWay p root seen n k) → All U (w .tree) → OnWay q root′ seen n k
   anew-way n k seen gone usable thins w u =
       let t = w .tree in
-      let capacity : w .whole ≡ T = rep-unique p (w .whole) T root root refl (w .rooted) (h .before) in
-      let way : Follows (Unlinked p) seen t T k = rw capacity at (w .follows) in
+      let same-whole : w .whole ≡ T = rep-unique p (w .whole) T root root refl (w .rooted) (h .before) in
+      let way : Follows (Unlinked p) seen t T k = rw same-whole at (w .follows) in
       let member : (m : ℕ) → m ∈ (seen ++ path t k) → U m = λ m i. ⊎-elim (usable m) (all-path U t k m u) (in-append m seen (path t k) .0 i) in
       record {
         tree = t;
         whole = T′;
-        unfolds = unfolds-leavesTree t n u (w .unfolds);
+        unfolds = unfolds-same t n u (w .unfolds);
         rooted = h .after;
         follows = thin-trans (thin-members (λ m i. gone m (member m i)) way) thins;
       }

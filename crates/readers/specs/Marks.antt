@@ -8,7 +8,7 @@ use native.Mathlib.Omega.{arith}
 use native.Mathlib.Nat.{div-eq-of-lt}
 use lib.Pow.{pow-pos}
 use borrow.Author.Tests.{ne-eqb}
-use lib.ListN.{length, set}
+use lib.ListN.{length}
 use lib.Seq.{getD-set-same, getD-set-other}
 use Rattle.base.specs.Walk.{foldFrom, foldIn}
 use Rattle.datatypes.specs.declared.Reader.{Reader}

@@ -1,4 +1,4 @@
--- The fate of each node in what a turn of the writer is made of: a node taken and filled, a link stored, colours, one or two nodes retired.
+-- What becomes of each node in what a turn of the writer is made of: a node taken and filled, a link stored, colours, one or two nodes retired.
 use Prim.Native.Nat.{ℕ, _<_, _≤_}
 use mathlib.Core.Path.{_≡_, sym, ap, _∙_, subst}
 use mathlib.Core.Bool.{true, cond, false≢true}
@@ -11,7 +11,6 @@ use lib.ListN.{length}
 use borrow.Author.Tests.{ne-eqb, lt-ltb, le-ltb}
 use Rattle.base.specs.Walk.{cond-both}
 use Rattle.datatypes.specs.declared.Side.{Side}
-use Rattle.datatypes.specs.declared.Side.the-variants.{L, R}
 use Rattle.spec.specs.Numbers.{slots}
 use Rattle.spec.specs.Pool.{word, child, nodes, standingWord, holdersWord, standingFree, standingLinked, standingRetired}
 use Rattle.spec.specs.Register.{State, hasSlot, readingSlots, countUp, withQueue}
@@ -19,8 +18,9 @@ use Rattle.spec.specs.Free.{retire, retireTwo}
 use Rattle.spec.specs.FreeQueue.{InPool}
 use Rattle.promise.specs.Run.{Reads}
 use Rattle.heap.specs.Fill.{retire-quiet}
+use Rattle.laws.specs.Freed.{free-length}
 use Rattle.readers.specs.Marks.{reading-bit, none-reading}
-use Rattle.readers.specs.Words.{Whole, stands-node, node-length, free-length, free-other, free-standing, free-register, retire-none}
+use Rattle.readers.specs.Words.{Whole, stands-node, node-length, free-other, free-standing, free-register, retire-none}
 use Rattle.readers.specs.Words.{retire-some, marked-length, marked-other, marked-standing, marked-holders}
 use Rattle.readers.specs.Owned.{readingIn, Owned, own-retire}
 use Rattle.readers.specs.Reach.{HasStanding, NodeChange, comes, rests, goes}
@@ -113,7 +113,8 @@ retireTwo-free st a c =
     cond-both {A = State} (λ s. st .register .free ≤ s .register .free) (eqb a c) (retire-free st a) (let i = retire-free st x in let j = retire-free (retire st x) y in omega arith)
 
 -- Two nodes retired by one call.
-module _ (st : State) (x y : ℕ) (apart : x ≢ y) (hx : InPool (st .pool) x) (hy : InPool (st .pool) y) (ex : HasStanding (st .pool) x standingLinked) (ey : HasStanding (st .pool) y standingLinked) where
+module _ (st : State) (x y : ℕ) (apart : x ≢ y) (hx : InPool (st .pool) x) (hy : InPool (st .pool) y)
+    (ex : HasStanding (st .pool) x standingLinked) (ey : HasStanding (st .pool) y standingLinked) where
   abbrev once : State
   once = retire st x
 
@@ -141,7 +142,8 @@ module _ (st : State) (x y : ℕ) (apart : x ≢ y) (hx : InPool (st .pool) x) (
   pair-owned : (l : List ℕ) → Owned st l → (l′ : List ℕ) × Owned (retire once y) l′
   pair-owned l h = (_, own-retire once _ y (own-retire st l x h hx (omega arith)) there (let e = second in omega arith))
 
-module _ (st : State) (a c : ℕ) (apart : a ≢ c) (ha : InPool (st .pool) a) (hc : InPool (st .pool) c) (ea : HasStanding (st .pool) a standingLinked) (ec : HasStanding (st .pool) c standingLinked) where
+module _ (st : State) (a c : ℕ) (apart : a ≢ c) (ha : InPool (st .pool) a) (hc : InPool (st .pool) c)
+    (ea : HasStanding (st .pool) a standingLinked) (ec : HasStanding (st .pool) c standingLinked) where
   pub retireTwo-retires : (n : ℕ) → Retires (st .pool) (retireTwo st a c .pool) (Reads st) n
   unfolding retireTwo
   retireTwo-retires n = rw (ne-eqb a c apart) (elim (decLt a c) [

@@ -14,8 +14,8 @@ use Rattle.tree.specs.Graft.{graft, All, all-path, Keyed, Passes, apart, throug
 use Rattle.heap.specs.Rep.{Rep, rep-unique}
 use Rattle.readers.specs.Thinner.{thin-cut, path-once, once-there}
 use Rattle.readers.specs.Graft.{rep-keyed}
-use Rattle.readers.specs.Lookups.{Follows, Unlinked, OnWay, Store, new, whole-after, unfolds-after, Anew, unfolds-leavesTree}
-use Rattle.readers.specs.Descends.{Compared, met, on, compared}
+use Rattle.readers.specs.Lookups.{Follows, Unlinked, OnWay, Store, new, whole-after, unfolds-after, Anew, unfolds-same}
+use Rattle.readers.specs.Descends.{Compared, met, on, compared-at}
 
 -- two lists in one
 pub distinct-append : (xs ys : List ℕ) → Distinct (xs ++ ys) ↔ (Distinct xs × Distinct ys × ((n : ℕ) → n ∈ xs → ¬ (n ∈ ys)))
@@ -72,7 +72,7 @@ seen-none p n k t r = path-once p t n k r
 
 -- a turn: the node has been compared, and its child is loaded
 pub seen-turn : (p seen : List ℕ) (n k : ℕ) (t : Linked) → n ≢ 0 → k ≢ word p n keyWord → Rep p n t → SeenOnce p seen n k → SeenOnce p (seen ++ n ∷ []) (child p (towards p k n) n) k
-seen-turn p seen n k t d e r h u i = go (compared p n k t d r)
+seen-turn p seen n k t d e r h u i = go (compared-at p n k t d r)
   where
     go : Compared p n k t → Distinct ((seen ++ n ∷ []) ++ path u k)
     go (met a b) = absurd (e a)
@@ -87,8 +87,8 @@ module _ {p q : List ℕ} {U : ℕ → Type 0} {d : ℕ} {s : Side} {b root : �
       → ((m : ℕ) → m ∈ nodes T′ → word q m standingWord ≡ standingLinked) → (w : OnWay p root seen n k) → All U (w .tree) → SeenOnce p seen n k → SeenOnce q seen n k
   seen-store n k seen gone usable linked w u old t′ r =
       let t = w .tree in
-      let capacity : w .whole ≡ T = rep-unique p (w .whole) T root root refl (w .rooted) (h .before) in
-      let way : Follows (Unlinked p) seen t T k = rw capacity at (w .follows) in
+      let same-whole : w .whole ≡ T = rep-unique p (w .whole) T root root refl (w .rooted) (h .before) in
+      let way : Follows (Unlinked p) seen t T k = rw same-whole at (w .follows) in
       let now : new h t ≡ t′ = rep-unique q (new h t) t′ n n refl (unfolds-after h n t u (w .unfolds)) r in
       let member : (m : ℕ) → m ∈ (seen ++ path t k) → U m = λ m i. ⊎-elim (usable m) (all-path U t k m u) (in-append m seen (path t k) .0 i) in
       let whole = whole-after h in
@@ -100,4 +100,4 @@ module _ {p q : List ℕ} {U : ℕ → Type 0} {d : ℕ} {s : Side} {b root : �
 -- a store of the root link changes no node's tree
 module _ {p q : List ℕ} {U : ℕ → Type 0} {root root′ : ℕ} {T T′ : Linked} (h : Anew p q U root root′ T T′) where
   pub seen-anew : (n k : ℕ) (seen : List ℕ) (t : Linked) → Rep p n t → All U t → SeenOnce p seen n k → SeenOnce q seen n k
-  seen-anew n k seen t r u old t′ i = subst (λ x. Distinct (seen ++ path x k)) (rep-unique q t t′ n n refl (unfolds-leavesTree h t n u r) i) (old t r)
+  seen-anew n k seen t r u old t′ i = subst (λ x. Distinct (seen ++ path x k)) (rep-unique q t t′ n n refl (unfolds-same h t n u r) i) (old t r)

@@ -21,12 +21,13 @@ use Rattle.spec.specs.Free.{fillNode, takeFree, takeNode, freeNode, retire, end
 use Rattle.spec.specs.FreeQueue.{InPool}
 use Rattle.laws.specs.Words.{length-setWord, word-other}
 use Rattle.laws.specs.Slots.{drop-same, drop-other, drop-le}
+use Rattle.laws.specs.Freed.{free-length}
 use Rattle.readers.specs.Marks.{reading-bit, reading-below}
-use Rattle.readers.specs.Words.{node-length, node-high, free-length, free-other, free-standing, free-holders, retire-none, retire-some, marked}
+use Rattle.readers.specs.Words.{node-length, node-high, free-other, free-standing, free-holders, retire-none, retire-some, marked}
 use Rattle.readers.specs.Words.{marked-length, marked-other, marked-standing, marked-holders, fill-length, fill-other, fill-standing}
 use Rattle.readers.specs.Words.{fill-holders}
 use Rattle.readers.specs.QueueExact.{QueueExact, free-exact, take-exact, mark-exact, word-exact, field-exact}
-use Rattle.readers.specs.Release.{else-free, retired, freedBelow, end-released}
+use Rattle.readers.specs.Release.{else-free, freedBelow, end-released}
 
 abbrev pub readingIn : List Reader → ℕ → Bool
 readingIn xs s = getD xs s noReader .reading

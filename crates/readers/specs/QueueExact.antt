@@ -1,4 +1,4 @@
--- The stock of free nodes: the queue holds just the nodes standing free, once each, and the free count is their number.
+-- The free queue is exact: it holds just the nodes standing free, once each, and the free count is their number.
 -- Kept by take, free, a node marked retired, and every word and field that is none of the queue's.
 use Prim.Native.Nat.{ℕ, _+_, _-_, _<_}
 use mathlib.Core.Path.{_≡_, refl, sym, ap, _∙_}
@@ -17,7 +17,8 @@ use Rattle.spec.specs.Free.{takeFree, fillNode, takeNode, freeNode}
 use Rattle.spec.specs.FreeQueue.{InPool, Chain, Queue}
 use Rattle.laws.specs.Words.{length-setWord, word-other}
 use Rattle.laws.specs.Queue.{chain-word, take-queue, free-queue}
-use Rattle.readers.specs.Words.{node-length, node-high, free-length, free-other, free-standing, free-register, marked, marked-length}
+use Rattle.laws.specs.Freed.{free-length}
+use Rattle.readers.specs.Words.{node-length, node-high, free-other, free-standing, free-register, marked, marked-length}
 use Rattle.readers.specs.Words.{marked-other, marked-standing, fill-length, fill-other, fill-standing}
 
 -- one more at the end

@@ -1,6 +1,6 @@
 -- What a slot can reach is kept for it: each child of a linked node is linked; each child of a retired node is linked, or retired with at
 -- least the same holders. So from a node that is linked, or retired with the slot's bit, links lead to such nodes alone.
--- Kept by the end of a reading, and by any store that is described by the fate of each node.
+-- Kept by the end of a reading, and by any store of which it is known what becomes of each node (`NodeChange`).
 use Prim.Native.Nat.{ℕ, _+_, _<_}
 use mathlib.Core.Path.{_≡_, sym, _∙_, subst}
 use mathlib.Core.Bool.{Bool, true, false, cond, false≢true}

@@ -18,8 +18,9 @@ use Rattle.spec.specs.Free.{freeNode, release, endReading}
 use Rattle.spec.specs.FreeQueue.{InPool}
 use Rattle.laws.specs.Words.{length-setWord, word-none, word-same, word-other}
 use Rattle.laws.specs.Queue.{chain-word}
+use Rattle.laws.specs.Freed.{free-length}
 use Rattle.readers.specs.Marks.{walk}
-use Rattle.readers.specs.Words.{node-length, node-in, free-length, free-words, free-other, free-standing, free-holders, free-register}
+use Rattle.readers.specs.Words.{node-length, node-in, free-words, free-other, free-standing, free-holders, free-register}
 use Rattle.readers.specs.QueueExact.{QueueExact, free-exact, pool-exact, field-exact}
 
 -- two registers equal but for the queue

@@ -1,5 +1,5 @@
 -- A link store of the writer before anything is retired: a node may have been taken and filled, one link is stored, colours may change.
--- What every word of the other nodes is then; no node is lost.
+-- What every word of the other nodes is then; no node goes missing.
 use Prim.Native.Nat.{ℕ, _+_, _<_, _≤_}
 use mathlib.Core.Path.{_≡_, refl, sym, ap, _∙_, subst}
 use mathlib.Core.Bool.{Bool, true, false, cond}
@@ -16,7 +16,7 @@ use Rattle.datatypes.specs.declared.Link.the-variants.{Root, Left, Right}
 use Rattle.datatypes.specs.declared.Register.{Register}
 use Rattle.datatypes.specs.Side.{sameSide}
 use Rattle.spec.specs.Numbers.{nodeWords}
-use Rattle.spec.specs.Pool.{word, setWord, child, keyWord, recordWord, leftWord, rightWord, linkWord, colourWord, standingWord, holdersWord, standingFree, standingLinked}
+use Rattle.spec.specs.Pool.{word, setWord, child, keyWord, recordAt, recordWord, leftWord, rightWord, linkWord, colourWord, standingWord, holdersWord, standingFree, standingLinked}
 use Rattle.spec.specs.Register.{State, state, withRoot, withQueue, setLink}
 use Rattle.spec.specs.Free.{takeFree, takeNode}
 use Rattle.base.specs.Lists.{_∈_}
@@ -52,7 +52,7 @@ pub record Stored (st mid : State) (came : List ℕ) (l : Link) (v : ℕ) : Type
   pub standing : (n : ℕ) → ¬ (n ∈ came) → word (mid .pool) n standingWord ≡ word (st .pool) n standingWord
   pub holders : (n : ℕ) → ¬ (n ∈ came) → word (mid .pool) n holdersWord ≡ word (st .pool) n holdersWord
   pub keys : (n : ℕ) → ¬ (n ∈ came) → word (mid .pool) n keyWord ≡ word (st .pool) n keyWord
-  pub records : (n : ℕ) → ¬ (n ∈ came) → word (mid .pool) n recordWord ≡ word (st .pool) n recordWord
+  pub records : (n : ℕ) → ¬ (n ∈ came) → recordAt (mid .pool) n ≡ recordAt (st .pool) n
   pub links : (n : ℕ) (z : Side) → ¬ (n ∈ came) → child (mid .pool) z n ≡ cond (hitsLink l n z) v (child (st .pool) z n)
   pub new : (n : ℕ) → n ∈ came → HasStanding (st .pool) n standingFree × HasStanding (mid .pool) n standingLinked
   pub root : mid .register .root ≡ rootAfter l v (st .register .root)

@@ -1,5 +1,5 @@
--- A turn of the writer as readers meet it: one link stored, perhaps a node that came, perhaps nodes that went and are retired. The fate of
--- each node, which nodes are linked afterwards, and the words that lookups go by.
+-- A turn of the writer as readers meet it: one link stored, perhaps a node that came, perhaps nodes that went and are retired. What
+-- becomes of each node, which nodes are linked afterwards, and the words that lookups go by.
 use Prim.Native.Nat.{ℕ, _+_, _≤_}
 use mathlib.Core.Path.{_≡_, refl, sym, _∙_, subst}
 use mathlib.Core.Bool.{true, false, cond}
@@ -15,7 +15,7 @@ use Rattle.datatypes.specs.declared.Link.{Link}
 use Rattle.datatypes.specs.declared.Link.the-variants.{Root, Left, Right}
 use Rattle.datatypes.specs.declared.Write.{Write}
 use Rattle.datatypes.specs.Side.{owner}
-use Rattle.spec.specs.Pool.{word, child, linkWord, keyWord, recordWord, standingWord, holdersWord, standingFree, standingLinked, standingRetired}
+use Rattle.spec.specs.Pool.{word, child, linkWord, keyWord, recordAt, recordWord, standingWord, holdersWord, standingFree, standingLinked, standingRetired}
 use Rattle.spec.specs.Register.{State, state, withWrite}
 use Rattle.spec.specs.Free.{retire, retireTwo}
 use Rattle.base.specs.Lists.{_∈_}
@@ -49,7 +49,7 @@ pub record Turn (st after : State) (came gone : List ℕ) (l : Link) (v : ℕ) :
   pub linked : (n : ℕ) → HasStanding (after .pool) n standingLinked ↔ ((HasStanding (st .pool) n standingLinked ⊎ (n ∈ came)) × (¬ (n ∈ gone)))
   pub new : (n : ℕ) → n ∈ came → HasStanding (st .pool) n standingFree
   pub keys : (n : ℕ) → ¬ (n ∈ came) → word (after .pool) n keyWord ≡ word (st .pool) n keyWord
-  pub records : (n : ℕ) → ¬ (n ∈ came) → word (after .pool) n recordWord ≡ word (st .pool) n recordWord
+  pub records : (n : ℕ) → ¬ (n ∈ came) → recordAt (after .pool) n ≡ recordAt (st .pool) n
   pub links : (n : ℕ) (z : Side) → ¬ (n ∈ came) → child (after .pool) z n ≡ cond (hitsLink l n z) v (child (st .pool) z n)
   pub root : after .register .root ≡ rootAfter l v (st .register .root)
   pub readers : after .register .readers ≡ st .register .readers
@@ -70,21 +70,21 @@ owner-linked p Root n z o d e = z (sym e)
 owner-linked p (Left m) n z o d e = d (subst (λ i. HasStanding p i standingLinked) e o)
 owner-linked p (Right m) n z o d e = d (subst (λ i. HasStanding p i standingLinked) e o)
 
+-- who came was free: a linked node did not come
+linked-stays : {st mid : State} {came : List ℕ} {l : Link} {v : ℕ} → Stored st mid came l v → (n : ℕ) → HasStanding (st .pool) n standingLinked → ¬ (n ∈ came)
+linked-stays s n e i = let z = s .new n i .0 in absurd (omega arith)
+
 -- What was stored, then the nodes of `gone` retired.
 module _ (st mid after : State) (q came gone : List ℕ) (l : Link) (v : ℕ) (w : Whole (st .pool)) (o : OwnerLinked (st .pool) l) (h : Owned st q) (s : Stored st mid came l v)
     (quiet : Quiet mid after) (each : (n : ℕ) → Retires (mid .pool) (after .pool) (Reads mid) n)
-    (carriedOut : (n : ℕ) → n ∈ gone → HasStanding (st .pool) n standingLinked × (owner l ≢ n) × (word (after .pool) n standingWord ≢ standingLinked))
+    (was-linked : (n : ℕ) → n ∈ gone → HasStanding (st .pool) n standingLinked × (owner l ≢ n) × (word (after .pool) n standingWord ≢ standingLinked))
     (kept : (n : ℕ) → ¬ (n ∈ gone) → word (after .pool) n standingWord ≡ word (mid .pool) n standingWord)
     (grows : mid .register .free ≤ after .register .free) (l′ : List ℕ) (owned : Owned after l′) where
-  -- who came was free, who went was linked
-  not-both : (n : ℕ) → HasStanding (st .pool) n standingLinked → ¬ (n ∈ came)
-  not-both n e i = let z = s .new n i .0 in absurd (omega arith)
-
   same-link : (n : ℕ) (z : Side) → child (after .pool) z n ≡ child (mid .pool) z n
   same-link n z = quiet .words .words n (linkWord z) (let u = link-low z in omega arith)
 
-  leavesTree : (n : ℕ) (z : Side) → ¬ (n ∈ came) → owner l ≢ n → child (after .pool) z n ≡ child (st .pool) z n
-  leavesTree n z i d = same-link n z ∙ s .links n z i ∙ rw (not-hit l n z d)
+  links-stay : (n : ℕ) (z : Side) → ¬ (n ∈ came) → owner l ≢ n → child (after .pool) z n ≡ child (st .pool) z n
+  links-stay n z i d = same-link n z ∙ s .links n z i ∙ rw (not-hit l n z d)
 
   change-of : (n : ℕ) → NodeChange (st .pool) (after .pool) (Reads st) n
   change-of n = go (each n) (in-dec n gone) (in-dec n came)
@@ -94,7 +94,7 @@ module _ (st mid after : State) (q came gone : List ℕ) (l : Link) (v : ℕ) (w
       plain i a b = change-same (st .pool) (after .pool) (Reads st) n (ranked st q w h n) (a ∙ s .standing n i)
           (λ e. (
             b ∙ s .holders n i,
-            λ z. leavesTree n z i (owner-linked (st .pool) l n
+            λ z. links-stay n z i (owner-linked (st .pool) l n
                 (λ x. let y = subst (λ m. HasStanding (st .pool) m standingRetired) x e in let k = word-none (st .pool) standingWord in omega arith) o (λ x. let y = x in omega arith)),
           ))
 
@@ -103,23 +103,23 @@ module _ (st mid after : State) (q came gone : List ℕ) (l : Link) (v : ℕ) (w
       go (stays a b) g (no i) = plain i a b
       go (out a b bits) (no j) c = absurd (let z = kept n j in omega arith)
       go (out a b bits) (yes j) c =
-          let e = carriedOut n j in
-          leaves (e .0) b (λ t u r. bits t u (subst (λ xs. readingIn xs t ≡ true) (sym (s .readers)) r)) (λ z. leavesTree n z (not-both n (e .0)) (e .1))
+          let e = was-linked n j in
+          leaves (e .0) b (λ t u r. bits t u (subst (λ xs. readingIn xs t ≡ true) (sym (s .readers)) r)) (λ z. links-stay n z (linked-stays s n (e .0)) (e .1))
       go (off a b none) (no j) c = absurd (let z = kept n j in omega arith)
       go (off a b none) (yes j) c =
-          let e = carriedOut n j .0 in
+          let e = was-linked n j .0 in
           goes (omega arith) b (λ _ t u r. none t u (subst (λ xs. readingIn xs t ≡ true) (sym (s .readers)) r))
 
   linked-of : (n : ℕ) → HasStanding (after .pool) n standingLinked ↔ ((HasStanding (st .pool) n standingLinked ⊎ (n ∈ came)) × (¬ (n ∈ gone)))
   linked-of n = (there (in-dec n gone) (in-dec n came), λ x. back (x .1) (x .0))
     where
       there : Dec (n ∈ gone) → Dec (n ∈ came) → HasStanding (after .pool) n standingLinked → (HasStanding (st .pool) n standingLinked ⊎ (n ∈ came)) × (¬ (n ∈ gone))
-      there (yes j) c e = absurd (carriedOut n j .2 e)
+      there (yes j) c e = absurd (was-linked n j .2 e)
       there (no j) (yes i) e = (inr i, j)
       there (no j) (no i) e = (inl (sym (s .standing n i) ∙ sym (kept n j) ∙ e), j)
 
       back : ¬ (n ∈ gone) → HasStanding (st .pool) n standingLinked ⊎ (n ∈ came) → HasStanding (after .pool) n standingLinked
-      back j (inl e) = kept n j ∙ s .standing n (not-both n e) ∙ e
+      back j (inl e) = kept n j ∙ s .standing n (linked-stays s n e) ∙ e
       back j (inr i) = kept n j ∙ s .new n i .1
 
   turn-of : Turn st after came gone l v
@@ -139,11 +139,8 @@ module _ (st mid after : State) (q came gone : List ℕ) (l : Link) (v : ℕ) (w
   }
 
 module _ (st mid : State) (q came : List ℕ) (l : Link) (v : ℕ) (w : Whole (st .pool)) (o : OwnerLinked (st .pool) l) (h : Owned st q) (s : Stored st mid came l v) where
-  out-of-came : (n : ℕ) → HasStanding (st .pool) n standingLinked → ¬ (n ∈ came)
-  out-of-came n e i = let z = s .new n i .0 in absurd (omega arith)
-
   linked-mid : (n : ℕ) → HasStanding (st .pool) n standingLinked → HasStanding (mid .pool) n standingLinked
-  linked-mid n e = s .standing n (out-of-came n e) ∙ e
+  linked-mid n e = s .standing n (linked-stays s n e) ∙ e
 
   node-mid : (n : ℕ) → HasStanding (st .pool) n standingLinked → InPool (mid .pool) n
   node-mid n e = let i = linked-mid n e in stands-node (mid .pool) n standingWord (whole-length (st .pool) (mid .pool) (s .size) w) (omega arith) (omega arith)

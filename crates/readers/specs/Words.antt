@@ -6,7 +6,7 @@ use mathlib.Core.List.{List}
 use mathlib.Core.Logic.{_≢_, inl, inr}
 use native.Mathlib.Omega.{arith}
 use native.Mathlib.Decide.{ℕ-discrete, decLe}
-use lib.ListN.{length, getD}
+use lib.ListN.{length}
 use borrow.Author.Tests.{eq-eqb, ne-eqb}
 use Rattle.base.specs.Lists.{getD-past}
 use Rattle.datatypes.specs.declared.Side.{Side}
@@ -16,10 +16,7 @@ use Rattle.spec.specs.Register.{State, state, withQueue, countUp, readingSlots}
 use Rattle.spec.specs.Free.{queueEmpty, fillNode, freeNode, retire}
 use Rattle.spec.specs.FreeQueue.{InPool}
 use Rattle.laws.specs.Words.{length-setWord, word-none, word-at, word-same, word-other}
-use Rattle.laws.specs.Queue.{fill-keeps-any}
-
-pub node-set : (p : List ℕ) (m n f v : ℕ) → InPool p m → InPool (setWord p n f v) m
-node-set p m n f v h = record { low = h .low; high = rw length-setWord (h .high) }
+use Rattle.laws.specs.Queue.{fill-keeps-any, node-kept}
 
 pub node-length : (p q : List ℕ) (m : ℕ) → length q ≡ length p → InPool p m → InPool q m
 node-length p q m e h = record { low = h .low; high = rw e (h .high) }
@@ -52,10 +49,6 @@ perhaps : (b : Bool) (q : List ℕ) (d m f v : ℕ) → f < nextWord → word (c
 perhaps true q d m f v h = refl
 perhaps false q d m f v h = word-other q d m nextWord f v (omega arith) (omega arith) (inr (omega arith))
 
-perhaps-length : (b : Bool) (q : List ℕ) (d v : ℕ) → length (cond b q (setWord q d nextWord v)) ≡ length q
-perhaps-length true q d v = refl
-perhaps-length false q d v = length-setWord q d nextWord v
-
 -- Free.
 module _ (st : State) (n : ℕ) where
   abbrev stood : List ℕ
@@ -63,14 +56,6 @@ module _ (st : State) (n : ℕ) where
 
   abbrev empty : List ℕ
   empty = setWord stood n holdersWord 0
-
-  pub free-length : length (freeNode st n .pool) ≡ length (st .pool)
-  unfolding freeNode
-  free-length =
-      length-setWord _ n nextWord 0
-      ∙ perhaps-length (queueEmpty st) empty (st .register .last) n
-      ∙ length-setWord stood n holdersWord 0
-      ∙ length-setWord (st .pool) n standingWord standingFree
 
   -- but for next free, what is there is what the two other words were set to
   low-words : (m f : ℕ) → f < nextWord → word (freeNode st n .pool) m f ≡ word empty m f
@@ -96,7 +81,7 @@ module _ (st : State) (n : ℕ) where
       ∙ word-same (st .pool) n standingWord standingFree h (omega arith)
 
   pub free-holders : InPool (st .pool) n → word (freeNode st n .pool) n holdersWord ≡ 0
-  free-holders h = low-words n holdersWord (omega arith) ∙ word-same stood n holdersWord 0 (node-set (st .pool) n n standingWord standingFree h) (omega arith)
+  free-holders h = low-words n holdersWord (omega arith) ∙ word-same stood n holdersWord 0 (node-kept (st .pool) n n standingWord standingFree h) (omega arith)
 
   pub free-register : freeNode st n .register ≡ withQueue (st .register) (cond (queueEmpty st) n (st .register .first)) n (countUp (nodes (st .pool)) (st .register .free))
   unfolding freeNode
@@ -128,7 +113,7 @@ module _ (p : List ℕ) (n a b : ℕ) where
   marked-standing h = word-other _ n n holdersWord standingWord b (omega arith) (omega arith) (inr (omega arith)) ∙ word-same p n standingWord a h (omega arith)
 
   pub marked-holders : InPool p n → word marked n holdersWord ≡ b
-  marked-holders h = word-same _ n holdersWord b (node-set p n n standingWord a h) (omega arith)
+  marked-holders h = word-same _ n holdersWord b (node-kept p n n standingWord a h) (omega arith)
 
 -- Take: the first node is filled, no other word changes.
 module _ (p : List ℕ) (n k v : ℕ) (s : Side) (x y c : ℕ) where
@@ -151,7 +136,3 @@ module _ (p : List ℕ) (n k v : ℕ) (s : Side) (x y c : ℕ) where
   fill-holders h =
       word-other _ n n nextWord holdersWord 0 (omega arith) (omega arith) (inr (omega arith))
       ∙ word-same _ n holdersWord 0 (node-length p _ n (simp length-setWord) h) (omega arith)
-
-  pub fill-next : InPool p n → word (fillNode p n k v s x y c) n nextWord ≡ 0
-  unfolding fillNode
-  fill-next h = word-same _ n nextWord 0 (node-length p _ n (simp length-setWord) h) (omega arith)

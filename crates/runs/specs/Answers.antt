@@ -10,7 +10,7 @@ use native.Mathlib.Decide.{ℕ-discrete}
 use lib.ListN.{length, getD}
 use Rattle.datatypes.specs.declared.Write.{Write}
 use Rattle.spec.specs.Numbers.{slots}
-use Rattle.spec.specs.Pool.{word, child, keyWord, recordWord}
+use Rattle.spec.specs.Pool.{word, child, keyWord, recordAt}
 use Rattle.spec.specs.Register.{State, state, noReader, readerOf, withReader, withWrite, begunReader}
 use Rattle.spec.specs.Free.{endReading}
 use Rattle.spec.specs.Search.{towards}
@@ -143,7 +143,7 @@ module _ (W : State → Plain → Linked → Type 0) (writer : Writer W) where
       let z = ap recordOf a in
       let d′ = subst (λ m. readerOf (st .register) m .node ≢ 0) y d in
       let f′ = subst (λ m. readerOf (st .register) m .key ≡ word (st .pool) (readerOf (st .register) m .node) keyWord) y f in
-      let z′ = subst (λ m. word (st .pool) (readerOf (st .register) m .node) recordWord ≡ v) y z in
+      let z′ = subst (λ m. recordAt (st .pool) (readerOf (st .register) m .node) ≡ v) y z in
       subst (λ w. A (some w)) z′ (turn-found (st .pool) A (readerOf (st .register) s .node) k d′ (sym (g .key) ∙ f′) (g .finds d′))
   found-right st x c o A s k v (leaves t p) h (e, a) g = absurd (let z = ap toldOf a in omega arith)
 

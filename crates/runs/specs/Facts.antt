@@ -12,7 +12,7 @@ use native.Mathlib.Decide.{ℕ-discrete}
 use Rattle.base.specs.Lists.{_∈_, in-append}
 use Rattle.datatypes.specs.declared.Link.{Link}
 use Rattle.spec.specs.Numbers.{slots}
-use Rattle.spec.specs.Pool.{word, keyWord, recordWord, standingWord, holdersWord, standingFree, standingLinked, standingRetired}
+use Rattle.spec.specs.Pool.{word, keyWord, recordAt, recordWord, standingWord, holdersWord, standingFree, standingLinked, standingRetired}
 use Rattle.spec.specs.Register.{State, hasSlot, dropSlot}
 use Rattle.spec.specs.Free.{endReading}
 use Rattle.spec.specs.Calls.{ok, Outcome, reading, Call, beginning, call}
@@ -27,7 +27,7 @@ use Rattle.readers.specs.Release.{end-released}
 use Rattle.readers.specs.Reach.{HasStanding, Kept, retired-end, NodeChange, comes, leaves, rests, goes}
 use Rattle.readers.specs.Turns.{Turn}
 use Rattle.readers.specs.CallCase as CallCase
-use Rattle.readers.specs.CallCase.{CallCase, callCase, refuses, plansInsert, plansDelete, waits, stores, begins, loads, misses, finds}
+use Rattle.readers.specs.CallCase.{CallCase, call-case, refuses, plansInsert, plansDelete, waits, stores, begins, loads, misses, finds}
 use Rattle.readers.specs.Safe.{Safe}
 use Rattle.runs.specs.Writer.{Writer, afterStore}
 use Rattle.runs.specs.Sound.{Sound, Starts}
@@ -37,10 +37,10 @@ use Rattle.runs.specs.Theorem.{by-call, sound-at, shorter}
 
 -- node m's ticket, as the index has it after j calls, is in the plain list after t calls
 abbrev pub TicketAt : Start → List Call → ℕ → ℕ → ℕ → Type 0
-TicketAt S cs j m t = recordFor (word (indexAfter S cs j .pool) m keyWord) (ticketsAfter S cs t) ≡ some (word (indexAfter S cs j .pool) m recordWord)
+TicketAt S cs j m t = recordFor (word (indexAfter S cs j .pool) m keyWord) (ticketsAfter S cs t) ≡ some (recordAt (indexAfter S cs j .pool) m)
 
 -- a fact of every node's ticket, at a node of the pool's tree
-tickets-in : (Q : ℕ → ℕ → Type 0) (p : List ℕ) (T : Linked) (a n : ℕ) → Rep p a T → Tickets Q T → n ∈ nodes T → Q (word p n keyWord) (word p n recordWord)
+tickets-in : (Q : ℕ → ℕ → Type 0) (p : List ℕ) (T : Linked) (a n : ℕ) → Rep p a T → Tickets Q T → n ∈ nodes T → Q (word p n keyWord) (recordAt p n)
 tickets-in Q p nil a n r h i = absurd i
 tickets-in Q p (cell N x y) a n r h (inl e) = rw (e, r .0 .key-is, r .0 .val-is) (h .0)
 tickets-in Q p (cell N x y) a n r h (inr i) =
@@ -50,7 +50,7 @@ tickets-in Q p (cell N x y) a n r h (inr i) =
 record Was (p q : List ℕ) (s m : ℕ) : Type 0 where
   kept : Kept p s m
   key : word q m keyWord ≡ word p m keyWord
-  value : word q m recordWord ≡ word p m recordWord
+  value : recordAt q m ≡ recordAt p m
 
 abbrev Held : List ℕ → ℕ → ℕ → Type 0
 Held p s m = HasStanding p m standingRetired × (hasSlot (word p m holdersWord) s ≡ true)
@@ -137,22 +137,22 @@ module _ (W : State → Plain → Linked → Type 0) (writer : Writer W) (S : St
   abbrev Once : ℕ → ℕ → ℕ → Type 0
   Once i j m = (t : ℕ) × (i < t) × (t ≤ j) × TicketAt S cs j m t
 
-  moved : (i j m : ℕ) (q : List ℕ) → word q m keyWord ≡ word (at j .pool) m keyWord → word q m recordWord ≡ word (at j .pool) m recordWord → Once i j m
-      → (t : ℕ) × (i < t) × (t ≤ suc j) × (recordFor (word q m keyWord) (ticketsAfter S cs t) ≡ some (word q m recordWord))
+  moved : (i j m : ℕ) (q : List ℕ) → word q m keyWord ≡ word (at j .pool) m keyWord → recordAt q m ≡ recordAt (at j .pool) m → Once i j m
+      → (t : ℕ) × (i < t) × (t ≤ suc j) × (recordFor (word q m keyWord) (ticketsAfter S cs t) ≡ some (recordAt q m))
   moved i j m q a b h = (h .0, h .1, (let z = h .2 in omega arith), rw (a, b) (h .3))
 
   held-perhaps : (s m i j : ℕ) (c : Option Call) → callAt cs j ≡ c → (Kept (at j .pool) s m → Once i j m) → Held (thenPerhaps (after S cs j) c .index .pool) s m
       → (t : ℕ) × (i < t) × (t ≤ suc j)
-      × (recordFor (word (thenPerhaps (after S cs j) c .index .pool) m keyWord) (ticketsAfter S cs t) ≡ some (word (thenPerhaps (after S cs j) c .index .pool) m recordWord))
+      × (recordFor (word (thenPerhaps (after S cs j) c .index .pool) m keyWord) (ticketsAfter S cs t) ≡ some (recordAt (thenPerhaps (after S cs j) c .index .pool) m))
   held-perhaps s m i j none e f h = moved i j m (at j .pool) refl refl (f (inr h))
   held-perhaps s m i j (some c) e f h =
-      let w = held-before W writer (at j) (plainAfter S cs j) c (call (at j) c) (callCase (at j) c) (sound-at W writer S starts cs j) s m h in
+      let w = held-before W writer (at j) (plainAfter S cs j) c (call (at j) c) (call-case (at j) c) (sound-at W writer S starts cs j) s m h in
       moved i j m (call (at j) c .after .pool) (w .key) (w .value) (f (w .kept))
 
   begun-perhaps : (s k m i : ℕ) (c : Option Call) → callAt cs i ≡ c → Begins S cs s k i → ¬ (Held (thenPerhaps (after S cs i) c .index .pool) s m)
   begun-perhaps s k m i none e g h = let z : _≡_ {A = ℕ} 0 1 = (let x = sym e ∙ g .0 in cc) in omega arith
   begun-perhaps s k m i (some c) e g h =
-      begun-none (at i) c (call (at i) c) s k m (callCase (at i) c) (sound-at W writer S starts cs i .safe) (by-call S cs i c (beginning s k) ok e g) h
+      begun-none (at i) c (call (at i) c) s k m (call-case (at i) c) (sound-at W writer S starts cs i .safe) (by-call S cs i c (beginning s k) ok e g) h
 
   pub kept-ticket : (s k i j m : ℕ) → Reading S cs s k i j → Kept (at j .pool) s m → (t : ℕ) × (i < t) × (t ≤ j) × TicketAt S cs j m t
   unfolding after

@@ -14,7 +14,7 @@ use Rattle.spec.specs.Pool.{standingLinked}
 use Rattle.spec.specs.Register.{State, state, noReader, readerOf, storeOf, withReader, withAwaited, withWrite, hasSlot, dropSlot, movedReader, readingAt}
 use Rattle.spec.specs.Free.{endReading}
 use Rattle.spec.specs.Turn.{stepMade}
-use Rattle.spec.specs.Calls.{Answer, ok, go, absent, found, Outcome, reading, Call, beginning, turning, givingUp}
+use Rattle.spec.specs.Calls.{Answer, ok, absent, found, Outcome, Call, beginning, turning, givingUp}
 use Rattle.spec.specs.PlainList.{Plain, recordFor, noticeOf, feed, storeMade}
 use Rattle.laws.specs.Slots.{drop-other}
 use Rattle.promise.specs.Run.{Reads}
@@ -29,7 +29,7 @@ use Rattle.readers.specs.Lookups.{Unlinked, Finds, OnWay}
 use Rattle.readers.specs.Once.{SeenOnce, seen-none}
 use Rattle.readers.specs.Safe.{Safe, end-reader}
 use Rattle.runs.specs.Writer.{Stores, Writer, afterStore}
-use Rattle.runs.specs.Sound.{Sound, store-carriedOut}
+use Rattle.runs.specs.Sound.{Sound, store-notice}
 use Rattle.runs.specs.Slot.{Stand, stand-more, stand-root, stand-child, stand-alike, through-store}
 
 -- The call c with the answer a begins a reading of slot s with the key k; is its turn and answers b; ends its reading: Begins, Turns and
@@ -142,7 +142,7 @@ module _ (W : State → Plain → Linked → Type 0) (writer : Writer W) where
   stand-next st x c o (waits d) h A A′ s k u more was now lasts g = stand-more _ _ _ _ A A′ s k more g
   stand-next st x c o (stores a w f) h A A′ s k u more was now lasts g =
       let z = writer .store st x (h .tree) (h .safe) (h .holds) a w f in
-      let carriedOut = store-carriedOut (stepMade st (storeOf (st .register) 0 .link) (storeOf (st .register) 0 .step)) in
+      let carriedOut = store-notice (stepMade st (storeOf (st .register) 0 .link) (storeOf (st .register) 0 .step)) in
       stand-stored st x A A′ s k h (storeMade x (x .inHand)) u more (rw carriedOut at now) a z g
   stand-next st x c o (begins t j v e) h A A′ s k u more was now lasts g =
       stand-other st A′ s t k _ (λ i. false≢true (sym e ∙ subst (λ m. Reads st m) (sym i) (g .reads))) (stand-more _ _ _ _ A A′ s k more g)

@@ -4,16 +4,15 @@ use Prim.Native.Nat.{ℕ, zero, suc, _+_, _%_, _^_, _<_, _≤_}
 use mathlib.Core.Path.{_≡_, refl, sym, ap, _∙_}
 use mathlib.Core.Bool.{Bool, true, false, cond, not, _&&_, false≢true}
 use mathlib.Core.List.{List, [], _∷_}
-use mathlib.Core.Option.{none}
 use mathlib.Core.Logic.{_≢_, _⊎_, inl, inr, ⊎-elim}
 use native.Mathlib.Omega.{arith}
 use native.Mathlib.Decide.{ℕ-discrete}
 use lib.Dec.{eqb}
-use lib.ListN.{length}
-use borrow.Author.Tests.{eqb-true, eqb-false, eq-eqb, le-leb}
+use lib.ListN.{drop, length}
+use borrow.Author.Tests.{not-false, eqb-true, eqb-false, eq-eqb, le-leb}
 use Rattle.datatypes.specs.declared.Link.{Link}
 use Rattle.sequential.specs.Delete.{changedBy}
-use Rattle.spec.specs.Numbers.{nodeWords, leastNodes, mostNodes, slots, mostStores}
+use Rattle.spec.specs.Numbers.{nodeWords, leastNodes, mostNodes, slots, mostStores, freeForInsert, freeForDelete}
 use Rattle.spec.specs.Pool.{word, colourWord, nodes, lengthRight}
 use Rattle.spec.specs.Register.{State, storeOf, hasSlot, withWrite, lessFirst}
 use Rattle.spec.specs.Turn.{Made, stepFinds, stepMade}
@@ -29,9 +28,9 @@ use Rattle.promise.specs.Demands.{Stands}
 use Rattle.readers.specs.Words.{Whole}
 use Rattle.spec.specs.Calls.{insertTests, deleteTests, writerTests, firstFinds, waiting}
 use Rattle.readers.specs.CallCase.{CallCase, refuses, plansInsert, plansDelete, waits, stores, begins, loads, misses, finds, leaves, testsOf}
-use Rattle.readers.specs.CallCase.{Clear, not-false}
+use Rattle.readers.specs.CallCase.{Clear}
 use Rattle.readers.specs.Safe.{Safe}
-use Rattle.runs.specs.Sound.{store-carriedOut}
+use Rattle.runs.specs.Sound.{store-notice}
 use Rattle.runs.specs.Answers.{toldOf}
 
 -- a mask that is not 0 has a slot
@@ -136,27 +135,21 @@ others-avoid : (n : ℕ) (ts : List Test) → Others n ts → Avoids n ts
 others-avoid n [] h = tt
 others-avoid n ((b gives k) ∷ ts) h = (inl (h .0), λ _. others-avoid n ts (h .1))
 
--- the tests after the first n
-abbrev less : ℕ → List Test → List Test
-less zero ts = ts
-less (suc n) [] = []
-less (suc n) (t ∷ ts) = less n ts
-
 pub not-one : (st : State) (c : Call) → wrongLength st ≡ false → firstOf (testsOf st c) ≢ 1
-not-one st (inserting k v) r = avoided 1 (insertTests st k v) (omega arith) (inr r, λ _. others-avoid 1 (less 1 (insertTests st k v)) (omega arith))
-not-one st (deleting k) r = avoided 1 (deleteTests st k) (omega arith) (inr r, λ _. others-avoid 1 (less 1 (deleteTests st k)) (omega arith))
-not-one st writing r = avoided 1 (writerTests st) (omega arith) (inr r, λ _. others-avoid 1 (less 1 (writerTests st)) (omega arith))
-not-one st (beginning s k) r = avoided 1 (beginTests st s) (omega arith) (inr r, λ _. others-avoid 1 (less 1 (beginTests st s)) (omega arith))
-not-one st (turning s) r = avoided 1 (readerTests st s) (omega arith) (inr r, λ _. others-avoid 1 (less 1 (readerTests st s)) (omega arith))
-not-one st (givingUp s) r = avoided 1 (readerTests st s) (omega arith) (inr r, λ _. others-avoid 1 (less 1 (readerTests st s)) (omega arith))
+not-one st (inserting k v) r = avoided 1 (insertTests st k v) (omega arith) (inr r, λ _. others-avoid 1 (drop 1 (insertTests st k v)) (omega arith))
+not-one st (deleting k) r = avoided 1 (deleteTests st k) (omega arith) (inr r, λ _. others-avoid 1 (drop 1 (deleteTests st k)) (omega arith))
+not-one st writing r = avoided 1 (writerTests st) (omega arith) (inr r, λ _. others-avoid 1 (drop 1 (writerTests st)) (omega arith))
+not-one st (beginning s k) r = avoided 1 (beginTests st s) (omega arith) (inr r, λ _. others-avoid 1 (drop 1 (beginTests st s)) (omega arith))
+not-one st (turning s) r = avoided 1 (readerTests st s) (omega arith) (inr r, λ _. others-avoid 1 (drop 1 (readerTests st s)) (omega arith))
+not-one st (givingUp s) r = avoided 1 (readerTests st s) (omega arith) (inr r, λ _. others-avoid 1 (drop 1 (readerTests st s)) (omega arith))
 
 pub not-two : (st : State) (c : Call) → outOfRange st ≡ false → firstOf (testsOf st c) ≢ 2
-not-two st (inserting k v) r = avoided 2 (insertTests st k v) (omega arith) (inl (omega arith), λ _. (inr r, λ _. others-avoid 2 (less 2 (insertTests st k v)) (omega arith)))
-not-two st (deleting k) r = avoided 2 (deleteTests st k) (omega arith) (inl (omega arith), λ _. (inr r, λ _. others-avoid 2 (less 2 (deleteTests st k)) (omega arith)))
-not-two st writing r = avoided 2 (writerTests st) (omega arith) (inl (omega arith), λ _. (inr r, λ _. others-avoid 2 (less 2 (writerTests st)) (omega arith)))
-not-two st (beginning s k) r = avoided 2 (beginTests st s) (omega arith) (inl (omega arith), λ _. (inr r, λ _. others-avoid 2 (less 2 (beginTests st s)) (omega arith)))
-not-two st (turning s) r = avoided 2 (readerTests st s) (omega arith) (inl (omega arith), λ _. (inr r, λ _. others-avoid 2 (less 2 (readerTests st s)) (omega arith)))
-not-two st (givingUp s) r = avoided 2 (readerTests st s) (omega arith) (inl (omega arith), λ _. (inr r, λ _. others-avoid 2 (less 2 (readerTests st s)) (omega arith)))
+not-two st (inserting k v) r = avoided 2 (insertTests st k v) (omega arith) (inl (omega arith), λ _. (inr r, λ _. others-avoid 2 (drop 2 (insertTests st k v)) (omega arith)))
+not-two st (deleting k) r = avoided 2 (deleteTests st k) (omega arith) (inl (omega arith), λ _. (inr r, λ _. others-avoid 2 (drop 2 (deleteTests st k)) (omega arith)))
+not-two st writing r = avoided 2 (writerTests st) (omega arith) (inl (omega arith), λ _. (inr r, λ _. others-avoid 2 (drop 2 (writerTests st)) (omega arith)))
+not-two st (beginning s k) r = avoided 2 (beginTests st s) (omega arith) (inl (omega arith), λ _. (inr r, λ _. others-avoid 2 (drop 2 (beginTests st s)) (omega arith)))
+not-two st (turning s) r = avoided 2 (readerTests st s) (omega arith) (inl (omega arith), λ _. (inr r, λ _. others-avoid 2 (drop 2 (readerTests st s)) (omega arith)))
+not-two st (givingUp s) r = avoided 2 (readerTests st s) (omega arith) (inl (omega arith), λ _. (inr r, λ _. others-avoid 2 (drop 2 (readerTests st s)) (omega arith)))
 
 -- a pool of N nodes has the right length
 pub length-right : (st : State) (N : ℕ) → leastNodes ≤ N → N ≤ mostNodes → Whole (st .pool) → nodes (st .pool) ≡ N → wrongLength st ≡ false
@@ -170,9 +163,9 @@ pub record Completes (W : State → Plain → Linked → Type 0) : Type 0 where
       → Stands (st .pool) (st .register .root) (changedBy (x .started) (acceptedWrites x))
   pub few : (st : State) (x : Plain) (T : Linked) → W st x T → writeInHand st ≡ true → x .made + st .register .write .count ≤ mostStores
   pub insertGoes : (st : State) (x : Plain) (T : Linked) (k v : ℕ) → Safe st → W st x T → writeInHand st ≡ false
-      → (tooDeep (placeOf st k) ≡ false) × (isHeld (placeOf st k) ≡ false → fewerFree st 3 ≡ false → insertAt st k v (placeOf st k) .possible ≡ true)
+      → (tooDeep (placeOf st k) ≡ false) × (isHeld (placeOf st k) ≡ false → fewerFree st freeForInsert ≡ false → insertAt st k v (placeOf st k) .possible ≡ true)
   pub deleteGoes : (st : State) (x : Plain) (T : Linked) (k : ℕ) → Safe st → W st x T → writeInHand st ≡ false
-      → (tooDeep (placeOf st k) ≡ false) × (isHeld (placeOf st k) ≡ true → fewerFree st 4 ≡ false → deleteAt st (placeOf st k) .possible ≡ true)
+      → (tooDeep (placeOf st k) ≡ false) × (isHeld (placeOf st k) ≡ true → fewerFree st freeForDelete ≡ false → deleteAt st (placeOf st k) .possible ≡ true)
   pub stepGoes : (st : State) (x : Plain) (T : Linked) → Safe st → W st x T → st .register .awaited ≡ 0 → writeInHand st ≡ true
       → stepFinds st (storeOf (st .register) 0 .link) (storeOf (st .register) 0 .step) ≡ true
 
@@ -242,7 +235,7 @@ turn-goes st c o (refuses d x) e z = absurd (x e)
 turn-goes st c o (plansInsert j v f) e z = refl
 turn-goes st c o (plansDelete j f) e z = refl
 turn-goes st c o (waits d) e z = absurd (d z)
-turn-goes st c o (stores a w f) e z = store-carriedOut (stepMade st (storeOf (st .register) 0 .link) (storeOf (st .register) 0 .step))
+turn-goes st c o (stores a w f) e z = store-notice (stepMade st (storeOf (st .register) 0 .link) (storeOf (st .register) 0 .step))
 turn-goes st c o (begins t j u f) e z = refl
 turn-goes st c o (loads t n p l f) e z = refl
 turn-goes st c o (misses t n p l f) e z = refl

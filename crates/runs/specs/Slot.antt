@@ -126,8 +126,8 @@ pub all-kept : (p : List ℕ) (s : ℕ) → s < slots → Closed p → (t : Link
 all-kept p s u c nil a h k = tt
 all-kept p s u c (cell N l r) a h k =
     let d : a ≢ 0 = (let i = h .0 .is in let j = h .0 .within .low in omega arith) in
-    let capacity : Kept p s (N .num) = subst (λ n. Kept p s n) (h .0 .is) (k d) in
-    (capacity, all-kept p s u c l _ (h .1) (λ z. kept-child p s (N .num) L u c capacity z), all-kept p s u c r _ (h .2) (λ z. kept-child p s (N .num) R u c capacity z))
+    let kept-top : Kept p s (N .num) = subst (λ n. Kept p s n) (h .0 .is) (k d) in
+    (kept-top, all-kept p s u c l _ (h .1) (λ z. kept-child p s (N .num) L u c kept-top z), all-kept p s u c r _ (h .2) (λ z. kept-child p s (N .num) R u c kept-top z))
 
 abbrev pub NotFree : List ℕ → ℕ → Type 0
 NotFree p n = word p n standingWord ≢ standingFree

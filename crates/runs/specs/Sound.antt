@@ -7,7 +7,6 @@ use mathlib.Core.Logic.{_≢_, inl, _↔_}
 use native.Mathlib.Omega.{arith}
 use lib.ListN.{length-append}
 use lib.Dec.{eqb}
-use Rattle.datatypes.specs.declared.Side.the-variants.{L, R}
 use Rattle.datatypes.specs.declared.Reader.{Reader}
 use Rattle.spec.specs.Numbers.{leastNodes, mostNodes, slots}
 use Rattle.spec.specs.Pool.{child, standingLinked, nodes as poolNodes}
@@ -64,10 +63,10 @@ leavesTree-end st s u h =
       free = omega arith;
     }
 
--- a store is heard as a store
-pub store-carriedOut : (m : Made) → noticeOf (stored m .answer) ≡ carriedOut
+-- the plain list's notice of a store
+pub store-notice : (m : Made) → noticeOf (stored m .answer) ≡ carriedOut
 unfolding stored
-store-carriedOut m = go (eqb (lessFirst (m .after .register .write) .count) 0)
+store-notice m = go (eqb (lessFirst (m .after .register .write) .count) 0)
   where
     go : (b : Bool) → noticeOf (cond b (done (m .link) (m .node)) (more (m .link) (m .node))) ≡ carriedOut
     go true = refl
@@ -99,12 +98,20 @@ module _ (W : State → Plain → Linked → Type 0) (writer : Writer W) where
   sound-next st x c o (waits d) h = h
   sound-next st x c o (stores a w f) h =
       let s = writer .store st x (h .tree) (h .safe) (h .holds) a w f in
-      rw (store-carriedOut (stepMade st (storeOf (st .register) 0 .link) (storeOf (st .register) 0 .step)))
+      rw (store-notice (stepMade st (storeOf (st .register) 0 .link) (storeOf (st .register) 0 .step)))
       (record { safe = safe-store st (afterStore st) _ (h .tree) (h .safe) s; tree = s .tree; holds = s .kept })
   sound-next st x c o (begins s k u e) h =
-      record { safe = safe-reader st s _ u refl (λ d. absurd (d refl)) (h .safe); tree = h .tree; holds = writer .leavesTree st _ x (h .tree) (h .holds) (leavesTree-reader st s _) }
+      record {
+        safe = safe-reader st s _ u refl (λ d. absurd (d refl)) (h .safe);
+        tree = h .tree;
+        holds = writer .leavesTree st _ x (h .tree) (h .holds) (leavesTree-reader st s _);
+      }
   sound-next st x c o (loads s n p l d) h =
-      record { safe = safe-reader st s _ (p .low) refl (λ _. kept-load st s n (h .safe) p l d) (h .safe); tree = h .tree; holds = writer .leavesTree st _ x (h .tree) (h .holds) (leavesTree-reader st s _) }
+      record {
+        safe = safe-reader st s _ (p .low) refl (λ _. kept-load st s n (h .safe) p l d) (h .safe);
+        tree = h .tree;
+        holds = writer .leavesTree st _ x (h .tree) (h .holds) (leavesTree-reader st s _);
+      }
   sound-next st x c o (misses s n p l e) h =
       record { safe = safe-end st s (p .low) (h .safe); tree = h .tree; holds = writer .leavesTree st _ x (h .tree) (h .holds) (leavesTree-end st s (p .low) (h .safe)) }
   sound-next st x c o (finds s p d e) h =

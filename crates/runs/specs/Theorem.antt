@@ -18,7 +18,7 @@ use Rattle.promise.specs.Demands.{AtOneMoment, LookupsRight, Going, answerOf, T
 use Rattle.readers.specs.Reach.{Kept, kept-stands}
 use Rattle.readers.specs.QueueExact.{QueueExact}
 use Rattle.readers.specs.Descends.{going-root}
-use Rattle.readers.specs.CallCase.{callCase}
+use Rattle.readers.specs.CallCase.{call-case}
 use Rattle.readers.specs.Safe.{Safe, safe-reach}
 use Rattle.runs.specs.Writer.{Writer}
 use Rattle.runs.specs.Sound.{Sound, sound-next, Starts}
@@ -53,7 +53,7 @@ module _ (W : State → Plain → Linked → Type 0) (writer : Writer W) (S : St
   -- The invariant holds at each moment.
   sound-perhaps : (m : Moment) (c : Option Call) → Sound W writer (m .index) (m .plain) → Sound W writer (thenPerhaps m c .index) (thenPerhaps m c .plain)
   sound-perhaps m none h = h
-  sound-perhaps m (some c) h = sound-next W writer (m .index) (m .plain) c (call (m .index) c) (callCase (m .index) c) h
+  sound-perhaps m (some c) h = sound-next W writer (m .index) (m .plain) c (call (m .index) c) (call-case (m .index) c) h
 
   pub sound-at : (j : ℕ) → Sound W writer (at j) (list j)
   unfolding after
@@ -85,13 +85,13 @@ module _ (W : State → Plain → Linked → Type 0) (writer : Writer W) (S : St
       → Possible k i (suc j) (recordFor k (thenPerhaps (after S cs j) c .plain .tickets)) → StandAt (thenPerhaps (after S cs j) c .index) (Possible k i (suc j)) s k
   stand-perhaps s k i j none e u low lasts g p = stand-more _ _ _ _ (Possible k i j) (Possible k i (suc j)) s k (later k i j) g
   stand-perhaps s k i j (some c) e u low lasts g p =
-      stand-next W writer (at j) (list j) c (call (at j) c) (callCase (at j) c) (sound-at j) (Possible k i j) (Possible k i (suc j)) s k low (later k i j) (now k i j u) p
+      stand-next W writer (at j) (list j) c (call (at j) c) (call-case (at j) c) (sound-at j) (Possible k i j) (Possible k i (suc j)) s k low (later k i j) (now k i j u) p
       (λ x. lasts (ends-at s j c e x)) g
 
   begin-perhaps : (s k i : ℕ) (c : Option Call) → callAt cs i ≡ c → Gives S cs i (beginning s k) ok → (s < slots) × StandAt (thenPerhaps (after S cs i) c .index) (Possible k i (suc i)) s k
   begin-perhaps s k i none e g = absurd (let z : _≡_ {A = ℕ} 0 1 = (let x = sym e ∙ g .0 in cc) in omega arith)
   begin-perhaps s k i (some c) e g =
-      begun-right (at i) c (call (at i) c) (Possible k i (suc i)) s k (callCase (at i) c) (sound-at i .safe) (by-call S cs i c (beginning s k) ok e g)
+      begun-right (at i) c (call (at i) c) (Possible k i (suc i)) s k (call-case (at i) c) (sound-at i .safe) (by-call S cs i c (beginning s k) ok e g)
 
   pub stands : (s k i j : ℕ) → Reading S cs s k i j → (s < slots) × StandAt (at j) (Possible k i j) s k
   unfolding after
@@ -127,7 +127,7 @@ module _ (W : State → Plain → Linked → Type 0) (writer : Writer W) (S : St
 
   in-perhaps : (s j : ℕ) (c : Option Call) → callAt cs j ≡ c → s < slots → Reads (thenPerhaps (after S cs j) c .index) s → (Reads (at j) s → In s j) → In s (suc j)
   in-perhaps s j none q u e f = let z = f e in (z .0, z .1, longer s (z .0) (z .1) j (z .2) (none-ends s j q))
-  in-perhaps s j (some c) q u e f = go (read-before W writer (at j) (list j) c (call (at j) c) (callCase (at j) c) (sound-at j) s u e)
+  in-perhaps s j (some c) q u e f = go (read-before W writer (at j) (list j) c (call (at j) c) (call-case (at j) c) (sound-at j) s u e)
     where
       go : (Reads (at j) s × (¬ (EndsBy c (call (at j) c .answer) s))) ⊎ ((k : ℕ) × BeginsBy c (call (at j) c .answer) s k) → In s (suc j)
       go (inl x) = let z = f (x .0) in (z .0, z .1, longer s (z .0) (z .1) j (z .2) (λ y. x .1 (ends-by s j c q y)))
@@ -151,11 +151,11 @@ module _ (W : State → Plain → Linked → Type 0) (writer : Writer W) (S : St
   lookups = record {
     whenFound = λ s k i j v l g. (
         let z = stands s k i j l in
-        widen k i j (some v) (found-right W writer (at j) (list j) (turning s) (call (at j) (turning s)) (Possible k i j) s k v (callCase (at j) (turning s)) (sound-at j) (refl, g .1) (z .1))
+        widen k i j (some v) (found-right W writer (at j) (list j) (turning s) (call (at j) (turning s)) (Possible k i j) s k v (call-case (at j) (turning s)) (sound-at j) (refl, g .1) (z .1))
         );
     whenAbsent = λ s k i j l g. (
         let z = stands s k i j l in
-        widen k i j none (absent-right W writer (at j) (list j) (turning s) (call (at j) (turning s)) (Possible k i j) s k (callCase (at j) (turning s)) (sound-at j) (refl, g .1)
+        widen k i j none (absent-right W writer (at j) (list j) (turning s) (call (at j) (turning s)) (Possible k i j) s k (call-case (at j) (turning s)) (sound-at j) (refl, g .1)
         (now k i j (l .later)) (z .1))
         );
     reads = λ s k i j l. (let z = stands s k i j l in (z .0, z .1 .reads, z .1 .key));
@@ -181,7 +181,7 @@ module _ (W : State → Plain → Linked → Type 0) (writer : Writer W) (S : St
   kept-perhaps s k i j m none e l lasts h = h
   kept-perhaps s k i j m (some c) e l lasts h =
       let g = stands s k i j l in
-      kept-next W writer (at j) (list j) c (call (at j) c) (callCase (at j) c) (sound-at j) s m (g .0) (g .1 .reads) (λ x. lasts (ends-at s j c e x)) h
+      kept-next W writer (at j) (list j) c (call (at j) c) (call-case (at j) c) (sound-at j) s m (g .0) (g .1 .reads) (λ x. lasts (ends-at s j c e x)) h
 
   kept-until : (s k i j t m d : ℕ) → Reading S cs s k i j → i < t → Kept (at t .pool) s m → t + d ≤ j → Kept (at (t + d) .pool) s m
   unfolding after

@@ -18,7 +18,7 @@ use Rattle.spec.specs.PlainList.{Plain, Notice, turnedDown, waited, carriedOut,
 use Rattle.tree.specs.Linked.{Linked}
 use Rattle.promise.specs.Run.{Start, Moment, thenPerhaps, callAt, after, indexAfter, plainAfter, Gives}
 use Rattle.promise.specs.Demands.{Stands, Demand2, NeverMet, PromiseFrom}
-use Rattle.readers.specs.CallCase.{CallCase, callCase, refuses, plansInsert, plansDelete, waits, stores, begins, loads, misses, finds, leaves}
+use Rattle.readers.specs.CallCase.{CallCase, call-case, refuses, plansInsert, plansDelete, waits, stores, begins, loads, misses, finds, leaves}
 use Rattle.ranges.specs.Fits.{colour-fits}
 use Rattle.ranges.specs.Calls.{Ranged, ranged-in, ranged-next}
 use Rattle.runs.specs.Writer.{Writer}
@@ -76,7 +76,7 @@ module _ (W : State → Plain → Linked → Type 0) (writer : Writer W) (comple
   soon j l n g =
       let h = sound (suc j) in
       let left : at (suc j) .register .write .count ≢ 0 =
-      subst (λ st. st .register .write .count ≢ 0) (sym (next-is j writing (g .0))) (more-left (at j) writing (call (at j) writing) l n (callCase (at j) writing) (g .1)) in
+      subst (λ st. st .register .write .count ≢ 0) (sym (next-is j writing (g .0))) (more-left (at j) writing (call (at j) writing) l n (call-case (at j) writing) (g .1)) in
       let hand : writeInHand (at (suc j)) ≡ true = rw (ne-eqb (at (suc j) .register .write .count) 0 left) in
       let few = completes .few (at (suc j)) (plainAfter S cs (suc j)) (h .tree) (h .holds) hand in
       rw (add-one j) (omega arith)
@@ -89,7 +89,7 @@ module _ (W : State → Plain → Linked → Type 0) (writer : Writer W) (comple
   -- the ranges hold at each moment
   ranged-perhaps : (x : Moment) (c : Option Call) → Ranged (S .size) (x .index) → Ranged (S .size) (thenPerhaps x c .index)
   ranged-perhaps x none h = h
-  ranged-perhaps x (some c) h = ranged-next (S .size) (x .index) c (call (x .index) c) (callCase (x .index) c) h
+  ranged-perhaps x (some c) h = ranged-next (S .size) (x .index) c (call (x .index) c) (call-case (x .index) c) h
 
   pub ranged : (j : ℕ) → Ranged (S .size) (at j)
   unfolding after
@@ -105,13 +105,13 @@ module _ (W : State → Plain → Linked → Type 0) (writer : Writer W) (comple
   goesOn j w f =
       let h = sound j in
       let z = none-awaited (at j) (h .safe) f in
-      turn-goes (at j) writing (call (at j) writing) (callCase (at j) writing)
+      turn-goes (at j) writing (call (at j) writing) (call-case (at j) writing)
       (turn-clear (at j) (lent j) (ranged-in (S .size) (at j) (ranged j)) w (completes .stepGoes (at j) (plainAfter S cs j) (h .tree) (h .safe) (h .holds) z w)) z
 
   finished : (j : ℕ) (l : Link) (n : ℕ) → Gives S cs j writing (done l n) → writeInHand (at (j + 1)) ≡ false
   finished j l n g =
       let none-left : at (suc j) .register .write .count ≡ 0 =
-      subst (λ st. st .register .write .count ≡ 0) (sym (next-is j writing (g .0))) (done-left (at j) writing (call (at j) writing) l n (callCase (at j) writing) (g .1)) in
+      subst (λ st. st .register .write .count ≡ 0) (sym (next-is j writing (g .0))) (done-left (at j) writing (call (at j) writing) l n (call-case (at j) writing) (g .1)) in
       rw (add-one j, eq-eqb (at (suc j) .register .write .count) 0 none-left)
 
   pub demand2 : Demand2 S cs
@@ -121,7 +121,7 @@ module _ (W : State → Plain → Linked → Type 0) (writer : Writer W) (comple
         (completes .rest (at j) (plainAfter S cs j) (h .tree) (h .holds) (λ n. colour-fits (S .size) (at j .pool) n (ranged j .within .fits)) e));
     free = λ j. (let h = sound j .safe in exact-right (at j) (h .queue) (h .owned .exact));
     soon = soon;
-    waits = λ j g. wait-right (at j) writing (call (at j) writing) (callCase (at j) writing) (sound j .safe) (g .1);
+    waits = λ j g. wait-right (at j) writing (call (at j) writing) (call-case (at j) writing) (sound j .safe) (g .1);
     goesOn = goesOn;
     finished = finished;
     size = λ j. ranged j .within .size;
@@ -129,10 +129,10 @@ module _ (W : State → Plain → Linked → Type 0) (writer : Writer W) (comple
 
   pub never : NeverMet S cs
   never = record {
-    range = λ j c g. not-two (at j) c (ranged-in (S .size) (at j) (ranged j)) (refused-by (at j) c (call (at j) c) 2 (omega arith) (callCase (at j) c) (g .1));
+    range = λ j c g. not-two (at j) c (ranged-in (S .size) (at j) (ranged j)) (refused-by (at j) c (call (at j) c) 2 (omega arith) (call-case (at j) c) (g .1));
     steps = λ j c g. (let h = sound j in
-        not-twelve W completes (at j) (plainAfter S cs j) (h .tree) (h .safe) (h .holds) c (refused-by (at j) c (call (at j) c) 12 (omega arith) (callCase (at j) c) (g .1)));
-    lent = λ j c g. not-one (at j) c (lent j) (refused-by (at j) c (call (at j) c) 1 (omega arith) (callCase (at j) c) (g .1));
+        not-twelve W completes (at j) (plainAfter S cs j) (h .tree) (h .safe) (h .holds) c (refused-by (at j) c (call (at j) c) 12 (omega arith) (call-case (at j) c) (g .1)));
+    lent = λ j c g. not-one (at j) c (lent j) (refused-by (at j) c (call (at j) c) 1 (omega arith) (call-case (at j) c) (g .1));
   }
 
   pub promise : PromiseFrom S cs

@@ -13,31 +13,31 @@ blackOuter z w = mk z (colourOf w) (keyOf w) (recordOf w) (paint black (child z 
 
 -- x lacks a black node and is on the side s of its parent (c, k, v); its sibling w is black and has a red child.
 -- The outer child red: case 4, a diag. Only the inner one: cases 3 and 4, a zig.
-abbrev pub blackSibling : Side → Colour → ℕ → ℕ → Tree → Tree → Tree
-blackSibling s c k v x w =
+abbrev pub siblingTurn : Side → Colour → ℕ → ℕ → Tree → Tree → Tree
+siblingTurn s c k v x w =
     let z = other s in
     ifRed (colourOf (child z w)) (diag z c black k v (blackOuter z w) x) (zig z c black k v w x)
 
 -- Under the red parent that case 1 leaves: cases 2 to 4, without another test of the sibling's own colour.
 abbrev pub underRed : Side → ℕ → ℕ → Tree → Tree → Tree
-underRed s k v x w = ifRed (redChild w) (blackSibling s red k v x w) (mk s black k v x (paint red w))
+underRed s k v x w = ifRed (redChild w) (siblingTurn s red k v x w) (mk s black k v x (paint red w))
 
--- RB-DELETE-FIXUP. x came to a place that lost a black node.
-abbrev pub fixup : List Frame → Tree → Tree
-fixup [] x = paint black x
-fixup (frame s c k v w ∷ fs) x =
+-- RB-DELETE-FIXUP. x came to a place that a black node was taken from.
+abbrev pub rbDeleteFixup : List Frame → Tree → Tree
+rbDeleteFixup [] x = paint black x
+rbDeleteFixup (frame s c k v w ∷ fs) x =
     ifRed (colourOf x)
     (plug fs (mk s c k v (paint black x) w))
     (ifRed (colourOf w)
     (plug fs (mk s black (keyOf w) (recordOf w) (underRed s k v x (child s w)) (child (other s) w)))
     (ifRed (redChild w)
-    (plug fs (blackSibling s c k v x w))
-    (fixup fs (mk s c k v x (paint red w)))))
+    (plug fs (siblingTurn s c k v x w))
+    (rbDeleteFixup fs (mk s c k v x (paint red w)))))
 
 -- a node of the colour c was taken out, and x came to its place
-abbrev pub lose : Colour → List Frame → Tree → Tree
-lose red fs x = plug fs x
-lose black fs x = fixup fs x
+abbrev pub afterRemoval : Colour → List Frame → Tree → Tree
+afterRemoval red fs x = plug fs x
+afterRemoval black fs x = rbDeleteFixup fs x
 
 -- the leftmost node's key and record
 abbrev pub leastKey : Tree → ℕ
@@ -53,14 +53,14 @@ leastRecord (node c k v (node d j w a b) r) = leastRecord (node d j w a b)
 -- the leftmost node is taken out
 abbrev pub removeLeast : Tree → List Frame → Tree
 removeLeast leaf fs = plug fs leaf
-removeLeast (node c k v leaf r) fs = lose c fs r
+removeLeast (node c k v leaf r) fs = afterRemoval c fs r
 removeLeast (node c k v (node d j w a b) r) fs = removeLeast (node d j w a b) (frame L c k v r ∷ fs)
 
 -- RB-DELETE of the node at a place: at most one child comes up; else the successor takes its place, with its colour
 abbrev pub remove : List Frame → Tree → Tree
 remove fs leaf = plug fs leaf
-remove fs (node c k v leaf r) = lose c fs r
-remove fs (node c k v (node d j w a b) leaf) = lose c fs (node d j w a b)
+remove fs (node c k v leaf r) = afterRemoval c fs r
+remove fs (node c k v (node d j w a b) leaf) = afterRemoval c fs (node d j w a b)
 remove fs (node c k v (node d j w a b) (node e i u x y)) =
     let r = node e i u x y in removeLeast r (frame R c (leastKey r) (leastRecord r) (node d j w a b) ∷ fs)
 

@@ -14,19 +14,19 @@ turnUp true z k v p aunt = diag z black red k v p aunt
 turnUp false z k v p aunt = zig z black red k v p aunt
 
 -- The loop of 000, lines 27 to 188. x is red.
-abbrev pub fixupResult : List Frame → Tree → Tree
-fixupResult [] x = x
-fixupResult (frame s black k v y ∷ fs) x = plug fs (mk s black k v x y)
-fixupResult (frame s red k v y ∷ []) x = mk s red k v x y
-fixupResult (frame s red k v y ∷ frame z c j w aunt ∷ fs) x =
+abbrev pub rbInsertFixup : List Frame → Tree → Tree
+rbInsertFixup [] x = x
+rbInsertFixup (frame s black k v y ∷ fs) x = plug fs (mk s black k v x y)
+rbInsertFixup (frame s red k v y ∷ []) x = mk s red k v x y
+rbInsertFixup (frame s red k v y ∷ frame z c j w aunt ∷ fs) x =
     ifRed (colourOf aunt)
-    (fixupResult fs (mk z red j w (mk s black k v x y) (paint black aunt)))
+    (rbInsertFixup fs (mk z red j w (mk s black k v x y) (paint black aunt)))
     (plug fs (turnUp (sameSide s z) z j w (mk s red k v x y) aunt))
 
 -- A new red node at the empty place; line 189: the root ends black. A key that is held changes nothing.
-abbrev pub placed : ℕ → ℕ → List Frame → Tree → Tree
-placed q w fs leaf = paint black (fixupResult fs (node red q w leaf leaf))
-placed q w fs (node c k v l r) = plug fs (node c k v l r)
+abbrev pub insertedAt : ℕ → ℕ → List Frame → Tree → Tree
+insertedAt q w fs leaf = paint black (rbInsertFixup fs (node red q w leaf leaf))
+insertedAt q w fs (node c k v l r) = plug fs (node c k v l r)
 
 abbrev pub insert : Tree → ℕ → ℕ → Tree
-insert t q w = let x = descend t q [] in placed q w (x .way) (x .at)
+insert t q w = let x = descend t q [] in insertedAt q w (x .way) (x .at)

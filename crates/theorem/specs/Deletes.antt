@@ -8,7 +8,7 @@ use mathlib.Core.Option.{Option, none, some}
 use native.Mathlib.Omega.{arith}
 use native.Mathlib.Decide.{ℕ-discrete}
 use lib.Dec.{eqb}
-use borrow.Author.Tests.{eq-eqb, ne-eqb, ltb-false}
+use borrow.Author.Tests.{not-false, eq-eqb, ne-eqb, ltb-false}
 use Rattle.base.specs.Walk.{cond-both}
 use Rattle.datatypes.specs.declared.Side.{Side}
 use Rattle.datatypes.specs.declared.Side.the-variants.{L, R}
@@ -34,7 +34,6 @@ use Rattle.spec.specs.Calls.{firstOf, placeOf, isHeld, deleteAt}
 use Rattle.spec.specs.PlainList.{Ticket, Plain, recordFor, without, updated, acceptedWrites, begun, adopts}
 use Rattle.laws.specs.Turns.{and-false}
 use Rattle.tree.specs.Sorted.{Ordered}
-use Rattle.tree.specs.Descent as Descent
 use Rattle.tree.specs.Descent.{descend-place}
 use Rattle.tree.specs.Changes.{changedBy-proper, find-delete, find-delete-other}
 use Rattle.tree.specs.Linked.{Node, Linked, nil, cell, find}
@@ -42,12 +41,12 @@ use Rattle.tree.specs.Erase.{erase, eraseWay, erase-plug, erase-find, erase-int
 use Rattle.heap.specs.Rep.{Rep}
 use Rattle.heap.specs.Sites.{linkTo, site-of}
 use Rattle.heap.specs.Colours.{colours}
-use Rattle.heap.specs.Shift.{listStore, heldAfter}
+use Rattle.heap.specs.Shift.{isListStore, heldAfter}
 use Rattle.heap.specs.Plans.{Rest, Placed, empty-at, held-at, placed}
 use Rattle.heap.specs.Writes.{InHand}
 use Rattle.heap.specs.Accept.{accepted-in-hand, searched, heldOf, delete-possible}
 use Rattle.spec.specs.Calls.{deleteTests}
-use Rattle.readers.specs.CallCase.{clear, not-false}
+use Rattle.readers.specs.CallCase.{clear}
 use Rattle.readers.specs.Safe.{Safe}
 use Rattle.runs.specs.Writer.{planned}
 use Rattle.theorem.specs.Tickets.{without-same, without-other, unique-without, without-some}
@@ -55,7 +54,7 @@ use Rattle.theorem.specs.Laters.{takesAll}
 use Rattle.theorem.specs.WriterSide.{seqOf, indexOf, Pending, Timing, now, soon, WriterSide}
 use Rattle.theorem.specs.Rests.{resting, changed-end, few-turn, with-held, with-free}
 
--- a loss's climb takes three nodes at most
+-- a removal's fix-up takes three nodes at most
 abbrev Few : Fixup → Type 0
 Few c = takesAll (endingStores (c .ending)) ≤ 3
 
@@ -85,8 +84,8 @@ few-removal p n x path = cond-both {A = Fixup} Few (isRed p n) {x = fixupResult 
 
 -- The form of a delete: its list store is the first or the second.
 data Shape (w : Plan) : ℕ → Type 0 where
-  at-once : (s : Store) (l : List Store) → w .stores ≡ s ∷ l → listStore (s .step) ≡ true → ((capacity h : ℕ) → heldAfter (s .step) capacity h ≡ h - 1) → takesAll (s ∷ l) ≤ 4 → Shape w 1
-  second : (s t : Store) (l : List Store) → w .stores ≡ s ∷ t ∷ l → listStore (s .step) ≡ false → listStore (t .step) ≡ true → ((capacity h : ℕ) → heldAfter (t .step) capacity h ≡ h - 1)
+  at-once : (s : Store) (l : List Store) → w .stores ≡ s ∷ l → isListStore (s .step) ≡ true → ((capacity h : ℕ) → heldAfter (s .step) capacity h ≡ h - 1) → takesAll (s ∷ l) ≤ 4 → Shape w 1
+  second : (s t : Store) (l : List Store) → w .stores ≡ s ∷ t ∷ l → isListStore (s .step) ≡ false → isListStore (t .step) ≡ true → ((capacity h : ℕ) → heldAfter (t .step) capacity h ≡ h - 1)
       → takesAll (s ∷ t ∷ l) ≤ 4 → Shape w 2
 
 cell-there : (p : List ℕ) (i : ℕ) (K : Node) (u w : Linked) → Rep p i (cell K u w) → i ≢ 0
@@ -101,7 +100,8 @@ module _ (st : State) (l : Link) (b : ℕ) where
 
   first-form : twoChildren p b ≡ false → Shape (deletePlan st l b) 1
   unfolding deletePlan unlinkPlan
-  first-form e = rw e (at-once (store l Unlink) (endingStores (fixupAfterRemoval p b (onlyChild p b) way .ending)) refl refl (λ capacity h. refl) (let a = few-removal p b (onlyChild p b) way in omega arith))
+  first-form e =
+      rw e (at-once (store l Unlink) (endingStores (fixupAfterRemoval p b (onlyChild p b) way .ending)) refl refl (λ capacity h. refl) (let a = few-removal p b (onlyChild p b) way in omega arith))
 
   second-form : twoChildren p b ≡ true → child p L (child p R b) ≡ 0 → deletePlan st l b .possible ≡ true → Shape (deletePlan st l b) 2
   unfolding deletePlan

@@ -11,7 +11,7 @@ use Rattle.datatypes.specs.declared.Step.the-variants.{Vacant, Insert, DiagLowe
 use Rattle.datatypes.specs.declared.Store.{Store}
 use Rattle.spec.specs.Register.{State, linkNode}
 use Rattle.spec.specs.Turn.{movedStore, Listing, unlisted, keyComes, keyGoes, profile, isListed, countedBy}
-use Rattle.heap.specs.Shift.{listStore, takenIf, takenBy, heldAfter, later}
+use Rattle.heap.specs.Shift.{isListStore, takenIf, takenBy, heldAfter, later}
 
 -- how many nodes the stores to come take
 abbrev pub takesAll : List Store → ℕ
@@ -19,7 +19,7 @@ takesAll [] = 0
 takesAll (s ∷ l) = length (takenBy (s .step) 0) + takesAll l
 
 -- A store that is no list store renames nothing, by the table of profiles,
-plain-keeps : (x : Step) → listStore x ≡ false → profile x .renames ≡ false
+plain-keeps : (x : Step) → isListStore x ≡ false → profile x .renames ≡ false
 plain-keeps Vacant e = refl
 plain-keeps (Insert k v) e = refl
 plain-keeps (DiagLower s c) e = refl
@@ -33,7 +33,7 @@ plain-keeps Replace e = refl
 plain-keeps (Publish c) e = absurd (false≢true (sym e))
 plain-keeps (Detach k) e = refl
 
-pub later-plain : (st : State) (l : Link) (x : Step) (w : List Store) → listStore x ≡ false → later st l x w ≡ w
+pub later-plain : (st : State) (l : Link) (x : Step) (w : List Store) → isListStore x ≡ false → later st l x w ≡ w
 later-plain st l x w e = rw (plain-keeps x e)
 
 -- and counts nothing
@@ -42,7 +42,7 @@ unlisted-count unlisted capacity h e = refl
 unlisted-count keyComes capacity h e = absurd (false≢true (sym e))
 unlisted-count keyGoes capacity h e = absurd (false≢true (sym e))
 
-pub held-plain : (x : Step) (capacity h : ℕ) → listStore x ≡ false → heldAfter x capacity h ≡ h
+pub held-plain : (x : Step) (capacity h : ℕ) → isListStore x ≡ false → heldAfter x capacity h ≡ h
 held-plain x capacity h e = unlisted-count (profile x .listing) capacity h e
 
 map-takes : (b n : ℕ) (l : List Store) → takesAll (map (movedStore b n) l) ≡ takesAll l

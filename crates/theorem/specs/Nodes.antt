@@ -24,7 +24,7 @@ shift-moves {T} {T′} {came = came} {gone = gone} sh n =
     let p = shift-nodes sh n in
     let a = p .came in
     let b = p .stayed in
-    let c = p .writerSide in (
+    let c = p .entered in (
       λ i. (
           let x = in-occ n (nodes T′) i in (
             elim (decLe 1 (occ n (nodes T))) [ yes z ↦ inl (occ-in n (nodes T) z) | no z ↦ inr (occ-in n came (omega arith)) ],

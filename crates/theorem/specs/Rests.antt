@@ -97,9 +97,9 @@ changed-end t [] c = refl
 changed-end t (d ∷ cs) c = changed-end (changed t d) cs c
 
 -- an insert's plan takes three nodes at most
-pub few-turn : (f : Form) (l : Link) (s : Side) (c : Purpose) → takesAll (turnStores f l s c) ≤ 2
-few-turn Diag l s c = omega arith
-few-turn Zig l s c = omega arith
+pub few-turn : (f : Form) (l : Link) (s : Side) (purpose : Purpose) → takesAll (turnStores f l s purpose) ≤ 2
+few-turn Diag l s purpose = omega arith
+few-turn Zig l s purpose = omega arith
 
 abbrev pub FewTwo : Fixup → Type 0
 FewTwo c = takesAll (endingStores (c .ending)) ≤ 2
@@ -111,7 +111,8 @@ few-insertFixup p m (x ∷ []) = omega arith
 few-insertFixup p m (x ∷ y ∷ []) = cond-both {A = Ending} (λ e. takesAll (endingStores e) ≤ 2) (isRed p (owner x)) {x = Missing} {y = Balanced} (omega arith) (omega arith)
 few-insertFixup p m (x ∷ y ∷ z ∷ up) =
     let aunt = child p (other (sideOf y)) (owner y) in
-    cond-both FewTwo (isRed p (owner x)) (cond-both FewTwo (isRed p aunt) (few-insertFixup p (m + 1) (z ∷ up)) (few-turn (cond (sameSide (sideOf x) (sideOf y)) Diag Zig) z (sideOf y) ForInsert)) (omega arith)
+    cond-both FewTwo (isRed p (owner x))
+    (cond-both FewTwo (isRed p aunt) (few-insertFixup p (m + 1) (z ∷ up)) (few-turn (cond (sameSide (sideOf x) (sideOf y)) Diag Zig) z (sideOf y) ForInsert)) (omega arith)
 
 few-insert : (st : State) (k : ℕ) (l : Link) → FewTwo (fixupAfterInsert st k l)
 unfolding fixupAfterInsert

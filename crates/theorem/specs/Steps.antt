@@ -29,11 +29,11 @@ use Rattle.readers.specs.Safe.{Safe}
 use Rattle.theorem.specs.Ways.{shift-owner, shift-gone, shift-two, shift-few}
 
 -- for a step that takes a node the queue has one
-abbrev pub QueueKept : State → List ℕ → Type 0
-QueueKept st [] = Unit {0}
-QueueKept st (n ∷ l) = (q : List ℕ) × Owned st (st .register .first ∷ q)
+abbrev pub QueueHas : State → List ℕ → Type 0
+QueueHas st [] = Unit {0}
+QueueHas st (n ∷ l) = (q : List ℕ) × Owned st (st .register .first ∷ q)
 
-base-stored : (st base : State) (came : List ℕ) (k : Link) (v : ℕ) → Safe st → Based st came base → QueueKept st came → OwnerLinked (st .pool) k → Stored st (setLink base k v) came k v
+base-stored : (st base : State) (came : List ℕ) (k : Link) (v : ℕ) → Safe st → Based st came base → QueueHas st came → OwnerLinked (st .pool) k → Stored st (setLink base k v) came k v
 base-stored st base came k v safe unchanged q o = link-stored st (safe .queue) k v (safe .whole) o (safe .owned)
 base-stored st base came k v safe (filled j w s x y c) q o = taking-stored st (st .register .first) (q .0) j w s x y c k v (safe .whole) o (q .1)
 
@@ -62,7 +62,7 @@ all-awaited mid (a ∷ []) = retire-quiet mid a .fields .awaited
 all-awaited mid (a ∷ c ∷ l) = retireTwo-quiet mid a c .fields .awaited
 
 pub parts-turn : (st : State) (T T′ : Linked) (m : Made) (came gone : List ℕ) (b w : Bool) → Safe st → Rep (st .pool) (st .register .root) T
-    → ((n : ℕ) → 0 < occ n (nodes T) → HasStanding (st .pool) n standingLinked) → Shift T T′ (m .link) (m .node) came gone b w → Parts st m came gone → QueueKept st came
+    → ((n : ℕ) → 0 < occ n (nodes T) → HasStanding (st .pool) n standingLinked) → Shift T T′ (m .link) (m .node) came gone b w → Parts st m came gone → QueueHas st came
     → Slots (st .register .readers) (m .after .register .awaited) → Turn st (m .after) came gone (m .link) (m .node)
 parts-turn st T T′ m came gone b w safe rep lk sh ps q aw = rw (ps .retired) (go gone (shift-few sh) sh (ps .retired))
   where
@@ -78,15 +78,15 @@ parts-turn st T T′ m came gone b w safe rep lk sh ps q aw = rw (ps .retired) (
     base : Stored st (setLink (ps .base) (m .link) (m .node)) came (m .link) (m .node)
     base = base-stored st (ps .base) came (m .link) (m .node) safe (ps .based) q own
 
-    tinted : Stored st (state (ps .mid .pool) (setLink (ps .base) (m .link) (m .node) .register)) came (m .link) (m .node)
-    tinted = stored-recoloured st (setLink (ps .base) (m .link) (m .node)) _ came (m .link) (m .node)
-        (recoloured-pool (setLink (ps .base) (m .link) (m .node)) (ps .mid .pool) (ps .tint)) base
+    coloured-store : Stored st (state (ps .mid .pool) (setLink (ps .base) (m .link) (m .node) .register)) came (m .link) (m .node)
+    coloured-store = stored-recoloured st (setLink (ps .base) (m .link) (m .node)) _ came (m .link) (m .node)
+        (recoloured-pool (setLink (ps .base) (m .link) (m .node)) (ps .mid .pool) (ps .only)) base
 
     slots : Slots (ps .mid .register .readers) (ps .mid .register .awaited)
     slots = rw (ps .queue .readers ∙ base .readers, sym (all-awaited (ps .mid) gone) ∙ ap (λ s. s .register .awaited) (sym (ps .retired))) aw
 
     mid : Stored st (ps .mid) came (m .link) (m .node)
-    mid = stored-fields st (state (ps .mid .pool) (setLink (ps .base) (m .link) (m .node) .register)) (ps .mid .register) came (m .link) (m .node) (ps .queue) slots tinted
+    mid = stored-fields st (state (ps .mid .pool) (setLink (ps .base) (m .link) (m .node) .register)) (ps .mid .register) came (m .link) (m .node) (ps .queue) slots coloured-store
 
     goes : (g : List ℕ) → Shift T T′ (m .link) (m .node) came g b w → (i : ℕ) → i ∈ g → HasStanding (st .pool) i standingLinked × (owner (m .link) ≢ i)
     goes g s i j = let a = shift-gone (st .pool) (st .register .root) s rep i j in (lk i (a .0), a .1)

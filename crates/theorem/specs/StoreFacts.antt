@@ -1,4 +1,4 @@
--- A turn on a phase (heap: Writes.turn) gives all that the readers' side asks of a store (runs: Stores), and the nodes linked afterwards are
+-- A turn on a phase (heap: Writes.turn) gives all that the readers' side asks of a store (runs: Writer.Stores), and the nodes linked afterwards are
 -- again those of the tree.
 use Prim.Native.Nat.{ℕ}
 use mathlib.Core.Path.{_≡_, refl, _∙_, subst}
@@ -23,11 +23,10 @@ use Rattle.spec.specs.Calls.{stored}
 use Rattle.sequential.specs.Tree.{Tree}
 use Rattle.base.specs.Lists.{_∈_, in-append}
 use Rattle.tree.specs.Linked.{Linked, nil, cell, nodes}
-use Rattle.tree.specs.Thin.{Thin}
 use Rattle.tree.specs.Zipper.{Thins}
 use Rattle.tree.specs.Occurs.{occ-in}
 use Rattle.heap.specs.Rep.{Rep}
-use Rattle.heap.specs.Shift.{Shift, listStore, takenBy, awaitedAfter, Ready, Next, later}
+use Rattle.heap.specs.Shift.{Shift, isListStore, takenBy, awaitedAfter, Ready, Next, later}
 use Rattle.heap.specs.Effects.{shift-thin}
 use Rattle.heap.specs.Phase.{phase-rep}
 use Rattle.heap.specs.Writes.{InHand, turn}
@@ -41,7 +40,7 @@ use Rattle.readers.specs.Safe.{Safe}
 use Rattle.runs.specs.Writer.{Stores}
 use Rattle.theorem.specs.Nodes.{Moves, shift-moves}
 use Rattle.theorem.specs.Ways.{shift-owner, shift-gone}
-use Rattle.theorem.specs.Steps.{QueueKept, parts-turn}
+use Rattle.theorem.specs.Steps.{QueueHas, parts-turn}
 
 -- the link of a tree's node unfolds
 sub-rep : (p : List ℕ) (t : Linked) (a d : ℕ) (z : Side) → Rep p a t → d ∈ nodes t → (u : Linked) × Rep p (child p z d) u
@@ -77,7 +76,7 @@ unfolding stored
 after-is m = refl
 
 module _ (st : State) (G : Tree) (T : Linked) (x : Store) (l : List Store) (safe : Safe st) (hand : InHand st G T (x ∷ l)) (lk : (n : ℕ) → HasStanding (st .pool) n standingLinked ↔ (n ∈ nodes T))
-    (ready : Ready st T (takenBy (x .step) (st .register .first))) (exactOf : QueueKept st (takenBy (x .step) (st .register .first))) where
+    (ready : Ready st T (takenBy (x .step) (st .register .first))) (exactOf : QueueHas st (takenBy (x .step) (st .register .first))) where
   abbrev pub made : Made
   made = stepMade st (x .link) (x .step)
 
@@ -97,17 +96,17 @@ module _ (st : State) (G : Tree) (T : Linked) (x : Store) (l : List Store) (safe
   met = parts-turn st T (next .tree) made _ (next .gone) _ _ safe rep (λ n u. lk n .1 (occ-in n (nodes T) u)) (next .shift) (next .parts) exactOf
       (rw (next .fields .awaited) (await-slots (x .step) (st .register) (safe .owned .awaited)))
 
-  pub met-turn : Turn st (stored made .after) (takenBy (x .step) (st .register .first)) (next .gone) (made .link) (made .node)
-  met-turn = rw (after-is made) (turn-write st (made .after) _ _ (made .link) (made .node) _ met)
+  pub facts-turn : Turn st (stored made .after) (takenBy (x .step) (st .register .first)) (next .gone) (made .link) (made .node)
+  facts-turn = rw (after-is made) (turn-write st (made .after) _ _ (made .link) (made .node) _ met)
 
   moves : Moves (takenBy (x .step) (st .register .first)) (next .gone) T (next .tree)
   moves = shift-moves (next .shift)
 
   -- the linked nodes are the tree's
-  pub met-linked : (n : ℕ) → HasStanding (stored made .after .pool) n standingLinked ↔ (n ∈ nodes (next .tree))
-  met-linked n = (
-    λ e. (let a = met-turn .linked n .0 e in moves n .1 (⊎-elim (λ i. inl (lk n .0 i)) (λ i. inr i) (a .0), a .1)),
-    λ i. (let a = moves n .0 i in met-turn .linked n .1 (⊎-elim (λ j. inl (lk n .1 j)) (λ j. inr j) (a .0), a .1)),
+  pub facts-linked : (n : ℕ) → HasStanding (stored made .after .pool) n standingLinked ↔ (n ∈ nodes (next .tree))
+  facts-linked n = (
+    λ e. (let a = facts-turn .linked n .0 e in moves n .1 (⊎-elim (λ i. inl (lk n .0 i)) (λ i. inr i) (a .0), a .1)),
+    λ i. (let a = moves n .0 i in facts-turn .linked n .1 (⊎-elim (λ j. inl (lk n .1 j)) (λ j. inr j) (a .0), a .1)),
   )
 
   own : OwnerLinked (st .pool) (made .link)
@@ -116,29 +115,29 @@ module _ (st : State) (G : Tree) (T : Linked) (x : Store) (l : List Store) (safe
   stays : (n : ℕ) → HasStanding (st .pool) n standingLinked → owner (made .link) ≡ n → (n ∈ nodes (next .tree)) × (¬ (n ∈ takenBy (x .step) (st .register .first)))
   stays n e o = (
     moves n .1 (inl (lk n .0 e), λ j. shift-gone (st .pool) (st .register .root) (next .shift) rep n j .1 o),
-    λ j. (let a = met-turn .new n j in absurd (omega arith)),
+    λ j. (let a = facts-turn .new n j in absurd (omega arith)),
   )
 
   -- each path keeps its nodes in their order, or all reading slots are awaited
   ways : Thins (Unlinked (stored made .after .pool)) T (next .tree) ⊎ (stored made .after .register .awaited ≡ readingSlots (st .register))
   ways = go (profile (x .step) .awaits) (next .shift) (next .fields .awaited)
     where
-      go : (a : Bool) → Shift T (next .tree) (made .link) (made .node) (takenBy (x .step) (st .register .first)) (next .gone) (listStore (x .step)) a
+      go : (a : Bool) → Shift T (next .tree) (made .link) (made .node) (takenBy (x .step) (st .register .first)) (next .gone) (isListStore (x .step)) a
           → made .after .register .awaited ≡ cond a (readingSlots (st .register)) (st .register .awaited)
           → Thins (Unlinked (stored made .after .pool)) T (next .tree) ⊎ (stored made .after .register .awaited ≡ readingSlots (st .register))
       go true sh e = inr (rw (after-is made) (write-awaited (made .after .register) _ ∙ e))
-      go false sh e = inl (shift-thin (Unlinked (stored made .after .pool)) sh (λ i j e. met-turn .linked i .0 e .1 j))
+      go false sh e = inl (shift-thin (Unlinked (stored made .after .pool)) sh (λ i j e. facts-turn .linked i .0 e .1 j))
 
-  pub met-stores : (W : Linked → Type 0) → W (next .tree) → Stores st (stored made .after) T W
-  met-stores W w =
-      let u = value-rep st (stored made .after) _ _ (made .link) (made .node) (next .tree) met-turn rep′ own stays in
+  pub facts-stores : (W : Linked → Type 0) → W (next .tree) → Stores st (stored made .after) T W
+  facts-stores W w =
+      let u = value-rep st (stored made .after) _ _ (made .link) (made .node) (next .tree) facts-turn rep′ own stays in
       record {
         tree = next .tree;
         came = takenBy (x .step) (st .register .first);
         gone = next .gone;
         link = made .link;
         value = made .node;
-        turn = met-turn;
+        turn = facts-turn;
         owner = own;
         below = u .0;
         unfolds = u .1;

@@ -1,10 +1,9 @@
 -- In every phase of a write, between its stores too, a lookup of each node's key finds its record: (V).
 use Prim.Native.Nat.{ℕ}
 use mathlib.Core.List.{List, []}
-use Rattle.datatypes.specs.declared.Side.the-variants.{L}
 use Rattle.datatypes.specs.declared.Store.{Store}
 use Rattle.sequential.specs.Tree.{Colour, black, Tree}
-use Rattle.tree.specs.Linked.{Linked, nil, at}
+use Rattle.tree.specs.Linked.{Linked, nil}
 use Rattle.tree.specs.LinkedOrder.{ordered-bare}
 use Rattle.tree.specs.Zipper.{plug}
 use Rattle.tree.specs.Tickets.{True, true-ordered, true-diag₁, true-zig₁, true-zig₂, true-form₁, true-third₁}

@@ -18,13 +18,13 @@ use Rattle.spec.specs.Pool.{standingLinked, nodes as poolNodes}
 use Rattle.spec.specs.Register.{State, storeOf, withWrite}
 use Rattle.spec.specs.Turn.{Made, stepFinds, stepMade}
 use Rattle.spec.specs.Calls.{stored, writeInHand}
-use Rattle.spec.specs.PlainList.{Ticket, Plain, recordFor, Unique, updated, withInHand, acceptedWrites, storeMade, listStore as listIndex}
+use Rattle.spec.specs.PlainList.{Ticket, Plain, recordFor, Unique, updated, withInHand, acceptedWrites, storeMade, listStore}
 use Rattle.base.specs.Lists.{_∈_}
 use Rattle.tree.specs.Changes.{Proper}
 use Rattle.tree.specs.Linked.{Linked, find, nodes}
 use Rattle.tree.specs.Occurs.{occ, occ-in}
 use Rattle.heap.specs.Moves.{Fresh}
-use Rattle.heap.specs.Shift.{listStore, takenBy, heldAfter, later, Ready, later-length}
+use Rattle.heap.specs.Shift.{isListStore, takenBy, heldAfter, later, Ready, later-length}
 use Rattle.heap.specs.Nodes.{Settled}
 use Rattle.heap.specs.Settle.{phase-settles, later-settled, turn-told, turn-same}
 use Rattle.heap.specs.Writes.{InHand, write-count}
@@ -34,15 +34,15 @@ use Rattle.readers.specs.Reach.{HasStanding}
 use Rattle.readers.specs.Safe.{Safe}
 use Rattle.runs.specs.Writer.{Stores, afterStore}
 use Rattle.theorem.specs.Laters.{takesAll, later-plain, held-plain, later-takes, taken-length}
-use Rattle.theorem.specs.Steps.{QueueKept}
-use Rattle.theorem.specs.StoreFacts.{turned, met-turn, met-linked, met-stores}
+use Rattle.theorem.specs.Steps.{QueueHas}
+use Rattle.theorem.specs.StoreFacts.{turned, facts-turn, facts-linked, facts-stores}
 
 abbrev pub seqOf : Plain → Tree
 seqOf x = changedBy (x .started) (acceptedWrites x)
 
 -- which store is the plain list's, with the sequential tree of the writes before
 abbrev pub indexOf : Plain → Change → ℕ
-indexOf x c = listIndex (changedBy (x .started) (x .before)) c
+indexOf x c = listStore (changedBy (x .started) (x .before)) c
 
 -- the list store s is still to come: what it will make of tickets and keys held
 pub record Pending (st : State) (x : Plain) (s : Store) : Type 0 where
@@ -59,8 +59,8 @@ Past x (s ∷ l) = (c : Change) × (x .inHand ≡ some c) × (indexOf x c ≤ x 
 
 pub data Timing (st : State) (x : Plain) : List Store → Type 0 where
   over : (l : List Store) → Settled l → Past x l → Timing st x l
-  now : (s : Store) (l : List Store) → listStore (s .step) ≡ true → (p : Pending st x s) → x .made + 1 ≡ indexOf x (p .change) → Timing st x (s ∷ l)
-  soon : (s t : Store) (l : List Store) → listStore (s .step) ≡ false → listStore (t .step) ≡ true → (p : Pending st x t) → x .made + 2 ≡ indexOf x (p .change) → Timing st x (s ∷ t ∷ l)
+  now : (s : Store) (l : List Store) → isListStore (s .step) ≡ true → (p : Pending st x s) → x .made + 1 ≡ indexOf x (p .change) → Timing st x (s ∷ l)
+  soon : (s t : Store) (l : List Store) → isListStore (s .step) ≡ false → isListStore (t .step) ≡ true → (p : Pending st x t) → x .made + 2 ≡ indexOf x (p .change) → Timing st x (s ∷ t ∷ l)
 
 pub record WriterSide (st : State) (x : Plain) (T : Linked) : Type 0 where
   pub stores : List Store
@@ -75,9 +75,10 @@ pub record WriterSide (st : State) (x : Plain) (T : Linked) : Type 0 where
   pub started : Proper (x .started)
 
 -- the queue has a node where one is taken
-exact : (st : State) (T : Linked) (came : List ℕ) → Safe st → ((n : ℕ) → HasStanding (st .pool) n standingLinked ↔ (n ∈ nodes T)) → length came ≤ st .register .free → Ready st T came × QueueKept st came
-exact st T [] safe lk u = (tt, tt)
-exact st T (c ∷ l) safe lk u = go (safe .queue) (safe .owned) refl
+queue-ready : (st : State) (T : Linked) (came : List ℕ) → Safe st → ((n : ℕ) → HasStanding (st .pool) n standingLinked ↔ (n ∈ nodes T))
+    → length came ≤ st .register .free → Ready st T came × QueueHas st came
+queue-ready st T [] safe lk u = (tt, tt)
+queue-ready st T (c ∷ l) safe lk u = go (safe .queue) (safe .owned) refl
   where
     go : (q : List ℕ) → Owned st q → safe .queue ≡ safe .queue → Fresh st T × ((z : List ℕ) × Owned st (st .register .first ∷ z))
     go [] h e = absurd (let a = h .exact .counted in omega arith)
@@ -89,8 +90,8 @@ exact st T (c ∷ l) safe lk u = go (safe .queue) (safe .owned) refl
 
 module _ (st : State) (x : Plain) (T : Linked) (safe : Safe st) (was : WriterSide st x T) (s : Store) (l : List Store) (hand : InHand st (seqOf x) T (s ∷ l))
     (tks : takesAll (s ∷ l) ≤ st .register .free) (fw : x .made + length (s ∷ l) ≤ mostStores) where
-  pub ready : Ready st T (takenBy (s .step) (st .register .first)) × QueueKept st (takenBy (s .step) (st .register .first))
-  ready = exact st T (takenBy (s .step) (st .register .first)) safe (was .linked) (let a = taken-length (s .step) (st .register .first) 0 in omega arith)
+  pub ready : Ready st T (takenBy (s .step) (st .register .first)) × QueueHas st (takenBy (s .step) (st .register .first))
+  ready = queue-ready st T (takenBy (s .step) (st .register .first)) safe (was .linked) (let a = taken-length (s .step) (st .register .first) 0 in omega arith)
 
   abbrev t : Writes.Turn st (seqOf x) T s l
   t = turned st (seqOf x) T s l safe hand (was .linked) (ready .0) (ready .1)
@@ -110,7 +111,7 @@ module _ (st : State) (x : Plain) (T : Linked) (safe : Safe st) (was : WriterSid
 
   takes-after : takesAll rest ≤ after .register .free
   takes-after =
-      let a = met-turn st (seqOf x) T s l safe hand (was .linked) (ready .0) (ready .1) .free in
+      let a = facts-turn st (seqOf x) T s l safe hand (was .linked) (ready .0) (ready .1) .free in
       let b = later-takes st (s .link) (s .step) l in
       let c = taken-length (s .step) (st .register .first) 0 in
       omega arith
@@ -123,12 +124,12 @@ module _ (st : State) (x : Plain) (T : Linked) (safe : Safe st) (was : WriterSid
     same-seq : seqOf x ≡ seqOf x′
     same-seq = ap (λ o. changedBy (x .started) (withInHand (x .before) o)) inh
 
-    writerSide : (ts : List Ticket) → x′ .tickets ≡ ts → ((k : ℕ) → find (t .next .tree) k ≡ recordFor k ts) → after .register .held ≡ length ts → Unique ts → Timing after x′ rest
+    side-after : (ts : List Ticket) → x′ .tickets ≡ ts → ((k : ℕ) → find (t .next .tree) k ≡ recordFor k ts) → after .register .held ≡ length ts → Unique ts → Timing after x′ rest
         → WriterSide after x′ (t .next .tree)
-    writerSide ts e f h u w = record {
+    side-after ts e f h u w = record {
       stores = rest;
       hand = subst (λ g. InHand after g (t .next .tree) rest) same-seq (t .in-hand);
-      linked = met-linked st (seqOf x) T s l safe hand (was .linked) (ready .0) (ready .1);
+      linked = facts-linked st (seqOf x) T s l safe hand (was .linked) (ready .0) (ready .1);
       finds = λ k. f k ∙ ap (recordFor k) (sym e);
       held = h ∙ ap length (sym e);
       unique = subst Unique (sym e) u;
@@ -142,24 +143,24 @@ module _ (st : State) (x : Plain) (T : Linked) (safe : Safe st) (was : WriterSid
     past [] u = tt
     past (a ∷ r) u = (c, refl, u)
 
-    pub at-list : listStore (s .step) ≡ true → (p : Pending st x s) → p .change ≡ c → x .made + 1 ≡ indexOf x c → WriterSide after x′ (t .next .tree)
+    pub at-list : isListStore (s .step) ≡ true → (p : Pending st x s) → p .change ≡ c → x .made + 1 ≡ indexOf x c → WriterSide after x′ (t .next .tree)
     at-list e p i d =
         let set = phase-settles (hand .phase) e in
-        writerSide (updated c (x .tickets)) (rw (eq-eqb (x .made + 1) (indexOf x c) d))
+        side-after (updated c (x .tickets)) (rw (eq-eqb (x .made + 1) (indexOf x c) d))
         (λ k. turn-told t set k ∙ sym (p .tells k) ∙ ap (λ z. recordFor k (updated z (x .tickets))) i)
         (held-after ∙ p .counts ∙ ap (λ z. length (updated z (x .tickets))) i)
         (subst (λ z. Unique (updated z (x .tickets))) i (p .unique))
         (over rest (later-settled st (s .link) (s .step) l set) (past rest (omega arith)))
 
-    pub off-list : listStore (s .step) ≡ false → x .made + 1 ≢ indexOf x c → Timing after x′ rest → WriterSide after x′ (t .next .tree)
+    pub off-list : isListStore (s .step) ≡ false → x .made + 1 ≢ indexOf x c → Timing after x′ rest → WriterSide after x′ (t .next .tree)
     off-list e d w =
-        writerSide (x .tickets) (rw (ne-eqb (x .made + 1) (indexOf x c) d)) (λ k. turn-same t e k ∙ was .finds k)
+        side-after (x .tickets) (rw (ne-eqb (x .made + 1) (indexOf x c) d)) (λ k. turn-same t e k ∙ was .finds k)
         (held-after ∙ held-plain (s .step) _ _ e ∙ was .held) (was .unique) w
 
-    pub next-pending : (b : Store) (p : Pending st x b) → p .change ≡ c → listStore (s .step) ≡ false → x .made + 1 ≢ indexOf x c → Pending after x′ b
+    pub next-pending : (b : Store) (p : Pending st x b) → p .change ≡ c → isListStore (s .step) ≡ false → x .made + 1 ≢ indexOf x c → Pending after x′ b
     next-pending b p i e d =
         let same : x′ .tickets ≡ x .tickets = rw (ne-eqb (x .made + 1) (indexOf x c) d) in
-        let big : poolNodes (after .pool) ≡ poolNodes (st .pool) = ap (λ n. n / nodeWords) (met-turn st (seqOf x) T s l safe hand (was .linked) (ready .0) (ready .1) .size) in
+        let big : poolNodes (after .pool) ≡ poolNodes (st .pool) = ap (λ n. n / nodeWords) (facts-turn st (seqOf x) T s l safe hand (was .linked) (ready .0) (ready .1) .size) in
         let lists : updated (p .change) (x .tickets) ≡ updated c (x′ .tickets) = ap (λ z. updated z (x .tickets)) i ∙ ap (updated c) (sym same) in
         record {
           change = c;
@@ -169,7 +170,7 @@ module _ (st : State) (x : Plain) (T : Linked) (safe : Safe st) (was : WriterSid
           unique = subst Unique lists (p .unique);
         }
 
-    pub next-now : (b : Store) (k : List Store) (p : Pending st x b) → p .change ≡ c → listStore (s .step) ≡ false → x .made + 1 ≢ indexOf x c → listStore (b .step) ≡ true
+    pub next-now : (b : Store) (k : List Store) (p : Pending st x b) → p .change ≡ c → isListStore (s .step) ≡ false → x .made + 1 ≢ indexOf x c → isListStore (b .step) ≡ true
         → x .made + 2 ≡ indexOf x c → Timing after x′ (b ∷ k)
     unfolding next-pending
     next-now b k p i e d g j = now b k g (next-pending b p i e d) (omega arith)
@@ -177,8 +178,8 @@ module _ (st : State) (x : Plain) (T : Linked) (safe : Safe st) (was : WriterSid
 -- the timing of a first store
 data Due (st : State) (x : Plain) (s : Store) (l : List Store) : Type 0 where
   is-over : Settled (s ∷ l) → Past x (s ∷ l) → Due st x s l
-  is-now : listStore (s .step) ≡ true → (p : Pending st x s) → x .made + 1 ≡ indexOf x (p .change) → Due st x s l
-  is-soon : (b : Store) (k : List Store) → l ≡ b ∷ k → listStore (s .step) ≡ false → listStore (b .step) ≡ true → (p : Pending st x b) → x .made + 2 ≡ indexOf x (p .change) → Due st x s l
+  is-now : isListStore (s .step) ≡ true → (p : Pending st x s) → x .made + 1 ≡ indexOf x (p .change) → Due st x s l
+  is-soon : (b : Store) (k : List Store) → l ≡ b ∷ k → isListStore (s .step) ≡ false → isListStore (b .step) ≡ true → (p : Pending st x b) → x .made + 2 ≡ indexOf x (p .change) → Due st x s l
 
 due-of : (st : State) (x : Plain) (s : Store) (l : List Store) → Timing st x (s ∷ l) → Due st x s l
 due-of st x s l (over w h p) = is-over h p
@@ -191,7 +192,7 @@ module _ (st : State) (x : Plain) (T : Linked) (safe : Safe st) (h : WriterSide 
       → Stores st (stored (stepMade st (s .link) (s .step)) .after) T (λ z. WriterSide (stored (stepMade st (s .link) (s .step)) .after) (storeMade x (x .inHand)) z)
   turn-on s l hand tks fw w =
       let r = ready st x T safe h s l hand tks fw in
-      met-stores st (seqOf x) T s l safe hand (h .linked) (r .0) (r .1) (λ z. WriterSide (stored (stepMade st (s .link) (s .step)) .after) (storeMade x (x .inHand)) z) (go (due-of st x s l w))
+      facts-stores st (seqOf x) T s l safe hand (h .linked) (r .0) (r .1) (λ z. WriterSide (stored (stepMade st (s .link) (s .step)) .after) (storeMade x (x .inHand)) z) (go (due-of st x s l w))
     where
       kept : (c : Change) → x .inHand ≡ some c → WriterSide (stored (stepMade st (s .link) (s .step)) .after) (storeMade x (some c)) (t st x T safe h s l hand tks fw .next .tree)
           → WriterSide (stored (stepMade st (s .link) (s .step)) .after) (storeMade x (x .inHand)) (t st x T safe h s l hand tks fw .next .tree)

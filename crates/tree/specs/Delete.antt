@@ -10,7 +10,7 @@ use Rattle.datatypes.specs.declared.Side.{Side}
 use Rattle.datatypes.specs.declared.Side.the-variants.{L, R}
 use Rattle.datatypes.specs.Side.{other}
 use Rattle.sequential.specs.Tree.{Colour, red, black, Tree, leaf, node, ifRed, mk, child, keyOf, recordOf, colourOf, redChild, find, Frame, frame, plug, descend, diag, zig}
-use Rattle.sequential.specs.Delete.{blackOuter, blackSibling, underRed, fixup, lose, leastKey, leastRecord, removeLeast, remove, delete}
+use Rattle.sequential.specs.Delete.{blackOuter, siblingTurn, underRed, rbDeleteFixup, afterRemoval, leastKey, leastRecord, removeLeast, remove, delete}
 use Rattle.tree.specs.Order.{Ord, ord-trans, ord-anti, ord-apart, near-of, here-of, tri-case}
 use Rattle.tree.specs.Sorted.{ifRed-case, Below, Ordered, size, NotLeaf, mk-other, mk-there, whole, below-mk, ordered-mk, find-mk, size-mk, below-trans, find-none}
 use Rattle.tree.specs.Keeps.{Keeps, keeps-refl, keeps-trans, keeps-mk, keeps-plug, keeps-paint, keeps-diag, keeps-zig}
@@ -19,52 +19,52 @@ use Rattle.tree.specs.Descent.{Into, AtKey, descend-plug, descend-into, 
 use Rattle.tree.specs.Writes.{Writes, writes-keeps, writes-plug}
 use Rattle.tree.specs.DeleteShape.{redChild-inner, redChild-there}
 
--- The fixup keeps the tickets.
+-- The fix-up keeps the tickets.
 blackOuter-keeps : (z : Side) (w : Tree) → NotLeaf w → Keeps w (blackOuter z w)
 blackOuter-keeps z w n =
     let at-w : Keeps (mk z (colourOf w) (keyOf w) (recordOf w) (child z w) (child (other z) w)) (blackOuter z w) = keeps-mk z _ _ _ _ (keeps-paint black (child z w)) (keeps-refl _) in
     subst (λ t. Keeps t (blackOuter z w)) (whole z w n) at-w
 
-lent-keeps : (z : Side) (c : Colour) (k v : ℕ) (x w : Tree) → redChild w ≡ red
+nephew-keeps : (z : Side) (c : Colour) (k v : ℕ) (x w : Tree) → redChild w ≡ red
     → Keeps (mk z c k v w x) (ifRed (colourOf (child z w)) (diag z c black k v (blackOuter z w) x) (zig z c black k v w x))
-lent-keeps z c k v x w e =
+nephew-keeps z c k v x w e =
     ifRed-case (Keeps (mk z c k v w x)) (colourOf (child z w))
     (λ f. keeps-trans (keeps-mk z c c k v (blackOuter-keeps z w (redChild-there w e)) (keeps-refl x)) (keeps-diag z c c black k v (blackOuter z w) x (mk-there z _ _ _ _ _)))
     (λ f. keeps-zig z c c black k v w x (redChild-there w e) (red-there (child (other z) w) (redChild-inner z w e f)))
 
-blackSibling-keeps : (s : Side) (c : Colour) (k v : ℕ) (x w : Tree) → redChild w ≡ red → Keeps (mk s c k v x w) (blackSibling s c k v x w)
-blackSibling-keeps s c k v x w e = subst (λ t. Keeps t (blackSibling s c k v x w)) (mk-other s c k v x w) (lent-keeps (other s) c k v x w e)
+siblingTurn-keeps : (s : Side) (c : Colour) (k v : ℕ) (x w : Tree) → redChild w ≡ red → Keeps (mk s c k v x w) (siblingTurn s c k v x w)
+siblingTurn-keeps s c k v x w e = subst (λ t. Keeps t (siblingTurn s c k v x w)) (mk-other s c k v x w) (nephew-keeps (other s) c k v x w e)
 
 underRed-keeps : (s : Side) (c : Colour) (k v : ℕ) (x w : Tree) → Keeps (mk s red k v x w) (underRed s k v x w)
 underRed-keeps s c k v x w =
-    ifRed-case (Keeps (mk s red k v x w)) (redChild w) (λ e. blackSibling-keeps s red k v x w e) (λ e. keeps-mk s red black k v (keeps-refl x) (keeps-paint red w))
+    ifRed-case (Keeps (mk s red k v x w)) (redChild w) (λ e. siblingTurn-keeps s red k v x w e) (λ e. keeps-mk s red black k v (keeps-refl x) (keeps-paint red w))
 
--- fixup's case 1 is a diag, whose lower node has x and the sibling's inner child
-pub pass-diag : (s : Side) (k v : ℕ) (x w : Tree)
+-- Case 1 of the fix-up, a red sibling, is a diag, whose lower node has x and the sibling's inner child
+pub redSibling-diag : (s : Side) (k v : ℕ) (x w : Tree)
     → diag (other s) black red k v w x ≡ mk s black (keyOf w) (recordOf w) (mk s red k v x (child s w)) (child (other s) w)
-pass-diag L k v x w = refl
-pass-diag R k v x w = refl
+redSibling-diag L k v x w = refl
+redSibling-diag R k v x w = refl
 
-pass-keeps : (s : Side) (c : Colour) (k v : ℕ) (x w : Tree) → colourOf w ≡ red
+redSibling-keeps : (s : Side) (c : Colour) (k v : ℕ) (x w : Tree) → colourOf w ≡ red
     → Keeps (mk s c k v x w) (mk s black (keyOf w) (recordOf w) (underRed s k v x (child s w)) (child (other s) w))
-pass-keeps s c k v x w e =
+redSibling-keeps s c k v x w e =
     let turn = keeps-diag (other s) c black red k v w x (red-there w e) in
-    let turned : Keeps (mk s c k v x w) (mk s black (keyOf w) (recordOf w) (mk s red k v x (child s w)) (child (other s) w)) = rw (mk-other s c k v x w, pass-diag s k v x w) at turn in
+    let turned : Keeps (mk s c k v x w) (mk s black (keyOf w) (recordOf w) (mk s red k v x (child s w)) (child (other s) w)) = rw (mk-other s c k v x w, redSibling-diag s k v x w) at turn in
     keeps-trans turned (keeps-mk s black black _ _ (underRed-keeps s red k v x (child s w)) (keeps-refl _))
 
-pub fixup-keeps : (fs : List Frame) (x : Tree) → Keeps (plug fs x) (fixup fs x)
-fixup-keeps [] x = keeps-paint black x
-fixup-keeps (frame s c k v w ∷ fs) x =
+pub rbDeleteFixup-keeps : (fs : List Frame) (x : Tree) → Keeps (plug fs x) (rbDeleteFixup fs x)
+rbDeleteFixup-keeps [] x = keeps-paint black x
+rbDeleteFixup-keeps (frame s c k v w ∷ fs) x =
     let K = Keeps (plug fs (mk s c k v x w)) in
     ifRed-case K (colourOf x)
     (λ _. keeps-plug fs (keeps-mk s c c k v (keeps-paint black x) (keeps-refl w)))
-    (λ _. ifRed-case K (colourOf w) (λ e. keeps-plug fs (pass-keeps s c k v x w e))
-    (λ _. ifRed-case K (redChild w) (λ e. keeps-plug fs (blackSibling-keeps s c k v x w e))
-    (λ _. keeps-trans (keeps-plug fs (keeps-mk s c c k v (keeps-refl x) (keeps-paint red w))) (fixup-keeps fs _))))
+    (λ _. ifRed-case K (colourOf w) (λ e. keeps-plug fs (redSibling-keeps s c k v x w e))
+    (λ _. ifRed-case K (redChild w) (λ e. keeps-plug fs (siblingTurn-keeps s c k v x w e))
+    (λ _. keeps-trans (keeps-plug fs (keeps-mk s c c k v (keeps-refl x) (keeps-paint red w))) (rbDeleteFixup-keeps fs _))))
 
-pub lose-keeps : (c : Colour) (fs : List Frame) (x : Tree) → Keeps (plug fs x) (lose c fs x)
-lose-keeps red fs x = keeps-refl _
-lose-keeps black fs x = fixup-keeps fs x
+pub afterRemoval-keeps : (c : Colour) (fs : List Frame) (x : Tree) → Keeps (plug fs x) (afterRemoval c fs x)
+afterRemoval-keeps red fs x = keeps-refl _
+afterRemoval-keeps black fs x = rbDeleteFixup-keeps fs x
 
 -- The leftmost node.
 -- the tree without it
@@ -75,7 +75,7 @@ rest (node c k v (node d j w a b) r) = node c k v (rest (node d j w a b)) r
 
 removeLeast-keeps : (t : Tree) (fs : List Frame) → Keeps (plug fs (rest t)) (removeLeast t fs)
 removeLeast-keeps leaf fs = keeps-refl _
-removeLeast-keeps (node c k v leaf r) fs = lose-keeps c fs r
+removeLeast-keeps (node c k v leaf r) fs = afterRemoval-keeps c fs r
 removeLeast-keeps (node c k v (node d j w a b) r) fs = removeLeast-keeps (node d j w a b) (frame L c k v r ∷ fs)
 
 -- m with the record w is the least key of t, and u is t without it
@@ -139,8 +139,8 @@ swap c k v l r {m} {w} {u} i = record {
 }
 
 out-writes : (fs : List Frame) (c : Colour) (k v : ℕ) (l r : Tree) → Into k fs → Writes k (some v) none (plug fs (node c k v l r)) (remove fs (node c k v l r))
-out-writes fs c k v leaf r i = writes-keeps (writes-plug fs i (drop-one R c k v r)) (lose-keeps c fs r)
-out-writes fs c k v (node d j w a b) leaf i = writes-keeps (writes-plug fs i (drop-one L c k v (node d j w a b))) (lose-keeps c fs (node d j w a b))
+out-writes fs c k v leaf r i = writes-keeps (writes-plug fs i (drop-one R c k v r)) (afterRemoval-keeps c fs r)
+out-writes fs c k v (node d j w a b) leaf i = writes-keeps (writes-plug fs i (drop-one L c k v (node d j w a b))) (afterRemoval-keeps c fs (node d j w a b))
 out-writes fs c k v (node d j w a b) (node e n u x y) i =
     let l = node d j w a b in
     let r = node e n u x y in

@@ -1,5 +1,5 @@
 -- The end of each rotation, colours included, is the sequential one: what the index has when a diag or zig is raised is the tree that
--- `turnUp`, `borrow` and `underRed` make. f gives the nodes' colours before, g after.
+-- `turnUp`, `siblingTurn` and `underRed` make. f gives the nodes' colours before, g after.
 use Prim.Native.Nat.{ℕ}
 use mathlib.Core.Path.{_≡_}
 use Rattle.datatypes.specs.declared.Side.{Side}

@@ -1,5 +1,5 @@
 -- Insert and delete at the place that a search found, in a tree given by its zipper: which nodes delete's three forms are about, and the
--- way on which the fixup climbs. For the plans of insert and delete, which walk the same way in the pool.
+-- way that the fix-up goes. For the plans of insert and delete, which walk the same way in the pool.
 use Prim.Native.Nat.{ℕ}
 use mathlib.Core.Path.{_≡_, refl, ap, _∙_}
 use mathlib.Core.List.{List, [], _∷_, _++_}
@@ -7,22 +7,22 @@ use native.Mathlib.Omega.{arith}
 use Rattle.datatypes.specs.declared.Side.{Side}
 use Rattle.datatypes.specs.declared.Side.the-variants.{L, R}
 use Rattle.sequential.specs.Tree.{Colour, red, black, Tree, leaf, node, mk, paint, Frame, frame, plug}
-use Rattle.sequential.specs.Insert.{fixupResult, placed, insert}
-use Rattle.sequential.specs.Delete.{lose, leastKey, leastRecord, removeLeast, remove, delete}
+use Rattle.sequential.specs.Insert.{rbInsertFixup, insertedAt, insert}
+use Rattle.sequential.specs.Delete.{afterRemoval, leastKey, leastRecord, removeLeast, remove, delete}
 use Rattle.tree.specs.Sorted.{NotLeaf}
 use Rattle.tree.specs.Descent.{Into, AtKey, descend-place}
 use Rattle.tree.specs.Linked.{Node, Linked, nil, cell, at, NotNil}
 use Rattle.tree.specs.Zipper as Zipper
 use Rattle.tree.specs.Erase.{erase, eraseWay, erase-at, erase-plug, erase-into}
 
-pub insert-place : (fs : List Frame) (q w : ℕ) → Into q fs → insert (plug fs leaf) q w ≡ paint black (fixupResult fs (node red q w leaf leaf))
-insert-place fs q w i = ap (λ x. placed q w (x .way) (x .at)) (descend-place fs leaf q i tt)
+pub insert-place : (fs : List Frame) (q w : ℕ) → Into q fs → insert (plug fs leaf) q w ≡ paint black (rbInsertFixup fs (node red q w leaf leaf))
+insert-place fs q w i = ap (λ x. insertedAt q w (x .way) (x .at)) (descend-place fs leaf q i tt)
 
 pub delete-place : (fs : List Frame) (t : Tree) (q : ℕ) → Into q fs → AtKey q t → delete (plug fs t) q ≡ remove fs t
 delete-place fs t q i a = ap (λ x. remove (x .way) (x .at)) (descend-place fs t q i a)
 
 -- The first form: at most one child, on the side s.
-pub remove-first : (s : Side) (fs : List Frame) (c : Colour) (k v : ℕ) (x : Tree) → remove fs (mk s c k v x leaf) ≡ lose c fs x
+pub remove-first : (s : Side) (fs : List Frame) (c : Colour) (k v : ℕ) (x : Tree) → remove fs (mk s c k v x leaf) ≡ afterRemoval c fs x
 remove-first L fs c k v leaf = refl
 remove-first L fs c k v (node d j w a b) = refl
 remove-first R fs c k v x = refl
@@ -56,14 +56,14 @@ leftmost (frame L c k v y ∷ fs) (node d j w a b) h n =
 
 -- (d, j, w) is the successor's node, y its right child
 pub remove-other : (gs fs : List Frame) (c : Colour) (k v : ℕ) (l : Tree) (d : Colour) (j w : ℕ) (y : Tree) → NotLeaf l → Lefts fs
-    → remove gs (node c k v l (plug fs (node d j w leaf y))) ≡ lose d (fs ++ (frame R c j w l ∷ gs)) y
+    → remove gs (node c k v l (plug fs (node d j w leaf y))) ≡ afterRemoval d (fs ++ (frame R c j w l ∷ gs)) y
 remove-other gs fs c k v l d j w y n h =
     let i = leftmost fs (node d j w leaf y) h tt in
     remove-two gs c k v l (plug fs (node d j w leaf y)) n (i .there) ∙ rw (i .key, i .val) (i .out (frame R c j w l ∷ gs))
 
 -- the same in linked trees, whose colours are given by f
 pub insert-linked : (f : ℕ → Colour) (Fs : List Zipper.Frame) (q w : ℕ) → Zipper.Into q Fs
-    → insert (erase f (Zipper.plug Fs nil)) q w ≡ paint black (fixupResult (eraseWay f Fs) (node red q w leaf leaf))
+    → insert (erase f (Zipper.plug Fs nil)) q w ≡ paint black (rbInsertFixup (eraseWay f Fs) (node red q w leaf leaf))
 insert-linked f Fs q w i = rw (erase-plug f Fs nil) (insert-place (eraseWay f Fs) q w (erase-into f Fs q i))
 
 key-mk : (s : Side) (c : Colour) (k v : ℕ) (x y : Tree) → AtKey k (mk s c k v x y)
@@ -71,7 +71,7 @@ key-mk L c k v x y = refl
 key-mk R c k v x y = refl
 
 pub delete-first : (f : ℕ → Colour) (Fs : List Zipper.Frame) (s : Side) (B : Node) (x : Linked) → Zipper.Into (B .key) Fs
-    → delete (erase f (Zipper.plug Fs (at s B x nil))) (B .key) ≡ lose (f (B .num)) (eraseWay f Fs) (erase f x)
+    → delete (erase f (Zipper.plug Fs (at s B x nil))) (B .key) ≡ afterRemoval (f (B .num)) (eraseWay f Fs) (erase f x)
 delete-first f Fs s B x i =
     rw (erase-plug f Fs (at s B x nil), erase-at f s B x nil)
     (delete-place (eraseWay f Fs) (mk s (f (B .num)) (B .key) (B .val) (erase f x) leaf) (B .key) (erase-into f Fs (B .key) i) (key-mk s _ (B .key) _ _ _)
@@ -87,7 +87,7 @@ erase-lefts f (Zipper.hole s N y ∷ Gs) a = (a .0, erase-lefts f Gs (a .1))
 
 pub delete-other : (f : ℕ → Colour) (Fs Gs : List Zipper.Frame) (B C : Node) (l y : Linked) → Zipper.Into (B .key) Fs → Zipper.Along L Gs → NotNil l
     → delete (erase f (Zipper.plug Fs (at L B l (Zipper.plug Gs (at L C nil y))))) (B .key)
-    ≡ lose (f (C .num)) (eraseWay f Gs ++ (frame R (f (B .num)) (C .key) (C .val) (erase f l) ∷ eraseWay f Fs)) (erase f y)
+    ≡ afterRemoval (f (C .num)) (eraseWay f Gs ++ (frame R (f (B .num)) (C .key) (C .val) (erase f l) ∷ eraseWay f Fs)) (erase f y)
 delete-other f Fs Gs B C l y i a n =
     let r = Zipper.plug Gs (at L C nil y) in
     rw (erase-plug f Fs (at L B l r), erase-plug f Gs (at L C nil y))

@@ -10,11 +10,11 @@ use Rattle.datatypes.specs.declared.Side.{Side}
 use Rattle.datatypes.specs.declared.Side.the-variants.{L}
 use Rattle.datatypes.specs.Side.{other}
 use Rattle.sequential.specs.Tree.{Colour, red, black, Tree, leaf, node, mk, keyOf, recordOf, colourOf, paint, find, Frame, frame, plug, descend}
-use Rattle.sequential.specs.Insert.{turnUp, fixupResult, placed, insert}
+use Rattle.sequential.specs.Insert.{turnUp, rbInsertFixup, insertedAt, insert}
 use Rattle.tree.specs.Order.{here-of, tri-case}
 use Rattle.tree.specs.Sorted.{ifRed-case, NotLeaf, mk-other, mk-there, parts, Seen, outer, inner, seen}
 use Rattle.tree.specs.Keeps.{Keeps, keeps-refl, keeps-trans, keeps-mk, keeps-plug, keeps-paint, keeps-diag, keeps-zig}
-use Rattle.tree.specs.RedBlack.{RB, rb-leaf, rb-red, rb-black, RedBlack, Fit, fit-top, fit-red, fit-black, mk-red, mk-black, red-child, blacken, leavesTree-black, fit-plug}
+use Rattle.tree.specs.RedBlack.{RB, rb-leaf, rb-red, rb-black, RedBlack, Fit, fit-top, fit-red, fit-black, mk-red, mk-black, red-child, blacken, blacken-root, fit-plug}
 use Rattle.tree.specs.Descent.{Into, AtKey, descend-plug, descend-into, descend-find, descend-fit}
 use Rattle.tree.specs.Writes.{Writes, writes-keeps, writes-plug}
 
@@ -25,22 +25,22 @@ turnUp-good {z} outer k v j w r ry ra = simp parts (mk-black z k v r (mk-red z j
 turnUp-good {z} inner k v j w {x = x} {y = y} r ry ra =
     rw (mk-other z red k v y x) (simp parts (mk-black z (keyOf x) (recordOf x) (mk-red z k v ry (red-child z r)) (mk-red z j w (red-child (other z) r) ra)))
 
--- a climb can end with a red root, which `placed` paints black
-pub fixup-good : {fs : List Frame} {h : ℕ} {x : Tree} → Fit fs black h → RB red h x → RedBlack (paint black (fixupResult fs x))
-fixup-good fit-top r = (_, blacken r)
-fixup-good (fit-black {s} {k} {v} f ry) r = leavesTree-black (fit-plug f (mk-black s k v r ry))
-fixup-good (fit-red {s} {k} {v} (fit-black {s = z} {k = j} {v = w} f rb-leaf) ry) r = leavesTree-black (fit-plug f (turnUp-good (seen z s) k v j w r ry rb-leaf))
-fixup-good (fit-red {s} {k} {v} (fit-black {s = z} {k = j} {v = w} f (rb-red a b)) ry) r = fixup-good f (mk-red z j w (mk-black s k v r ry) (rb-black a b))
-fixup-good (fit-red {s} {k} {v} (fit-black {s = z} {k = j} {v = w} f (rb-black a b)) ry) r =
-    leavesTree-black (fit-plug f (turnUp-good (seen z s) k v j w r ry (rb-black a b)))
+-- the fix-up can end with a red root, which `insertedAt` paints black
+pub rbInsertFixup-good : {fs : List Frame} {h : ℕ} {x : Tree} → Fit fs black h → RB red h x → RedBlack (paint black (rbInsertFixup fs x))
+rbInsertFixup-good fit-top r = (_, blacken r)
+rbInsertFixup-good (fit-black {s} {k} {v} f ry) r = blacken-root (fit-plug f (mk-black s k v r ry))
+rbInsertFixup-good (fit-red {s} {k} {v} (fit-black {s = z} {k = j} {v = w} f rb-leaf) ry) r = blacken-root (fit-plug f (turnUp-good (seen z s) k v j w r ry rb-leaf))
+rbInsertFixup-good (fit-red {s} {k} {v} (fit-black {s = z} {k = j} {v = w} f (rb-red a b)) ry) r = rbInsertFixup-good f (mk-red z j w (mk-black s k v r ry) (rb-black a b))
+rbInsertFixup-good (fit-red {s} {k} {v} (fit-black {s = z} {k = j} {v = w} f (rb-black a b)) ry) r =
+    blacken-root (fit-plug f (turnUp-good (seen z s) k v j w r ry (rb-black a b)))
 
-placed-good : (q w : ℕ) {fs : List Frame} {c : Colour} {h : ℕ} {t : Tree} → Fit fs c h → RB c h t → RedBlack (placed q w fs t)
-placed-good q w f rb-leaf = fixup-good f (rb-red rb-leaf rb-leaf)
-placed-good q w f (rb-red a b) = fit-plug f (rb-red a b)
-placed-good q w f (rb-black a b) = fit-plug f (rb-black a b)
+insertedAt-good : (q w : ℕ) {fs : List Frame} {c : Colour} {h : ℕ} {t : Tree} → Fit fs c h → RB c h t → RedBlack (insertedAt q w fs t)
+insertedAt-good q w f rb-leaf = rbInsertFixup-good f (rb-red rb-leaf rb-leaf)
+insertedAt-good q w f (rb-red a b) = fit-plug f (rb-red a b)
+insertedAt-good q w f (rb-black a b) = fit-plug f (rb-black a b)
 
 pub insert-redblack : (t : Tree) (q w : ℕ) → RedBlack t → RedBlack (insert t q w)
-insert-redblack t q w g = let x = descend-fit q fit-top (g .1) in placed-good q w (x .2) (x .3)
+insert-redblack t q w g = let x = descend-fit q fit-top (g .1) in insertedAt-good q w (x .2) (x .3)
 
 -- The tickets.
 turnUp-keeps : {z s : Side} {b : Bool} → Seen z s b → (k v j w : ℕ) (c d : Colour) (x y a : Tree) → NotLeaf x
@@ -49,13 +49,13 @@ turnUp-keeps {z} outer k v j w c d x y a n = keeps-diag z c black red j w (mk z 
 turnUp-keeps {z} inner k v j w c d x y a n =
     rw (mk-other z d k v y x) (keeps-zig z c black red j w (mk z d k v y x) a (mk-there z d k v y x) (simp parts n))
 
-pub fixup-keeps : (fs : List Frame) (x : Tree) → NotLeaf x → Keeps (plug fs x) (fixupResult fs x)
-fixup-keeps [] x n = keeps-refl x
-fixup-keeps (frame s black k v y ∷ fs) x n = keeps-refl _
-fixup-keeps (frame s red k v y ∷ []) x n = keeps-refl _
-fixup-keeps (frame s red k v y ∷ frame z c j w a ∷ fs) x n =
+pub rbInsertFixup-keeps : (fs : List Frame) (x : Tree) → NotLeaf x → Keeps (plug fs x) (rbInsertFixup fs x)
+rbInsertFixup-keeps [] x n = keeps-refl x
+rbInsertFixup-keeps (frame s black k v y ∷ fs) x n = keeps-refl _
+rbInsertFixup-keeps (frame s red k v y ∷ []) x n = keeps-refl _
+rbInsertFixup-keeps (frame s red k v y ∷ frame z c j w a ∷ fs) x n =
     ifRed-case (Keeps (plug fs (mk z c j w (mk s red k v x y) a))) (colourOf a)
-    (λ e. keeps-trans (keeps-plug fs (keeps-mk z c red j w (keeps-mk s red black k v (keeps-refl x) (keeps-refl y)) (keeps-paint black a))) (fixup-keeps fs _ (mk-there z red j w _ _)))
+    (λ e. keeps-trans (keeps-plug fs (keeps-mk z c red j w (keeps-mk s red black k v (keeps-refl x) (keeps-refl y)) (keeps-paint black a))) (rbInsertFixup-keeps fs _ (mk-there z red j w _ _)))
     (λ e. keeps-plug fs (turnUp-keeps (seen z s) k v j w c red x y a n))
 
 pub new-writes : (c : Colour) (q w : ℕ) → Writes q none (some w) leaf (node c q w leaf leaf)
@@ -67,21 +67,21 @@ new-writes c q w = record {
   sized = refl;
 }
 
-placed-writes : (q w : ℕ) (fs : List Frame) (t : Tree) → Into q fs → find t q ≡ none → AtKey q t → Writes q none (some w) (plug fs t) (placed q w fs t)
-placed-writes q w fs leaf i e k =
-    writes-keeps (writes-plug fs i (new-writes red q w)) (keeps-trans (fixup-keeps fs (node red q w leaf leaf) tt) (keeps-paint black _))
-placed-writes q w fs (node c k v l r) i e h = absurd (let e′ = rw (here-of L q k h) at e in let z : _≡_ {A = ℕ} 0 1 = cc in omega arith)
+insertedAt-writes : (q w : ℕ) (fs : List Frame) (t : Tree) → Into q fs → find t q ≡ none → AtKey q t → Writes q none (some w) (plug fs t) (insertedAt q w fs t)
+insertedAt-writes q w fs leaf i e k =
+    writes-keeps (writes-plug fs i (new-writes red q w)) (keeps-trans (rbInsertFixup-keeps fs (node red q w leaf leaf) tt) (keeps-paint black _))
+insertedAt-writes q w fs (node c k v l r) i e h = absurd (let e′ = rw (here-of L q k h) at e in let z : _≡_ {A = ℕ} 0 1 = cc in omega arith)
 
 pub insert-writes : (t : Tree) (q w : ℕ) → find t q ≡ none → Writes q none (some w) t (insert t q w)
 insert-writes t q w e =
     let x = descend t q [] in
     let i = descend-into t q [] tt in
-    rw (descend-plug t q []) at (placed-writes q w (x .way) (x .at) (i .0) (descend-find t q [] ∙ e) (i .1))
+    rw (descend-plug t q []) at (insertedAt-writes q w (x .way) (x .at) (i .0) (descend-find t q [] ∙ e) (i .1))
 
-placed-held : (q w v : ℕ) (fs : List Frame) (t : Tree) → find t q ≡ some v → placed q w fs t ≡ plug fs t
-placed-held q w v fs leaf e = let z : _≡_ {A = ℕ} 0 1 = cc in absurd (omega arith)
-placed-held q w v fs (node c k u l r) e = refl
+insertedAt-held : (q w v : ℕ) (fs : List Frame) (t : Tree) → find t q ≡ some v → insertedAt q w fs t ≡ plug fs t
+insertedAt-held q w v fs leaf e = let z : _≡_ {A = ℕ} 0 1 = cc in absurd (omega arith)
+insertedAt-held q w v fs (node c k u l r) e = refl
 
 -- insert of a held key changes nothing
 pub insert-held : (t : Tree) (q w v : ℕ) → find t q ≡ some v → insert t q w ≡ t
-insert-held t q w v e = let x = descend t q [] in placed-held q w v (x .way) (x .at) (descend-find t q [] ∙ e) ∙ descend-plug t q []
+insert-held t q w v e = let x = descend t q [] in insertedAt-held q w v (x .way) (x .at) (descend-find t q [] ∙ e) ∙ descend-plug t q []

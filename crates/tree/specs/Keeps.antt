@@ -1,5 +1,5 @@
 -- Changes of a sequential tree that keep keys, records and order; the two rotations and painting are such changes.
--- Used for insert's climb and delete's fixup.
+-- Used for both fix-ups.
 use Prim.Native.Nat.{ℕ}
 use mathlib.Core.Path.{_≡_, refl, _∙_}
 use mathlib.Core.List.{List, [], _∷_}
@@ -46,8 +46,8 @@ keeps-paint c leaf = keeps-refl leaf
 keeps-paint c (node d k v l r) = keeps-mk L d c k v (keeps-refl l) (keeps-refl r)
 
 -- diag, by its parts
-insertFixup-outer : (z : Side) (k v j w : ℕ) (c d e f : Colour) (o i y : Tree) → Keeps (mk z c k v (mk z d j w o i) y) (mk z e j w o (mk z f k v i y))
-insertFixup-outer z k v j w c d e f o i y = record {
+keeps-diag-parts : (z : Side) (k v j w : ℕ) (c d e f : Colour) (o i y : Tree) → Keeps (mk z c k v (mk z d j w o i) y) (mk z e j w o (mk z f k v i y))
+keeps-diag-parts z k v j w c d e f o i y = record {
   below = λ s k. simp below-mk (λ h. search);
   ordered = simp (ordered-mk, below-mk) (λ h. search (ord-other, below-trans));
   same = simp (ordered-mk, below-mk) (λ h q. cut-case z j k q (h .0 .0)
@@ -57,9 +57,9 @@ insertFixup-outer z k v j w c d e f o i y = record {
 }
 
 -- zig, by its parts
-insertFixup-inner : (z : Side) (k v j w i u : ℕ) (c d e f g : Colour) (a x b y : Tree)
+keeps-zig-parts : (z : Side) (k v j w i u : ℕ) (c d e f g : Colour) (a x b y : Tree)
     → Keeps (mk z c k v (mk z d j w a (mk z e i u x b)) y) (mk z f i u (mk z g j w a x) (mk z g k v b y))
-insertFixup-inner z k v j w i u c d e f g a x b y = record {
+keeps-zig-parts z k v j w i u c d e f g a x b y = record {
   below = λ s k. simp below-mk (λ h. search);
   ordered = simp (ordered-mk, below-mk) (λ h. search (ord-other, other-ord, below-trans));
   same = simp (ordered-mk, below-mk) (λ h q. cut3-case z j i k q (other-ord z j i (h .2 .1 .0)) (h .0 .2 .0)
@@ -72,7 +72,7 @@ insertFixup-inner z k v j w i u c d e f g a x b y = record {
 pub keeps-diag : (z : Side) (c e f : Colour) (k v : ℕ) (b y : Tree) → NotLeaf b → Keeps (mk z c k v b y) (diag z e f k v b y)
 keeps-diag z c e f k v b y n =
     let at-b : Keeps (mk z c k v (mk z (colourOf b) (keyOf b) (recordOf b) (child z b) (child (other z) b)) y) (diag z e f k v b y) =
-    insertFixup-outer z k v (keyOf b) (recordOf b) c (colourOf b) e f (child z b) (child (other z) b) y in
+    keeps-diag-parts z k v (keyOf b) (recordOf b) c (colourOf b) e f (child z b) (child (other z) b) y in
     rw (whole z b n) at at-b
 
 -- the inner child of that child rises
@@ -80,5 +80,5 @@ pub keeps-zig : (z : Side) (c e f : Colour) (k v : ℕ) (a y : Tree) → NotLeaf
 keeps-zig z c e f k v a y n m =
     let b = child (other z) a in
     let at-b : Keeps (mk z c k v (mk z (colourOf a) (keyOf a) (recordOf a) (child z a) (mk z (colourOf b) (keyOf b) (recordOf b) (child z b) (child (other z) b))) y) (zig z e f k v a y) =
-    insertFixup-inner z k v (keyOf a) (recordOf a) (keyOf b) (recordOf b) c (colourOf a) (colourOf b) e f (child z a) (child z b) (child (other z) b) y in
+    keeps-zig-parts z k v (keyOf a) (recordOf a) (keyOf b) (recordOf b) c (colourOf a) (colourOf b) e f (child z a) (child z b) (child (other z) b) y in
     rw (whole z b m, whole z a n) at at-b

@@ -61,6 +61,9 @@ pub occ-in : (m : ℕ) (xs : List ℕ) → 0 < occ m xs → m ∈ xs
 occ-in m [] h = absurd (omega arith)
 occ-in m (x ∷ xs) h = one-case m x (λ e _. inl e) (λ _ e. inr (occ-in m xs (omega arith)))
 
+pub occ-apart : (d n : ℕ) (xs : List ℕ) → occ d xs ≡ 0 → 0 < occ n xs → d ≢ n
+occ-apart d n xs z h e = let x : occ d xs ≡ occ n xs = rw e in omega arith
+
 pub occ-distinct : (xs : List ℕ) → ((m : ℕ) → occ m xs ≤ 1) → Distinct xs
 occ-distinct [] h = tt
 occ-distinct (x ∷ xs) h =

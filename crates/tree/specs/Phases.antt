@@ -7,7 +7,6 @@ use mathlib.Core.Option.{Option, none, some}
 use native.Mathlib.Omega.{arith}
 use Rattle.datatypes.specs.declared.Side.{Side}
 use Rattle.datatypes.specs.declared.Side.the-variants.{L, R}
-use Rattle.sequential.specs.Tree as Seq
 use Rattle.sequential.specs.Tree.{Colour, black, leaf, node, mk}
 use Rattle.tree.specs.Sorted.{mk-there, parts}
 use Rattle.tree.specs.Keeps.{Keeps, keeps-plug, keeps-diag}

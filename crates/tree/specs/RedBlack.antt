@@ -53,9 +53,9 @@ black-child R (rb-black {d = d} a b) = (d, b)
 pub blacken : {h : ℕ} {t : Tree} → RB red h t → RB black (suc h) (paint black t)
 blacken (rb-red a b) = rb-black a b
 
-pub leavesTree-black : {t : Tree} → RedBlack t → RedBlack (paint black t)
-leavesTree-black (h, rb-leaf) = (_, rb-leaf)
-leavesTree-black (h, rb-black a b) = (_, rb-black a b)
+pub blacken-root : {t : Tree} → RedBlack t → RedBlack (paint black t)
+blacken-root (h, rb-leaf) = (_, rb-leaf)
+blacken-root (h, rb-black a b) = (_, rb-black a b)
 
 pub root-is : {c : Colour} {h : ℕ} {t : Tree} → RB c h t → colourOf t ≡ c
 root-is rb-leaf = refl

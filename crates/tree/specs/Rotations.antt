@@ -68,9 +68,9 @@ module _ (s : Side) (A B C : Node) (m n : ℕ) (a x y r : Linked) where
 
   pub zig-order : Ordered (bare zig₀) → Ord s (A .key) (B .key) × Ord s (B .key) (C .key)
   zig-order h =
-      let capacity = ordered-at s C (at s A a (at s B x y)) r .0 h in
-      let low = ordered-at s A a (at s B x y) .0 (capacity .2) in
-      let b = below-at s s (C .key) A a (at s B x y) .0 (capacity .0) in
+      let top = ordered-at s C (at s A a (at s B x y)) r .0 h in
+      let low = ordered-at s A a (at s B x y) .0 (top .2) in
+      let b = below-at s s (C .key) A a (at s B x y) .0 (top .0) in
       (other-ord s (A .key) (B .key) (below-at (other s) s (A .key) B x y .0 (low .1) .0), below-at s s (C .key) B x y .0 (b .2) .0)
 
   module _ (ab : Ord s (A .key) (B .key)) (bc : Ord s (B .key) (C .key)) where

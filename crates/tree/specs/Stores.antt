@@ -56,8 +56,8 @@ module _ (s : Side) (B C : Node) (l y : Linked) where
 
   pub form-order : Ordered (bare form₀) → Below s (B .key) (bare l) × Ord s (B .key) (C .key)
   form-order h =
-      let capacity = ordered-at s B l (at s C nil y) .0 h in
-      (capacity .0, other-ord s (B .key) (C .key) (below-at (other s) s (B .key) C nil y .0 (capacity .1) .0))
+      let top = ordered-at s B l (at s C nil y) .0 h in
+      (top .0, other-ord s (B .key) (C .key) (below-at (other s) s (B .key) C nil y .0 (top .1) .0))
 
   -- The order asked is that of l, B and C alone: it holds when l is shared too.
   module _ (b : Below s (B .key) (bare l)) where

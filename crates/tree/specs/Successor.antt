@@ -40,12 +40,12 @@ module _ (s : Side) (B C : Node) (n : ℕ) (l y : Linked) (fs : List Frame) wher
 
   pub third-order : Ordered (bare third₀) → ThirdOrder
   third-order h =
-      let capacity = ordered-at s B l beyond .0 h in
+      let top = ordered-at s B l beyond .0 h in
       record {
-        left = capacity .0;
-        rising = other-ord s (B .key) (C .key) (among-plug fs (at s C nil y) (C .key) (among-top s C nil y) (other s) (B .key) (capacity .1));
-        right = ordered-at s C nil y .0 (ordered-within fs (at s C nil y) (capacity .3)) .1;
-        through = into-top fs s C nil y (capacity .3);
+        left = top .0;
+        rising = other-ord s (B .key) (C .key) (among-plug fs (at s C nil y) (C .key) (among-top s C nil y) (other s) (B .key) (top .1));
+        right = ordered-at s C nil y .0 (ordered-within fs (at s C nil y) (top .3)) .1;
+        through = into-top fs s C nil y (top .3);
       }
 
   -- the keys above B's and up to C's
