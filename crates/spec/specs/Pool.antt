@@ -10,7 +10,7 @@ use Rattle.datatypes.specs.declared.Side.{Side}
 use Rattle.datatypes.specs.declared.Side.the-variants.{L, R}
 use Rattle.spec.specs.Numbers.{nodeWords, leastNodes, mostNodes, allSlots}
 
--- A node's words in order, each after the one before.
+-- A node's words in order, each after the one before: key 0, record 1, left 2, right 3, colour 4, standing 5, holders 6, next free 7.
 abbrev pub keyWord : ℕ
 keyWord = 0
 
