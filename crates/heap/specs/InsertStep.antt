@@ -30,7 +30,7 @@ use Rattle.tree.specs.Height.{mostHeight}
 use Rattle.tree.specs.Forms.{insert-linked}
 use Rattle.tree.specs.Ways.{insert-fixup-finds}
 use Rattle.tree.specs.Occurs.{occWay, occ-plug, turnover-plug, insert-turnover}
-use Rattle.tree.specs.Phases.{writes-whole, insert-writes}
+use Rattle.tree.specs.Phases.{writes-whole, insertion-writes}
 use Rattle.tree.specs.InsertFixup as InsertFixup
 use Rattle.tree.specs.InsertFixup.{InsertFixupEnd, balanced, rotate, rootRed, insertFixup-ends}
 use Rattle.heap.specs.Sites.{linkTo, links, site-of, of-site, site-alike}
@@ -173,7 +173,7 @@ module _ (st : State) (G : Tree) (k v : ℕ) (fs : List Frame) (h : At st fs nil
       let is : G ≡ Seq.paint black (InsertFixup.insertEnded (insertFixupOf f fs .end) (eraseWay gg U) (erase gg u))
       = goal ∙ insert-linked f fs k v into ∙ ap (Seq.paint black) (insertFixup-ends (eraseWay f fs) (node red k v leaf leaf)) ∙ rw (way, sub) in
       let once : Once T = once-turnover [] n (plug fs nil) T (turnover-plug fs [] (n ∷ []) nil (cell Z nil nil) (insert-turnover Z)) (good .once) (fresh .new) in
-      let ordered = writes-whole fs nil (cell Z nil nil) into (insert-writes Z) .ordered (ordered-bare f _ (plug fs nil) (good .proper .ordered)) in
+      let ordered = writes-whole fs nil (cell Z nil nil) into (insertion-writes Z) .ordered (ordered-bare f _ (plug fs nil) (good .proper .ordered)) in
       let told : Told G T = told-insert G (erase f (plug fs nil)) k v (plug fs nil) T goal (good .proper .ordered) (erase-find f (plug fs nil))
       (find-into fs nil k into) (sameBut-lift fs into (insert-find Z)) in
       let lined : Lined G (plug U u) = rw same (record { once = once; ordered = ordered; told = told }) in

@@ -23,7 +23,7 @@ use Rattle.base.specs.Lists.{_∈_}
 use Rattle.spec.specs.FreeQueue.{InPool}
 use Rattle.laws.specs.Words.{length-setWord, word-same, word-other}
 use Rattle.laws.specs.Queue.{link-low}
-use Rattle.readers.specs.Words.{Whole, whole-length, stands-node, fill-length, fill-other, fill-standing}
+use Rattle.readers.specs.Words.{Whole, whole-kept, stands-node, fill-length, fill-other, fill-standing}
 use Rattle.readers.specs.QueueExact.{field-exact}
 use Rattle.readers.specs.Owned.{Slots, Owned, own-word, own-take}
 use Rattle.readers.specs.Reach.{HasStanding}
@@ -148,7 +148,7 @@ taking-stored st n q k w s x y c l v whole o h =
     let base = takeNode st k w s x y c in
     let out : (m f : ℕ) → f < nodeWords → ¬ (m ∈ (n ∷ [])) → word (base .pool) m f ≡ word p m f =
     λ m f u i. fill-other p a k w s x y c m f u (λ e. i (inl (sym e ∙ first))) in
-    let g = link-stored base q l v (whole-length p (base .pool) (fill-length p a k w s x y c) whole) (owner l o (λ m e. out m standingWord (omega arith) e) (here .1))
+    let g = link-stored base q l v (whole-kept p (base .pool) (fill-length p a k w s x y c) whole) (owner l o (λ m e. out m standingWord (omega arith) e) (here .1))
     (own-take st n q k w s x y c h) in
     record {
       size = g .size ∙ fill-length p a k w s x y c;

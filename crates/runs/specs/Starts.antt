@@ -78,7 +78,7 @@ module _ (S : Start) (h : SoundStart S) where
   abbrev p : List ℕ
   p = S .index .pool
 
-  pub size : nodes p ≡ S .size
+  size : nodes p ≡ S .size
   size = let a = h .words in omega arith
 
   whole : Whole p
