@@ -26,12 +26,12 @@ use Rattle.tree.specs.Zipper.{Frame, hole, plug, Into}
 use Rattle.tree.specs.Erase.{erase, eraseWay, erase-at}
 use Rattle.tree.specs.Occurs.{occ-distinct, occ-plug, size-bound}
 use Rattle.tree.specs.InsertFixup as InsertFixup
-use Rattle.tree.specs.InsertFixup.{InsertFixupEnd, balanced, rotate, InsertFixupFinds, insertFixup-balanced, insertFixup-level, insertFixup-turn}
+use Rattle.tree.specs.InsertFixup.{pairsUp, InsertFixupEnd, balanced, rotate, InsertFixupFinds, insertFixup-balanced, insertFixup-level, insertFixup-turn}
 use Rattle.heap.specs.Rep.{Rep}
 use Rattle.heap.specs.Sites.{linkTo, Way, Site, site-of, of-site}
 use Rattle.heap.specs.Colours.{colours, colours-none, red-is}
 use Rattle.heap.specs.Paths.{OnceWay, path-to, depth}
-use Rattle.heap.specs.Fixups.{insertFixupOf, way-sides, pairsUp, insertFixupEnding, insertFixup-links}
+use Rattle.heap.specs.Fixups.{insertFixupOf, way-sides, insertFixupEnding, insertFixup-links}
 use Rattle.heap.specs.Moves.{Once}
 use Rattle.heap.specs.Phase.{forInsert, insertEnding, SoundIn, Lined, Phase, diag-0, zig-0}
 use Rattle.heap.specs.RaiseSteps.{split}

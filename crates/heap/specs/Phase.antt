@@ -28,13 +28,14 @@ use Rattle.tree.specs.Zipper.{Frame, plug, Into, Along}
 use Rattle.tree.specs.Erase.{erase, eraseWay}
 use Rattle.tree.specs.Occurs.{occ}
 use Rattle.tree.specs.Height.{mostHeight}
-use Rattle.tree.specs.DeleteFixup.{Nephew, noNephew, nephew, nephewOf}
+use Rattle.tree.specs.DeleteFixup.{framesUp, Nephew, noNephew, nephew, nephewOf}
 use native.Mathlib.Omega.{arith}
 use lib.ListN.{length}
+use Rattle.tree.specs.InsertFixup.{pairsUp}
 use Rattle.heap.specs.Rep.{Rep, Alike, upToLinks, upToColour, alike-less}
 use Rattle.heap.specs.Sites.{linkTo, Site, site-alike, of-site}
 use Rattle.heap.specs.Colours.{colours, colours-alike}
-use Rattle.heap.specs.Fixups.{insertFixupOf, pairsUp, insertFixupEnding, formOf, framesUp, tip, deleteFixupEnding}
+use Rattle.heap.specs.Fixups.{insertFixupOf, insertFixupEnding, formOf, tip, deleteFixupEnding}
 use Rattle.heap.specs.DeleteFixupRun.{deleteFixupOf}
 use Rattle.heap.specs.Moves.{Once}
 use Rattle.heap.specs.Places.{Diag, diagTop, diagTree, diagLow, Zig, zigTop, zigTree, zigLowA, zigLowC, Single, singleTop, singleTree}
