@@ -56,7 +56,7 @@ pool-fits p w e n f u = elim (ℕ-discrete n 0) [
 pub ranged-of : (N : ℕ) (st : State) → nodes (st .pool) ≡ N → Whole (st .pool) → length (st .register .readers) ≡ slots → st .register .write ≡ noWrite
     → outOfRange st ≡ false → Ranged N st
 unfolding registerInRange
-ranged-of N st size whole recorded idle e =
+ranged-of N st size whole perSlot idle e =
     let r = st .register in
     let h = both (poolInRange (st .pool)) _ (not-false _ e) in
     let g = rw size at (h .1) in

@@ -46,7 +46,7 @@ own-recoloured a b l t h =
       good = λ n hn. rw (t .readers, t .only .words n standingWord (omega arith) (omega arith), t .only .words n holdersWord (omega arith) (omega arith))
           (h .good n (node-length q p n (sym (t .only .size)) hn));
       awaited = rw (t .readers, t .awaited) (h .awaited);
-      recorded = ap length (t .readers) ∙ h .recorded;
+      perSlot = ap length (t .readers) ∙ h .perSlot;
     }
 
 pub stored-recoloured : (st a b : State) (came : List ℕ) (l : Link) (v : ℕ) → Recoloured a b → Stored st a came l v → Stored st b came l v

@@ -101,17 +101,17 @@ turn-absent p A k n e f = case (f .tree) (f .unfolds) (f .answer)
     case (cell N l r) h a = let i = h .0 .is in let j = h .0 .within .low in absurd (omega arith)
 
 -- Turn after turn on one state.
-module _ (st : State) (k : ℕ) (recorded : length (st .register .readers) ≡ slots) where
+module _ (st : State) (k : ℕ) (perSlot : length (st .register .readers) ≡ slots) where
   abbrev posed : ℕ → State
   posed n = state (st .pool) (withReader (st .register) 0 (readingAt k n))
 
   there : (n : ℕ) → readerOf (posed n .register) 0 ≡ readingAt k n
-  there n = reader-same (st .register) 0 (readingAt k n) (rw recorded (omega arith))
+  there n = reader-same (st .register) 0 (readingAt k n) (rw perSlot (omega arith))
 
   again : (n c : ℕ) → readerOf (withReader (posed n .register) 0 (readingAt k c)) 0 ≡ readingAt k c
   unfolding withReader
   again n c = reader-same (posed n .register) 0 (readingAt k c)
-      (rw (length-set (st .register .readers) 0 (readingAt k n), recorded) (omega arith))
+      (rw (length-set (st .register .readers) 0 (readingAt k n), perSlot) (omega arith))
 
   -- a link is loaded that unfolds to t
   going-load : (n c : ℕ) (t : Linked) → turnAt st k n ≡ loaded (posed n) 0 (readingAt k n) c → Rep (st .pool) c t → ((c ≢ 0) → Going st k c (answerOf (find t k))) → Going st k n (answerOf (find t k))

@@ -48,7 +48,7 @@ pub record Owned (st : State) (l : List ℕ) : Type 0 where
   pub exact : QueueExact st l
   pub good : (n : ℕ) → InPool (st .pool) n → Good (st .register .readers) (word (st .pool) n standingWord) (word (st .pool) n holdersWord)
   pub awaited : Slots (st .register .readers) (st .register .awaited)
-  pub recorded : length (st .register .readers) ≡ slots
+  pub perSlot : length (st .register .readers) ≡ slots
 
 good-free : (xs : List Reader) → Good xs standingFree 0
 good-free xs = record { rank = omega arith; mask = omega arith; holder = λ e. absurd (omega arith); reads = λ e. absurd (omega arith) }
@@ -71,7 +71,7 @@ module _ (p : List ℕ) (r q : Register) (l : List ℕ) where
     good = λ n hn. (let g = h .good n hn in
         record { rank = g .rank; mask = g .mask; holder = g .holder; reads = λ i s u v. more s u (g .reads i s u v) });
     awaited = rw w (record { below = h .awaited .below; reads = λ s u v. more s u (h .awaited .reads s u v) });
-    recorded = e ∙ h .recorded;
+    perSlot = e ∙ h .perSlot;
   }
 
 -- slot s reads
@@ -81,7 +81,7 @@ own-reader st l s x u e h =
     let xs = st .register .readers in
     own-readers (st .pool) (st .register) (withReader (st .register) s x) l refl refl refl refl (length-set xs s x)
     (λ t v i. elim (ℕ-discrete s t) [
-      | yes d ↦ rw (← d) (ap (λ y. y .reading) (getD-set-same xs s x noReader (rw (h .recorded) u)) ∙ e)
+      | yes d ↦ rw (← d) (ap (λ y. y .reading) (getD-set-same xs s x noReader (rw (h .perSlot) u)) ∙ e)
       | no d ↦ ap (λ y. y .reading) (getD-set-other xs s t x noReader (λ z. d (sym z))) ∙ i
     ])
     h
@@ -128,7 +128,7 @@ own-end st l s h =
           rw (d .standing n u, d .holders n u, d .else .readers) (good-drop xs s (word p n standingWord) (word p n holdersWord) (h .good n k))
           );
       awaited = rw (d .else .readers, d .else .awaited) (slots-drop xs s (st .register .awaited) (h .awaited));
-      recorded = ap length (d .else .readers) ∙ length-set xs s noReader ∙ h .recorded;
+      perSlot = ap length (d .else .readers) ∙ length-set xs s noReader ∙ h .perSlot;
     }
 
 -- Retire and take.
@@ -144,7 +144,7 @@ own-free st l n h hn d =
             (h .good m (node-length (freeNode st n .pool) p m (sym (free-length st n)) hm))
       ]);
       awaited = rw (e .readers, e .awaited) (h .awaited);
-      recorded = ap length (e .readers) ∙ h .recorded;
+      perSlot = ap length (e .readers) ∙ h .perSlot;
     }
 
 -- two words of a node that stands linked or retired
@@ -160,7 +160,7 @@ own-mark st l n a b h hn d e g =
             (h .good m (node-length (marked p n a b) p m (sym (marked-length p n a b)) hm))
       ];
       awaited = h .awaited;
-      recorded = h .recorded;
+      perSlot = h .perSlot;
     }
 
 -- the nodes that a retire frees: with none reading the node itself
@@ -190,7 +190,7 @@ own-take st n l k v s x y c h =
             (h .good m (node-length q p m (sym (fill-length p a k v s x y c)) hm))
       ];
       awaited = h .awaited;
-      recorded = h .recorded;
+      perSlot = h .perSlot;
     }
 
 -- key, record, links and colour
@@ -202,5 +202,5 @@ own-word st l n f v u h =
       good = λ m hm. rw (word-other p n m f standingWord v (omega arith) (omega arith) (inr (omega arith)), word-other p n m f holdersWord v (omega arith) (omega arith) (inr (omega arith)))
           (h .good m (node-length (setWord p n f v) p m (sym (length-setWord p n f v)) hm));
       awaited = h .awaited;
-      recorded = h .recorded;
+      perSlot = h .perSlot;
     }

@@ -67,7 +67,7 @@ pub safe-reader : (st : State) (s : ℕ) (x : Reader) → s < slots → x .readi
     → Safe (state (st .pool) (withReader (st .register) s x))
 safe-reader st s x u e k h =
     let r = st .register in
-    let here : readerOf (withReader r s x) s ≡ x = reader-same r s x (rw (h .owned .recorded) u) in
+    let here : readerOf (withReader r s x) s ≡ x = reader-same r s x (rw (h .owned .perSlot) u) in
     record {
       whole = h .whole;
       queue = h .queue;
@@ -94,7 +94,7 @@ pub end-reader : (st : State) (s t : ℕ) → Safe st → s ≢ t → readerOf (
 end-reader st s t h d = ap (λ xs. getD xs t noReader) (end-released st s (h .queue) (h .owned .exact) .else .readers) ∙ ended-reader st s t d
 
 pub end-own : (st : State) (s : ℕ) → s < slots → Safe st → readerOf (endReading st s .register) s ≡ noReader
-end-own st s u h = ap (λ xs. getD xs s noReader) (end-released st s (h .queue) (h .owned .exact) .else .readers) ∙ ended-own st s (rw (h .owned .recorded) u)
+end-own st s u h = ap (λ xs. getD xs s noReader) (end-released st s (h .queue) (h .owned .exact) .else .readers) ∙ ended-own st s (rw (h .owned .perSlot) u)
 
 ended-root : (st : State) (s : ℕ) → ended st s .register .root ≡ st .register .root
 unfolding withAwaited withReader

@@ -82,7 +82,7 @@ own-fields p r q l a b c e w h = record {
   exact = field-exact p r q l a b c (h .exact);
   good = λ n hn. rw e (h .good n hn);
   awaited = w;
-  recorded = ap length e ∙ h .recorded;
+  perSlot = ap length e ∙ h .perSlot;
 }
 
 -- a link of a linked node

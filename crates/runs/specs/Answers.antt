@@ -97,7 +97,7 @@ begun-right st c o A s k (stores f g i) safe (e, a) = absurd (let z = ap kindOf 
 begun-right st c o A s k (begins t j u f) safe (e, a) =
     let y = ap slotOf e in
     let z = ap keyOfCall e in
-    (subst (λ m. m < slots) y u, begun-stand st A s k t j y z (rw (safe .owned .recorded) u))
+    (subst (λ m. m < slots) y u, begun-stand st A s k t j y z (rw (safe .owned .perSlot) u))
 begun-right st c o A s k (loads t n p l f) safe (e, a) = absurd (let z = ap kindOf e in omega arith)
 begun-right st c o A s k (misses t n p l f) safe (e, a) = absurd (let z = ap kindOf e in omega arith)
 begun-right st c o A s k (finds t p f g) safe (e, a) = absurd (let z = ap kindOf e in omega arith)

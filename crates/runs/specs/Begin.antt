@@ -155,7 +155,7 @@ module _ (N : ℕ) (lo : leastNodes ≤ N) where
     most = hi;
     words = size;
     inRange = ranged-in N (fresh N) ranged-fresh;
-    recorded = refl;
+    perSlot = refl;
     quiet = λ s u. ap (λ x. x .reading) (quiet s);
     unawaited = refl;
     idle = refl;

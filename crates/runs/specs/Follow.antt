@@ -60,7 +60,7 @@ stand-own : (st : State) (A : Option ℕ → Type 0) (s k : ℕ) (x : Reader) �
     → StandAt (state (st .pool) (withReader (st .register) s x)) A s k
 unfolding withReader
 stand-own st A s k x u safe h =
-    subst (λ y. Stand (st .pool) (st .register .root) (st .register .awaited) y A s k) (sym (reader-same (st .register) s x (rw (safe .owned .recorded) u))) h
+    subst (λ y. Stand (st .pool) (st .register .root) (st .register .awaited) y A s k) (sym (reader-same (st .register) s x (rw (safe .owned .perSlot) u))) h
 
 -- Another slot ends.
 pub ended-awaited : (st : State) (t : ℕ) → (ended st t .register .awaited ≡ dropSlot (st .register .awaited) t) × (ended st t .register .root ≡ st .register .root)

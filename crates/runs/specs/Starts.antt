@@ -34,7 +34,7 @@ pub record SoundStart (S : Start) : Type 0 where
   pub words : length (S .index .pool) ≡ S .size * nodeWords
   pub inRange : outOfRange (S .index) ≡ false
   -- each slot has a record; none is reading or awaited; no write is in hand
-  pub recorded : length (S .index .register .readers) ≡ slots
+  pub perSlot : length (S .index .register .readers) ≡ slots
   pub quiet : (s : ℕ) → s < slots → reading (S .index) s ≡ false
   pub unawaited : S .index .register .awaited ≡ 0
   pub idle : S .index .register .write ≡ noWrite
@@ -85,7 +85,7 @@ module _ (S : Start) (h : SoundStart S) where
   whole = let a = h .words in let b = size in omega arith
 
   pub ranged-start : Ranged (S .size) (S .index)
-  ranged-start = ranged-of (S .size) (S .index) size whole (h .recorded) (h .idle) (h .inRange)
+  ranged-start = ranged-of (S .size) (S .index) size whole (h .perSlot) (h .idle) (h .inRange)
 
   good : (n : ℕ) → InPool p n → Good (S .index .register .readers) (word p n standingWord) (word p n holdersWord)
   good n hn =
@@ -100,7 +100,7 @@ module _ (S : Start) (h : SoundStart S) where
   safe-start = record {
     whole = whole;
     queue = h .free .queue;
-    owned = record { exact = right-exact (S .index) (h .free); good = good; awaited = awaited; recorded = h .recorded };
+    owned = record { exact = right-exact (S .index) (h .free); good = good; awaited = awaited; perSlot = h .perSlot };
     closed = record {
       linked = λ n z e d. h .linked (child p z n) .1 (leads-on p (S .index .register .root) n z (h .linked n .0 e) d);
       retired = λ n z e. absurd (h .unretired n e);

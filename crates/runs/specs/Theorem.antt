@@ -171,7 +171,7 @@ module _ (W : State → Plain → Linked → Type 0) (writer : Writer W) (S : St
     everyKey = λ j k. (
         let h = sound-at j in
         subst (λ o. Going (at j) k 0 (answerOf o)) (writer .finds (at j) (list j) (h .tree) (h .holds) k)
-        (going-root (at j) k (h .safe .owned .recorded) (h .tree) (writer .unfolds (at j) (list j) (h .tree) (h .holds)))
+        (going-root (at j) k (h .safe .owned .perSlot) (h .tree) (writer .unfolds (at j) (list j) (h .tree) (h .holds)))
         );
     keysHeld = λ j. (let h = sound-at j in writer .held (at j) (list j) (h .tree) (h .holds));
   }

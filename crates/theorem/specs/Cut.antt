@@ -74,7 +74,7 @@ module _ (S : Start) (h : SoundStart S) (cs : List Call) (j : ℕ) where
         most = h .most;
         words = let a = safe .whole in let b = ranged .within .size in omega arith;
         inRange = ranged-in (S .size) st ranged;
-        recorded = safe .owned .recorded;
+        perSlot = safe .owned .perSlot;
         quiet = quiet;
         unawaited = none-awaited st safe (λ s u e. quiet s u);
         idle = no-write st x T k idle;
