@@ -143,5 +143,11 @@ module _ (st : State) (G : Tree) (d : Single) (h : At st (d .way) (singleTop d))
   pub unlink-0-finds : stepFinds st (linkTo fs) Unlink ≡ true
   unfolding stepFinds
   unlink-0-finds =
-      rw (top .is, top .words .key-is, only-is p s (B .num) (top .far), path-is, is-node (B .num) (top .words .within .low),
-      removal-there p (B .num) n (colourOf (erase f x)) fs is-red sides fixup-finds)
+      rw (
+        top .is,
+        top .words .key-is,
+        only-is p s (B .num) (top .far),
+        path-is,
+        is-node (B .num) (top .words .within .low),
+        removal-there p (B .num) n (colourOf (erase f x)) fs is-red sides fixup-finds,
+      )

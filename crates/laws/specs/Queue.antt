@@ -12,7 +12,7 @@ use Rattle.datatypes.specs.declared.Side.the-variants.{L, R}
 use Rattle.datatypes.specs.Side.{other}
 use Rattle.base.specs.Lists.{_∈_, Distinct}
 use Rattle.spec.specs.Numbers.{nodeWords}
-use Rattle.spec.specs.Pool.{word, setWord, recordAt, keyWord, recordWord, leftWord, rightWord, linkWord, colourWord, standingWord, holdersWord, nextWord}
+use Rattle.spec.specs.Pool.{word, setWord, recordAt, keyWord, recordWord, leftWord, rightWord, linkWord, colourWord, standingWord, holdersWord, nextWord, standingLinked}
 use Rattle.spec.specs.Register.{State, withQueue}
 use Rattle.spec.specs.Free.{takeFree, fillNode, takeNode, freeNode}
 use Rattle.spec.specs.FreeQueue.{InPool, Chain, lastOf, Queue}
@@ -39,7 +39,7 @@ chain-word p d f v a (m ∷ l) hf h = (
   rw (word-other p d m f nextWord v (omega arith) (omega arith) (inr (omega arith))) (chain-word p d f v (word p m nextWord) l hf (h .2)),
 )
 
--- the links are among the first four words
+-- the links stand before the colour
 pub link-low : (s : Side) → linkWord s < colourWord
 link-low L = omega arith
 link-low R = omega arith
@@ -53,15 +53,40 @@ pub record-link : (p : List ℕ) (d n : ℕ) (s : Side) (b : ℕ) → recordAt (
 record-link p d n L b = word-other p d n leftWord recordWord b (omega arith) (omega arith) (inr (omega arith))
 record-link p d n R b = word-other p d n rightWord recordWord b (omega arith) (omega arith) (inr (omega arith))
 
+-- A taken node is filled word by word, here only: what setting a word of it keeps, filling it keeps. G f u says that word f may be set to u.
+pub record Fills (G : ℕ → ℕ → Type 0) (k v : ℕ) (s : Side) (x y c : ℕ) : Type 0 where
+  pub key : G keyWord k
+  pub val : G recordWord v
+  pub near : G (linkWord s) x
+  pub far : G (linkWord (other s)) y
+  pub colour : G colourWord c
+  pub standing : G standingWord standingLinked
+  -- the other words are 0
+  pub zero : (f : ℕ) → G f 0
+
+module _ (P : List ℕ → Type 0) (p : List ℕ) (n k v : ℕ) (s : Side) (x y c : ℕ) where
+  pub fill-keeps : (G : ℕ → ℕ → Type 0) → ((q : List ℕ) (f u : ℕ) → f < nodeWords → G f u → P q → P (setWord q n f u)) → Fills G k v s x y c
+      → P p → P (fillNode p n k v s x y c)
+  unfolding fillNode
+  fill-keeps G put g h =
+      put _ nextWord 0 (omega arith) (g .zero nextWord)
+      (put _ holdersWord 0 (omega arith) (g .zero holdersWord)
+      (put _ standingWord standingLinked (omega arith) (g .standing)
+      (put _ colourWord c (omega arith) (g .colour)
+      (put _ (linkWord (other s)) y (omega (arith, link-low (other s))) (g .far)
+      (put _ (linkWord s) x (omega (arith, link-low s)) (g .near)
+      (put _ recordWord v (omega arith) (g .val)
+      (put p keyWord k (omega arith) (g .key) h)))))))
+
+  -- what setting any word of it keeps
+  pub fill-keeps-any : ((q : List ℕ) (f u : ℕ) → f < nodeWords → P q → P (setWord q n f u)) → P p → P (fillNode p n k v s x y c)
+  fill-keeps-any put h =
+      fill-keeps (λ f u. Unit {0}) (λ q f u l g i. put q f u l i)
+      record { key = tt; val = tt; near = tt; far = tt; colour = tt; standing = tt; zero = λ f. tt }
+      h
+
 fill-outside : (p : List ℕ) (n k v : ℕ) (s : Side) (x y c a : ℕ) (l : List ℕ) → ¬ (n ∈ l) → Chain p a l → Chain (fillNode p n k v s x y c) a l
-unfolding fillNode
-fill-outside p n k v s x y c a l out h =
-    chain-outside _ n nextWord 0 a l (omega arith) out
-    (chain-word _ n holdersWord 0 a l (omega arith)
-    (chain-word _ n standingWord _ a l (omega arith)
-    (chain-word _ n colourWord c a l (omega arith)
-    (chain-word _ n (linkWord (other s)) y a l (omega (arith, link-low (other s)))
-    (chain-word _ n (linkWord s) x a l (omega (arith, link-low s)) (chain-word _ n recordWord v a l (omega arith) (chain-word p n keyWord k a l (omega arith) h)))))))
+fill-outside p n k v s x y c a l out h = fill-keeps-any (λ q. Chain q a l) p n k v s x y c (λ q f u i j. chain-outside q n f u a l i out j) h
 
 -- Take: the first node is taken and filled, the rest stays in order.
 last-after : (p : List ℕ) (n m z : ℕ) (l : List ℕ) → Chain p n l → z ≡ lastOf (m ∷ l) → cond (eqb n 0) 0 z ≡ lastOf l

@@ -89,7 +89,7 @@ unless-refused tests st o k e d = rw (e, ne-eqb k 0 d)
 pub unless-done : (tests : List Test) (st : State) (o : Outcome) → firstOf tests ≡ 0 → unless tests st o ≡ o
 unless-done tests st o e = rw e
 
--- and its length is 8 × N
+-- and its length is N times a node's words
 pub whole-length : (p : List ℕ) → lengthRight p ≡ true → length p ≡ nodes p * nodeWords
 unfolding lengthRight
 whole-length p h =

@@ -15,7 +15,7 @@ pub const SLOTS: usize = 8;
 
 pub const SLOT_LIMIT: u32 = SLOTS as u32;
 
-pub const ALL_SLOTS: u32 = 255;
+pub const ALL_SLOTS: u32 = ((1u64 << SLOT_LIMIT) - 1) as u32;
 
 // the most nodes of a path, and its most links: one more, and the right link below it
 pub const PATH_BOUND: u32 = 64;

@@ -24,11 +24,12 @@ use Rattle.spec.specs.Pool.{place, word, setWord, child, paint, nodes, keyWord,
 use Rattle.spec.specs.Pool.{colourWord, standingWord, holdersWord, nextWord, standingFree, standingLinked, standingRetired}
 use Rattle.spec.specs.Register.{State, state, noReader, readerOf, withRoot, withQueue, withHeld, withReader, withAwaited, withWrite, countUp}
 use Rattle.spec.specs.Register.{countDown, nodeAt, linkNode, setLink, dropSlot, readingSlots}
-use Rattle.spec.specs.Free.{queueEmpty, takeFree, fillNode, takeNode, freeNode, retire, retireTwo, release, endReading}
+use Rattle.spec.specs.Free.{queueEmpty, takeFree, takeNode, freeNode, retire, retireTwo, release, endReading}
 use Rattle.laws.specs.Words.{length-setWord, set-none, word-at, set-at, word-other}
-use Rattle.laws.specs.Queue.{link-low}
+use Rattle.laws.specs.Queue.{fill-keeps}
 use Rattle.laws.specs.Slots.{drop-le}
 use Rattle.readers.specs.Marks.{reading-below}
+use Rattle.readers.specs.Words.{fill-length}
 
 -- word f may be v; the capacity is N
 pub record WordOk (capacity f v : ℕ) : Type 0 where
@@ -139,20 +140,22 @@ count-up capacity n h = elim (decLt n capacity) [ yes u ↦ rw (lt-ltb n capacit
 
 -- Take.
 pub within-take : (capacity : ℕ) (st : State) (k v : ℕ) (s : Side) (x y c : ℕ) → x ≤ capacity → y ≤ capacity → c ≤ 1 → Within capacity st → Within capacity (takeNode st k v s x y c)
-unfolding takeNode takeFree fillNode withQueue
+unfolding takeNode takeFree withQueue
 within-take capacity st k v s x y c hx hy hc h =
     let p = st .pool in
     let n = st .register .first in
     let next = word p n nextWord in
     record {
-      size = ap (λ m. m / nodeWords) (simp length-setWord) ∙ h .size;
-      fits = fits-set capacity _ n nextWord 0 (omega arith) (fit-zero capacity nextWord)
-          (fits-set capacity _ n holdersWord 0 (omega arith) (fit-zero capacity holdersWord)
-          (fits-set capacity _ n standingWord standingLinked (omega arith) (fit-standing capacity standingLinked (omega arith))
-          (fits-set capacity _ n colourWord c (omega arith) (fit-colour capacity c hc)
-          (fits-set capacity _ n (linkWord (other s)) y (omega (arith, link-low (other s))) (fit-link capacity (other s) y hy)
-          (fits-set capacity _ n (linkWord s) x (omega (arith, link-low s)) (fit-link capacity s x hx)
-          (fits-set capacity _ n recordWord v (omega arith) (fit-record capacity v) (fits-set capacity p n keyWord k (omega arith) (fit-key capacity k) (h .fits))))))));
+      size = ap (λ m. m / nodeWords) (fill-length p n k v s x y c) ∙ h .size;
+      fits = fill-keeps (PoolOk capacity) p n k v s x y c (WordOk capacity) (λ q f u. fits-set capacity q n f u) record {
+        key = fit-key capacity k;
+        val = fit-record capacity v;
+        near = fit-link capacity s x hx;
+        far = fit-link capacity (other s) y hy;
+        colour = fit-colour capacity c hc;
+        standing = fit-standing capacity standingLinked (omega arith);
+        zero = fit-zero capacity;
+      } (h .fits);
       root = h .root;
       first = next-fits capacity p n (h .fits);
       last = cond-le (eqb next 0) 0 (st .register .last) capacity (omega arith) (h .last);

@@ -23,7 +23,7 @@ use Rattle.spec.specs.FreeQueue.{InPool}
 use Rattle.laws.specs.Queue.{link-low}
 use Rattle.laws.specs.Words.{word-none}
 use Rattle.promise.specs.Run.{Reads}
-use Rattle.heap.specs.Rep.{alike-refl}
+use Rattle.heap.specs.Rep.{alike-refl, upToColour}
 use Rattle.heap.specs.Fill.{Quiet, retire-quiet, retireTwo-quiet}
 use Rattle.readers.specs.Words.{Whole, whole-kept, stands-node}
 use Rattle.readers.specs.Owned.{readingIn, Owned, own-retire}
@@ -149,7 +149,7 @@ module _ (st mid : State) (q came : List ℕ) (l : Link) (v : ℕ) (w : Whole (s
   pub turn-none : Turn st mid came [] l v
   turn-none =
       turn-of st mid mid q came [] l v w o h s
-      (record { words = alike-refl 5 (mid .pool); fields = record { root = refl; held = refl; readers = refl; awaited = refl; write = refl } })
+      (record { words = alike-refl upToColour (mid .pool); fields = record { root = refl; held = refl; readers = refl; awaited = refl; write = refl } })
       (λ n. stays refl refl) (λ n i. absurd i) (λ n i. refl) (omega arith) (s .queue) (s .owned)
 
   -- one

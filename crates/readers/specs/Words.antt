@@ -10,14 +10,13 @@ use lib.ListN.{length}
 use borrow.Author.Tests.{eq-eqb, ne-eqb}
 use Rattle.base.specs.Lists.{getD-past}
 use Rattle.datatypes.specs.declared.Side.{Side}
-use Rattle.datatypes.specs.Side.{other}
 use Rattle.spec.specs.Numbers.{nodeWords}
-use Rattle.spec.specs.Pool.{place, word, setWord, nodes, keyWord, recordWord, linkWord, colourWord, standingWord, holdersWord, nextWord, standingFree, standingLinked, standingRetired}
+use Rattle.spec.specs.Pool.{place, word, setWord, nodes, standingWord, holdersWord, nextWord, standingFree, standingLinked, standingRetired}
 use Rattle.spec.specs.Register.{State, state, withQueue, countUp, readingSlots}
 use Rattle.spec.specs.Free.{queueEmpty, fillNode, freeNode, retire}
 use Rattle.spec.specs.FreeQueue.{InPool}
 use Rattle.laws.specs.Words.{length-setWord, word-none, word-at, word-same, word-other}
-use Rattle.laws.specs.Queue.{node-kept, link-low}
+use Rattle.laws.specs.Queue.{fill-keeps-any, node-kept}
 
 pub node-length : (p q : List ℕ) (m : ℕ) → length q ≡ length p → InPool p m → InPool q m
 node-length p q m e h = record { low = h .low; high = rw e (h .high) }
@@ -29,7 +28,7 @@ node-high p n h = let a = h .high in omega arith
 pub node-in : (p : List ℕ) (n : ℕ) → 1 ≤ n → n ≤ nodes p → InPool p n
 node-in p n a b = record { low = a; high = omega arith }
 
--- Eight words a node and no more: what has a word that is not 0 is a node.
+-- A node's words for each node and no more: what has a word that is not 0 is a node.
 abbrev pub Whole : List ℕ → Type 0
 Whole p = length p ≡ nodes p * nodeWords
 
@@ -123,18 +122,7 @@ module _ (p : List ℕ) (n k v : ℕ) (s : Side) (x y c : ℕ) where
   fill-length = simp length-setWord
 
   pub fill-other : (m f : ℕ) → f < nodeWords → n ≢ m → word (fillNode p n k v s x y c) m f ≡ word p m f
-  unfolding fillNode
-  fill-other m f h d =
-      let a = link-low s in
-      let b = link-low (other s) in
-      word-other _ n m nextWord f _ (omega arith) h (inl d)
-      ∙ word-other _ n m holdersWord f _ (omega arith) h (inl d)
-      ∙ word-other _ n m standingWord f _ (omega arith) h (inl d)
-      ∙ word-other _ n m colourWord f _ (omega arith) h (inl d)
-      ∙ word-other _ n m (linkWord (other s)) f _ (omega arith) h (inl d)
-      ∙ word-other _ n m (linkWord s) f _ (omega arith) h (inl d)
-      ∙ word-other _ n m recordWord f _ (omega arith) h (inl d)
-      ∙ word-other p n m keyWord f k (omega arith) h (inl d)
+  fill-other m f h d = fill-keeps-any (λ q. word q m f ≡ word p m f) p n k v s x y c (λ q g u l e. word-other q n m g f u l h (inl d) ∙ e) refl
 
   pub fill-standing : InPool p n → word (fillNode p n k v s x y c) n standingWord ≡ standingLinked
   unfolding fillNode

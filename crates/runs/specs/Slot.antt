@@ -22,7 +22,7 @@ use Rattle.base.specs.Lists.{_∈_, in-append}
 use Rattle.tree.specs.Thin.{Thin, thin-weaken}
 use Rattle.tree.specs.Linked.{Linked, nil, cell, find, path, nodes}
 use Rattle.tree.specs.Graft.{All, all-map, hits}
-use Rattle.heap.specs.Rep.{Rep, Alike, rep-alike}
+use Rattle.heap.specs.Rep.{Rep, Alike, rep-alike, upToLinks}
 use Rattle.readers.specs.Reach.{HasStanding, Kept, Closed, kept-stands, kept-child, not-again}
 use Rattle.readers.specs.Graft.{Redirects}
 use Rattle.readers.specs.Lookups.{Unlinked, Finds, OnWay, Store, store-finds, store-way, Anew, anew-finds, anew-way, root-way}
@@ -93,11 +93,11 @@ stand-child p root awaited x A s k d e kp c h =
       way = λ _. ⊎-map (λ z. z) (λ w. rw i (turn-way p root (h .seen) (x .node) k d e′ w)) (h .way d);
     }
 
-alike-sym : {p q : List ℕ} → Alike 4 p q → Alike 4 q p
+alike-sym : {p q : List ℕ} → Alike upToLinks p q → Alike upToLinks q p
 alike-sym a = record { size = sym (a .size); words = λ n f h. sym (a .words n f h) }
 
 -- Another slot ends: links, keys and records stay, the same nodes are linked, and what is kept for this slot stays kept.
-pub stand-alike : (p q : List ℕ) (root awaited awaited′ : ℕ) (x : Reader) (A : Option ℕ → Type 0) (s k : ℕ) → Alike 4 p q
+pub stand-alike : (p q : List ℕ) (root awaited awaited′ : ℕ) (x : Reader) (A : Option ℕ → Type 0) (s k : ℕ) → Alike upToLinks p q
     → ((n : ℕ) → HasStanding q n standingLinked → HasStanding p n standingLinked) → ((n : ℕ) → Kept p s n → Kept q s n) → hasSlot awaited′ s ≡ hasSlot awaited s
     → Stand p root awaited x A s k → Stand q root awaited′ x A s k
 stand-alike p q root awaited awaited′ x A s k a linked kept e h = record {

@@ -18,7 +18,7 @@ use Rattle.spec.specs.Calls.{more, done, Outcome, stored, Call}
 use Rattle.spec.specs.PlainList.{Plain, carriedOut, noticeOf, feed}
 use Rattle.base.specs.Lists.{_∈_}
 use Rattle.tree.specs.Linked.{Linked, nodes}
-use Rattle.heap.specs.Rep.{Rep, alike-refl}
+use Rattle.heap.specs.Rep.{Rep, alike-refl, upToColour}
 use Rattle.readers.specs.Release.{ended, freedBelow, end-released}
 use Rattle.readers.specs.Reach.{HasStanding, Kept, LinkedClosed, leads-on, leads-in, in-leads, kept-child, end-linked, linked-end}
 use Rattle.readers.specs.CallCase.{CallCase, refuses, plansInsert, plansDelete, waits, stores, begins, loads, misses, finds, leaves, Loads, atRoot, atNode, Passed}
@@ -39,7 +39,7 @@ module _ (p : List ℕ) (root : ℕ) (T : Linked) (h : Rep p root T) (l : (n : �
 -- What the calls of readers leave alone.
 leavesTree-reader : (st : State) (s : ℕ) (x : Reader) → LeavesTree st (state (st .pool) (withReader (st .register) s x))
 unfolding withReader
-leavesTree-reader st s x = record { words = alike-refl 5 (st .pool); linked = λ n. (λ e. e, λ e. e); root = refl; held = refl; write = refl; free = omega arith }
+leavesTree-reader st s x = record { words = alike-refl upToColour (st .pool); linked = λ n. (λ e. e, λ e. e); root = refl; held = refl; write = refl; free = omega arith }
 
 ended-fields : (st : State) (s : ℕ) → (ended st s .register .root ≡ st .register .root) × (ended st s .register .held ≡ st .register .held) × (ended st s .register .write ≡ st .register .write)
 unfolding withReader withAwaited
@@ -101,11 +101,17 @@ module _ (W : State → Plain → Linked → Type 0) (writer : Writer W) where
       rw (store-notice (stepMade st (storeOf (st .register) 0 .link) (storeOf (st .register) 0 .step)))
       (record { safe = safe-store st (afterStore st) _ (h .tree) (h .safe) s; tree = s .tree; holds = s .kept })
   sound-next st x c o (begins s k u e) h =
-      record { safe = safe-reader st s _ u refl (λ d. absurd (d refl)) (h .safe); tree = h .tree;
-        holds = writer .leavesTree st _ x (h .tree) (h .holds) (leavesTree-reader st s _) }
+      record {
+        safe = safe-reader st s _ u refl (λ d. absurd (d refl)) (h .safe);
+        tree = h .tree;
+        holds = writer .leavesTree st _ x (h .tree) (h .holds) (leavesTree-reader st s _);
+      }
   sound-next st x c o (loads s n p l d) h =
-      record { safe = safe-reader st s _ (p .low) refl (λ _. kept-load st s n (h .safe) p l d) (h .safe); tree = h .tree;
-        holds = writer .leavesTree st _ x (h .tree) (h .holds) (leavesTree-reader st s _) }
+      record {
+        safe = safe-reader st s _ (p .low) refl (λ _. kept-load st s n (h .safe) p l d) (h .safe);
+        tree = h .tree;
+        holds = writer .leavesTree st _ x (h .tree) (h .holds) (leavesTree-reader st s _);
+      }
   sound-next st x c o (misses s n p l e) h =
       record { safe = safe-end st s (p .low) (h .safe); tree = h .tree; holds = writer .leavesTree st _ x (h .tree) (h .holds) (leavesTree-end st s (p .low) (h .safe)) }
   sound-next st x c o (finds s p d e) h =

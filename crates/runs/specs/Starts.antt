@@ -28,7 +28,7 @@ use Rattle.ranges.specs.Calls.{Ranged}
 use Rattle.ranges.specs.Tests.{ranged-of}
 
 pub record SoundStart (S : Start) : Type 0 where
-  -- tests 1 and 2 pass: N is 8 to 1,023, the length 8 × N words, no word or field is outside its range
+  -- tests 1 and 2 pass: N is from the least to the largest, the length N times a node's words, no word or field is outside its range
   pub least : leastNodes ≤ S .size
   pub most : S .size ≤ mostNodes
   pub words : length (S .index .pool) ≡ S .size * nodeWords

@@ -18,7 +18,7 @@ use Rattle.base.specs.Lists.{_∈_}
 use Rattle.tree.specs.Zipper.{Thins}
 use Rattle.tree.specs.Linked.{Linked, find, nodes}
 use Rattle.tree.specs.Tickets.{True}
-use Rattle.heap.specs.Rep.{Rep, Alike}
+use Rattle.heap.specs.Rep.{Rep, Alike, upToColour}
 use Rattle.readers.specs.Reach.{HasStanding}
 use Rattle.readers.specs.Lookups.{Unlinked}
 use Rattle.readers.specs.Stored.{OwnerLinked}
@@ -29,7 +29,7 @@ use Rattle.readers.specs.Safe.{Safe}
 -- What a reader's call leaves alone: keys, records, links, colours, which nodes are linked, and of the register root, keys held and the write
 -- in hand. Nodes may be freed.
 pub record LeavesTree (st after : State) : Type 0 where
-  pub words : Alike 5 (st .pool) (after .pool)
+  pub words : Alike upToColour (st .pool) (after .pool)
   pub linked : (n : ℕ) → HasStanding (after .pool) n standingLinked ↔ HasStanding (st .pool) n standingLinked
   pub root : after .register .root ≡ st .register .root
   pub held : after .register .held ≡ st .register .held

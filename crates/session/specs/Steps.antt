@@ -8,7 +8,7 @@ use Rattle.session.specs.declared.Run.{Run}
 use Rattle.lines.specs.Text.{room}
 use Rattle.spec.specs.Numbers.{nodeWords, poolLimit}
 
--- the words lent are among the 8,192, and the nodes still to be shown among the pool's
+-- the words lent are among the array's, and the nodes still to be shown among the pool's
 pub record Sound (s : Session) : Type 0 where
   pub lent : s .lent ≤ poolLimit
   pub pending : s .pending * nodeWords ≤ s .lent

@@ -6,7 +6,7 @@ use lib.Dec.{eqb, ltb}
 use Rattle.base.specs.Walk.{foldIn}
 use Rattle.datatypes.specs.declared.Side.{Side}
 use Rattle.datatypes.specs.Side.{other}
-use Rattle.spec.specs.Pool.{word, setWord, setRecord, keyWord, linkWord, colourWord, standingWord, holdersWord, nextWord, standingFree, standingLinked, standingRetired, nodes}
+use Rattle.spec.specs.Pool.{word, setWord, setTicket, linkWord, colourWord, standingWord, holdersWord, nextWord, standingFree, standingLinked, standingRetired, nodes}
 use Rattle.spec.specs.Register.{State, state, noReader, withQueue, withReader, withAwaited, countUp, countDown, dropSlot, readingSlots}
 
 -- Nodes are taken from the front of the queue. The queue is empty when its first is 0, its last then being ignored.
@@ -23,7 +23,7 @@ takeFree st =
 -- A taken node stands linked, with holders and next free 0. Its link on the side s is x, on the other side y.
 unfoldable pub fillNode : List ℕ → ℕ → ℕ → ℕ → Side → ℕ → ℕ → ℕ → List ℕ
 fillNode p n k v s x y colour =
-    let a = setRecord (setWord p n keyWord k) n v in
+    let a = setTicket p n k v in
     let b = setWord (setWord a n (linkWord s) x) n (linkWord (other s)) y in
     let c = setWord (setWord b n colourWord colour) n standingWord standingLinked in
     setWord (setWord c n holdersWord 0) n nextWord 0

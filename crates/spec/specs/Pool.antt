@@ -10,30 +10,30 @@ use Rattle.datatypes.specs.declared.Side.{Side}
 use Rattle.datatypes.specs.declared.Side.the-variants.{L, R}
 use Rattle.spec.specs.Numbers.{nodeWords, leastNodes, mostNodes, allSlots}
 
--- A node's words in order.
+-- A node's words in order, each after the one before.
 abbrev pub keyWord : ℕ
 keyWord = 0
 
 abbrev pub recordWord : ℕ
-recordWord = 1
+recordWord = keyWord + 1
 
 abbrev pub leftWord : ℕ
-leftWord = 2
+leftWord = recordWord + 1
 
 abbrev pub rightWord : ℕ
-rightWord = 3
+rightWord = leftWord + 1
 
 abbrev pub colourWord : ℕ
-colourWord = 4
+colourWord = rightWord + 1
 
 abbrev pub standingWord : ℕ
-standingWord = 5
+standingWord = colourWord + 1
 
 abbrev pub holdersWord : ℕ
-holdersWord = 6
+holdersWord = standingWord + 1
 
 abbrev pub nextWord : ℕ
-nextWord = 7
+nextWord = holdersWord + 1
 
 -- the word of a node's link on a side
 abbrev pub linkWord : Side → ℕ
@@ -80,6 +80,10 @@ recordAt p n = word p n recordWord
 abbrev pub setRecord : List ℕ → ℕ → ℕ → List ℕ
 setRecord p n v = setWord p n recordWord v
 
+-- the pool with node n's ticket, key and record, changed
+abbrev pub setTicket : List ℕ → ℕ → ℕ → ℕ → List ℕ
+setTicket p n k v = setRecord (setWord p n keyWord k) n v
+
 -- node n's child on a side
 abbrev pub child : List ℕ → Side → ℕ → ℕ
 child p s n = word p n (linkWord s)
@@ -91,7 +95,7 @@ isRed p n = eqb (word p n colourWord) redColour
 abbrev pub paint : List ℕ → ℕ → ℕ → List ℕ
 paint p n colour = setWord p n colourWord colour
 
--- Key and record are any 32-bit numbers. Links are 0 to N; colour 0 or 1; standing 0 to 2; holders 0 to 255; next free a link.
+-- Key and record are any 32-bit numbers. Links are 0 to N; colour 0 or 1; standing 0 to 2; holders a mask of slots; next free a link.
 unfoldable pub nodeInRange : List ℕ → ℕ → ℕ → Bool
 nodeInRange p capacity n =
     leb (word p n leftWord) capacity && leb (word p n rightWord) capacity
@@ -101,7 +105,7 @@ nodeInRange p capacity n =
 unfoldable pub poolInRange : List ℕ → Bool
 poolInRange p = allIn (nodeInRange p (nodes p)) 1 (nodes p + 1)
 
--- N is 8 to 1,023, and the length is 8 × N words.
+-- N is from the least to the largest, and the length is N times a node's words.
 unfoldable pub lengthRight : List ℕ → Bool
 lengthRight p = eqb (length p % nodeWords) 0 && leb leastNodes (nodes p) && leb (nodes p) mostNodes
 
