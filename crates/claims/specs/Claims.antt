@@ -1,6 +1,6 @@
 -- The claims of demand 3 once more, for a pool just set up, each over a small definition of its own that ties it to the calls and to the
 -- plain list: what a call answers, what the plain list has after so many calls, what stands free. The must-fail edits of this crate change
--- one of these words, and what they meet is the theorem.
+-- one of these definitions, and then the theorem no longer gives the claim.
 use Prim.Native.Nat.{ℕ, _+_, _<_, _≤_}
 use mathlib.Core.Path.{_≡_}
 use mathlib.Core.Bool.{false}

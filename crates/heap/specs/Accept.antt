@@ -26,11 +26,11 @@ use Rattle.sequential.specs.Delete as SeqDelete
 use Rattle.tree.specs.Linked.{Linked, find}
 use Rattle.tree.specs.Zipper.{Frame, hole}
 use Rattle.tree.specs.Erase.{erase}
-use Rattle.tree.specs.InsertFixup.{InsertFixupEnd, balanced, rotate, rootRed}
-use Rattle.tree.specs.DeleteFixup.{noNephew, nephew, DeleteFixupEnd, darken, atBlackSibling, atRedSibling}
+use Rattle.tree.specs.InsertFixup.{pairsUp, InsertFixupEnd, balanced, rotate, rootRed}
+use Rattle.tree.specs.DeleteFixup.{framesUp, noNephew, nephew, DeleteFixupEnd, darken, atBlackSibling, atRedSibling}
 use Rattle.heap.specs.Sites.{linkTo}
 use Rattle.heap.specs.Colours.{colours}
-use Rattle.heap.specs.Fixups.{insertFixupOf, formOf, numOf, pairsUp, insertFixupEnding, framesUp, tip, deleteFixupEnding}
+use Rattle.heap.specs.Fixups.{insertFixupOf, formOf, numOf, insertFixupEnding, tip, deleteFixupEnding}
 use Rattle.heap.specs.DeleteFixupRun.{deleteFixupOf}
 use Rattle.heap.specs.Places.{wayToC, copiedWay}
 use Rattle.heap.specs.Phase.{DiagFor, forInsert, onBlackSibling, onRedSibling, followStores, removalEnding, Phases, at-rest, diag-0, diag-1, zig-0, zig-1}

@@ -23,11 +23,11 @@ use Rattle.tree.specs.Linked.{Linked}
 use Rattle.tree.specs.Zipper.{Frame, hole}
 use Rattle.tree.specs.Erase.{erase, eraseWay}
 use Rattle.tree.specs.DeleteFixup as DeleteFixup
-use Rattle.tree.specs.DeleteFixup.{DeleteFixup, Nephew, noNephew, nephew, DeleteFixupEnd, nephewOf, DeleteFixupFinds, deleteFixup-redSibling, deleteFixup-turn, deleteFixup-level}
+use Rattle.tree.specs.DeleteFixup.{framesUp, DeleteFixup, Nephew, noNephew, nephew, DeleteFixupEnd, nephewOf, DeleteFixupFinds, deleteFixup-redSibling, deleteFixup-turn, deleteFixup-level}
 use Rattle.heap.specs.Rep.{Rep}
 use Rattle.heap.specs.Sites.{linkTo, links}
 use Rattle.heap.specs.Colours.{redly, colours, red-is, red-tree}
-use Rattle.heap.specs.Fixups.{side-at, Sides, formOf, childOf, rep-child, erase-child, there-tree, nephew-cases, framesUp, tip, numOf, rep-num}
+use Rattle.heap.specs.Fixups.{side-at, Sides, formOf, childOf, rep-child, erase-child, there-tree, nephew-cases, tip, numOf, rep-num}
 use Rattle.heap.specs.Fixups.{nephewEnding, deleteFixupEnding, Stop, stop-root, stop-red, stop-turn, stop-redSibling}
 
 -- the tree's own fix-up, on a way with the colours f

@@ -28,7 +28,7 @@ use Rattle.tree.specs.Sorted.{NotLeaf, colour-case}
 use Rattle.tree.specs.Linked.{Node, Linked, nil, cell}
 use Rattle.tree.specs.Zipper.{Frame, hole}
 use Rattle.tree.specs.Erase.{erase, eraseWay}
-use Rattle.tree.specs.InsertFixup.{InsertFixup, InsertFixupEnd, balanced, rotate, rootRed, insertFixupOn}
+use Rattle.tree.specs.InsertFixup.{pairsUp, InsertFixup, InsertFixupEnd, balanced, rotate, rootRed, insertFixupOn}
 use Rattle.tree.specs.DeleteFixup.{Nephew, noNephew, nephew, DeleteFixupEnd, darken, atBlackSibling, atRedSibling, nephewOf}
 use Rattle.heap.specs.Rep.{Rep, Alike, rep-alike, upToLinks}
 use Rattle.heap.specs.Sites.{linkTo, links, Way}
@@ -57,15 +57,9 @@ sides-alike {p} {q} a (hole s N y ∷ fs) w =
     kept L = a .words (N .num) rightWord (omega arith)
     kept R = a .words (N .num) leftWord (omega arith)
 
--- The insert fix-up: the tree's own, on a way with the colours f; the way above m levels.
+-- The insert fix-up: the tree's own, on a way with the colours f.
 abbrev pub insertFixupOf : (ℕ → Colour) → List Frame → InsertFixup
 insertFixupOf f fs = insertFixupOn (eraseWay f fs)
-
-abbrev pub pairsUp : ℕ → List Frame → List Frame
-pairsUp zero fs = fs
-pairsUp (suc m) [] = []
-pairsUp (suc m) (f ∷ []) = f ∷ []
-pairsUp (suc m) (f ∷ g ∷ fs) = pairsUp m fs
 
 abbrev pub twoUp : List Frame → List Frame
 twoUp [] = []
@@ -163,12 +157,7 @@ nephew-cases p s w y h f g =
     (λ d. f false (rw (e, d)) (either ∙ rw (out, inn, e, d)) (λ l. rw (out, e)))
     (λ d. g (rw (e, d)) (either ∙ rw (out, inn, e, d))))
 
--- where the delete fix-up ends: the way above the levels, and the colour of the node that it ends at
-abbrev pub framesUp : ℕ → List Frame → List Frame
-framesUp zero fs = fs
-framesUp (suc m) [] = []
-framesUp (suc m) (f ∷ fs) = framesUp m fs
-
+-- the colour of the node where the delete fix-up ends, m levels up
 abbrev pub tip : (ℕ → Colour) → Colour → ℕ → List Frame → Colour
 tip f c zero fs = c
 tip f c (suc m) [] = c

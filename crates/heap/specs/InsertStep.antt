@@ -30,13 +30,13 @@ use Rattle.tree.specs.Height.{mostHeight}
 use Rattle.tree.specs.Forms.{insert-linked}
 use Rattle.tree.specs.Ways.{insert-fixup-finds}
 use Rattle.tree.specs.Occurs.{occWay, occ-plug, turnover-plug, insert-turnover}
-use Rattle.tree.specs.Phases.{writes-whole, insert-writes}
+use Rattle.tree.specs.Phases.{writes-whole, insertion-writes}
 use Rattle.tree.specs.InsertFixup as InsertFixup
-use Rattle.tree.specs.InsertFixup.{InsertFixupEnd, balanced, rotate, rootRed, insertFixup-ends}
+use Rattle.tree.specs.InsertFixup.{pairsUp, InsertFixupEnd, balanced, rotate, rootRed, insertFixup-ends}
 use Rattle.heap.specs.Sites.{linkTo, links, site-of, of-site, site-alike}
 use Rattle.heap.specs.Colours.{colours, way-occ, erase-top, paint-alike}
 use Rattle.heap.specs.Paths.{path-to}
-use Rattle.heap.specs.Fixups.{insertFixupOf, way-sides, pairsUp, insertFixupEnding, insertFixup-room}
+use Rattle.heap.specs.Fixups.{insertFixupOf, way-sides, insertFixupEnding, insertFixup-room}
 use Rattle.heap.specs.Paints.{InsertPainted, paint-insertFixup, pairTreeUp, pairTreeUp-plug, over-pairs, pairsUp-way, pairTreeUp-erased}
 use Rattle.heap.specs.Moves.{At, Fresh, Once, new-apart, Linked-in, link-in, clear-of, Fields, fields-trans, held-fields, same-fields}
 use Rattle.heap.specs.Lowers.{not-empty}
@@ -166,14 +166,14 @@ module _ (st : State) (G : Tree) (k v : ℕ) (fs : List Frame) (h : At st fs nil
       let root : coloured .register .root ≡ linked .register .root = held-root (linked .register) _ in
       let site : At coloured fs (cell Z nil nil) = rw root (site-alike (painted-levels .on-way .links-kept) (linked .register .root) fs (cell Z nil nil) (in-tree .site)) in
       let new-red : gg n ≡ red = painted-levels .on-way .outside n (let a = occ-plug fs nil n in let b = fresh .new in omega arith) ∙ in-tree .new-colour in
-      let way : eraseWay gg U ≡ InsertFixup.overPairs levels (eraseWay f fs)
-      = pairsUp-way levels f1 gg fs (painted-levels .to) ∙ sym (over-pairs levels f1 fs) ∙ ap (InsertFixup.overPairs levels) way-kept in
+      let way : eraseWay gg U ≡ InsertFixup.pairsUp levels (eraseWay f fs)
+      = pairsUp-way levels f1 gg fs (painted-levels .to) ∙ sym (over-pairs levels f1 fs) ∙ ap (InsertFixup.pairsUp levels) way-kept in
       let sub : erase gg u ≡ InsertFixup.recoloured levels (eraseWay f fs) (node red k v leaf leaf)
       = pairTreeUp-erased levels f1 gg fs (cell Z nil nil) (painted-levels .to) ∙ rw (way-kept, new-red) in
       let is : G ≡ Seq.paint black (InsertFixup.insertEnded (insertFixupOf f fs .end) (eraseWay gg U) (erase gg u))
       = goal ∙ insert-linked f fs k v into ∙ ap (Seq.paint black) (insertFixup-ends (eraseWay f fs) (node red k v leaf leaf)) ∙ rw (way, sub) in
       let once : Once T = once-turnover [] n (plug fs nil) T (turnover-plug fs [] (n ∷ []) nil (cell Z nil nil) (insert-turnover Z)) (good .once) (fresh .new) in
-      let ordered = writes-whole fs nil (cell Z nil nil) into (insert-writes Z) .ordered (ordered-bare f _ (plug fs nil) (good .proper .ordered)) in
+      let ordered = writes-whole fs nil (cell Z nil nil) into (insertion-writes Z) .ordered (ordered-bare f _ (plug fs nil) (good .proper .ordered)) in
       let told : Told G T = told-insert G (erase f (plug fs nil)) k v (plug fs nil) T goal (good .proper .ordered) (erase-find f (plug fs nil))
       (find-into fs nil k into) (sameBut-lift fs into (insert-find Z)) in
       let lined : Lined G (plug U u) = rw same (record { once = once; ordered = ordered; told = told }) in

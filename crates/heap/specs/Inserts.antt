@@ -16,7 +16,7 @@ use Rattle.spec.specs.Plan.{fixupResult, endingStores, missing, fixupAfterInser
 use Rattle.spec.specs.FreeQueue.{InPool}
 use Rattle.sequential.specs.Tree as Seq
 use Rattle.sequential.specs.Tree.{Colour, red, black, Tree, mk, colourOf}
-use Rattle.tree.specs.Sorted.{NotLeaf, colour-case, Seen, outer, inner, seen}
+use Rattle.tree.specs.Sorted.{NotLeaf, colour-case, OuterOrInner, outer, inner, outer-or-inner}
 use Rattle.tree.specs.Changes.{Proper}
 use Rattle.tree.specs.RedBlack.{RedBlack}
 use Rattle.tree.specs.Height.{height, height-1023, mostHeight}
@@ -26,14 +26,14 @@ use Rattle.tree.specs.Zipper.{Frame, hole, plug, Into}
 use Rattle.tree.specs.Erase.{erase, eraseWay, erase-at}
 use Rattle.tree.specs.Occurs.{occ-distinct, occ-plug, size-bound}
 use Rattle.tree.specs.InsertFixup as InsertFixup
-use Rattle.tree.specs.InsertFixup.{InsertFixupEnd, balanced, rotate, InsertFixupFinds, insertFixup-balanced, insertFixup-level, insertFixup-turn}
+use Rattle.tree.specs.InsertFixup.{pairsUp, InsertFixupEnd, balanced, rotate, InsertFixupFinds, insertFixup-balanced, insertFixup-level, insertFixup-turn}
 use Rattle.heap.specs.Rep.{Rep}
 use Rattle.heap.specs.Sites.{linkTo, Way, Site, site-of, of-site}
 use Rattle.heap.specs.Colours.{colours, colours-none, red-is}
 use Rattle.heap.specs.Paths.{OnceWay, path-to, depth}
-use Rattle.heap.specs.Fixups.{insertFixupOf, way-sides, pairsUp, insertFixupEnding, insertFixup-links}
+use Rattle.heap.specs.Fixups.{insertFixupOf, way-sides, insertFixupEnding, insertFixup-links}
 use Rattle.heap.specs.Moves.{Once}
-use Rattle.heap.specs.Phase.{forInsert, insertEnding, Sound, Lined, Phase, diag-0, zig-0}
+use Rattle.heap.specs.Phase.{forInsert, insertEnding, SoundIn, Lined, Phase, diag-0, zig-0}
 use Rattle.heap.specs.RaiseSteps.{split}
 
 -- a pool of the largest N or fewer nodes
@@ -55,7 +55,7 @@ way-bound p f fs t small once good within =
     let b = depth f fs t in
     omega arith
 
-pub way-short : (p : List ℕ) (root : ℕ) (fs : List Frame) (t : Linked) → Small p → Site p root fs t → Sound p (plug fs t) → length fs + height (erase (colours p) t) ≤ mostHeight
+pub way-short : (p : List ℕ) (root : ℕ) (fs : List Frame) (t : Linked) → Small p → Site p root fs t → SoundIn p (plug fs t) → length fs + height (erase (colours p) t) ≤ mostHeight
 way-short p root fs t small h good =
     way-bound p (colours p) fs t small (good .once) (good .proper .redblack) (λ n i. rep-range p root (plug fs t) n (of-site p root fs t h) i)
 
@@ -138,8 +138,8 @@ module _ (q : List ℕ) (root : ℕ) (G : Tree) where
 
   pub turn-phase : {U : List Frame} {e : InsertFixupEnd} (u : Linked) → Stops U e → ¬ (e ≡ balanced) → NotLeaf (erase g u) → Turning U e u
   turn-phase u stops-balanced n there = absurd (n refl)
-  turn-phase u (stops-turn {s} {z} {P} {Q} {y} {a} {fs}) n there = go s (sameSide s z) (seen z s)
+  turn-phase u (stops-turn {s} {z} {P} {Q} {y} {a} {fs}) n there = go s (sameSide s z) (outer-or-inner z s)
     where
-      go : (s : Side) (b : Bool) → Seen z s b → Turning (hole s P y ∷ hole z Q a ∷ fs) (rotate b z) u
+      go : (s : Side) (b : Bool) → OuterOrInner z s b → Turning (hole s P y ∷ hole z Q a ∷ fs) (rotate b z) u
       go _ _ outer = turn-outer z P Q y a fs u
       go _ _ inner = turn-inner z P Q y a fs u there

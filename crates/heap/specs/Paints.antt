@@ -17,11 +17,13 @@ use Rattle.tree.specs.Occurs.{one, one-same, occ, occWay}
 use Rattle.tree.specs.Recolour.{InsertColours, DeleteColours}
 use Rattle.tree.specs.InsertFixup as InsertFixup
 use Rattle.tree.specs.DeleteFixup as DeleteFixup
+use Rattle.tree.specs.InsertFixup.{pairsUp}
+use Rattle.tree.specs.DeleteFixup.{framesUp}
 use Rattle.heap.specs.Rep.{Rep, Alike, alike-refl, alike-trans, rep-alike, upToLinks}
 use Rattle.heap.specs.Sites.{links}
 use Rattle.heap.specs.Colours.{colours, paint-alike, paint-none, paint-other, paint-same, erase-occ, way-occ, erase-paint, erase-top}
 use Rattle.heap.specs.Paths.{OnceWay}
-use Rattle.heap.specs.Fixups.{side-at, Sides, sides-alike, pairsUp, framesUp}
+use Rattle.heap.specs.Fixups.{side-at, Sides, sides-alike}
 use Rattle.heap.specs.Moves.{one-swap, apart-one}
 
 -- painting the top of a tree changes no colour outside it
@@ -88,7 +90,7 @@ treeUp-plug zero fs t = refl
 treeUp-plug (suc m) [] t = refl
 treeUp-plug (suc m) (hole s N y ∷ fs) t = treeUp-plug m fs (at s N t y)
 
-pub over-frames : (m : ℕ) (f : ℕ → Colour) (fs : List Frame) → DeleteFixup.overFrames m (eraseWay f fs) ≡ eraseWay f (framesUp m fs)
+pub over-frames : (m : ℕ) (f : ℕ → Colour) (fs : List Frame) → DeleteFixup.framesUp m (eraseWay f fs) ≡ eraseWay f (framesUp m fs)
 over-frames zero f fs = refl
 over-frames (suc m) f [] = refl
 over-frames (suc m) f (hole s N y ∷ fs) = over-frames m f fs
@@ -179,7 +181,7 @@ pairTreeUp-plug (suc m) [] t = refl
 pairTreeUp-plug (suc m) (f ∷ []) t = refl
 pairTreeUp-plug (suc m) (hole s N y ∷ hole z G a ∷ fs) t = pairTreeUp-plug m fs (at z G (at s N t y) a)
 
-pub over-pairs : (m : ℕ) (f : ℕ → Colour) (fs : List Frame) → InsertFixup.overPairs m (eraseWay f fs) ≡ eraseWay f (pairsUp m fs)
+pub over-pairs : (m : ℕ) (f : ℕ → Colour) (fs : List Frame) → InsertFixup.pairsUp m (eraseWay f fs) ≡ eraseWay f (pairsUp m fs)
 over-pairs zero f fs = refl
 over-pairs (suc m) f [] = refl
 over-pairs (suc m) f (hole s N y ∷ []) = refl

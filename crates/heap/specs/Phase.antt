@@ -28,13 +28,14 @@ use Rattle.tree.specs.Zipper.{Frame, plug, Into, Along}
 use Rattle.tree.specs.Erase.{erase, eraseWay}
 use Rattle.tree.specs.Occurs.{occ}
 use Rattle.tree.specs.Height.{mostHeight}
-use Rattle.tree.specs.DeleteFixup.{Nephew, noNephew, nephew, nephewOf}
+use Rattle.tree.specs.DeleteFixup.{framesUp, Nephew, noNephew, nephew, nephewOf}
 use native.Mathlib.Omega.{arith}
 use lib.ListN.{length}
+use Rattle.tree.specs.InsertFixup.{pairsUp}
 use Rattle.heap.specs.Rep.{Rep, Alike, upToLinks, upToColour, alike-less}
 use Rattle.heap.specs.Sites.{linkTo, Site, site-alike, of-site}
 use Rattle.heap.specs.Colours.{colours, colours-alike}
-use Rattle.heap.specs.Fixups.{insertFixupOf, pairsUp, insertFixupEnding, formOf, framesUp, tip, deleteFixupEnding}
+use Rattle.heap.specs.Fixups.{insertFixupOf, insertFixupEnding, formOf, tip, deleteFixupEnding}
 use Rattle.heap.specs.DeleteFixupRun.{deleteFixupOf}
 use Rattle.heap.specs.Moves.{Once}
 use Rattle.heap.specs.Places.{Diag, diagTop, diagTree, diagLow, Zig, zigTop, zigTree, zigLowA, zigLowC, Single, singleTop, singleTree}
@@ -64,10 +65,10 @@ followStores (onRedSibling noNephew) s b = []
 followStores (onRedSibling (nephew o)) s b = turnStores (formOf o) (linkAt (other s) b) s BlackSibling
 
 -- under the red copy of the parent (k, v): x is the new sibling, on the side s, and r lacks a black node
-abbrev pub underCopy : Nephew → Side → ℕ → ℕ → Tree → Tree → Tree
-underCopy noNephew s k v x r = mk s black k v (Seq.paint red x) r
-underCopy (nephew true) s k v x r = Seq.diag s red black k v (blackOuter s x) r
-underCopy (nephew false) s k v x r = Seq.zig s red black k v x r
+abbrev pub underRedCopy : Nephew → Side → ℕ → ℕ → Tree → Tree → Tree
+underRedCopy noNephew s k v x r = mk s black k v (Seq.paint red x) r
+underRedCopy (nephew true) s k v x r = Seq.diag s red black k v (blackOuter s x) r
+underRedCopy (nephew false) s k v x r = Seq.zig s red black k v x r
 
 module _ (f : ℕ → Colour) (d : Diag) where
   open Diag d using (way, side as s, B, C, outer as o, inner as x, far as r)
@@ -82,7 +83,7 @@ module _ (f : ℕ → Colour) (d : Diag) where
   abbrev pub diagGoal : DiagFor → Tree
   diagGoal forInsert = Seq.paint black (Seq.plug (eraseWay f way) (Seq.diag s black red (C .key) (C .val) (erase f (at s B o x)) (erase f r)))
   diagGoal onBlackSibling = Seq.plug (eraseWay f way) (Seq.diag s (f (C .num)) black (C .key) (C .val) (blackOuter s (erase f (at s B o x))) (erase f r))
-  diagGoal (onRedSibling l) = Seq.plug (eraseWay f way) (mk s black (B .key) (B .val) (erase f o) (underCopy l s (C .key) (C .val) (erase f x) (erase f r)))
+  diagGoal (onRedSibling l) = Seq.plug (eraseWay f way) (mk s black (B .key) (B .val) (erase f o) (underRedCopy l s (C .key) (C .val) (erase f x) (erase f r)))
 
 -- a zig, of an insert or of a delete
 abbrev pub zigPurpose : Bool → Purpose
@@ -116,8 +117,8 @@ pub record SoundBy (f : ℕ → Colour) (T : Linked) : Type 0 where
   pub once : Once T
   pub proper : Proper (erase f T)
 
-abbrev pub Sound : List ℕ → Linked → Type 0
-Sound p T = SoundBy (colours p) T
+abbrev pub SoundIn : List ℕ → Linked → Type 0
+SoundIn p T = SoundBy (colours p) T
 
 -- a tree with distinct nodes, in order, in which lookups find what G has: after the list store
 pub record Lined (G : Tree) (T : Linked) : Type 0 where

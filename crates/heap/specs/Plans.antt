@@ -26,14 +26,14 @@ use Rattle.heap.specs.Colours.{redly, colours}
 use Rattle.heap.specs.Paths.{HasKey, seek-place, Located, located}
 use Rattle.heap.specs.Fixups.{Sides}
 use Rattle.heap.specs.Moves.{At}
-use Rattle.heap.specs.Phase.{removalEnding, Sound, Phase, insert-0}
+use Rattle.heap.specs.Phase.{removalEnding, SoundIn, Phase, insert-0}
 use Rattle.heap.specs.Inserts.{Small, way-short, once-way, insert-fixup, insertFixup-stops, stops-there}
 use Rattle.heap.specs.RemovalFixup.{removal-red, removal-black}
 
 -- a state at rest with the tree T: nodes distinct, the coloured tree in order and red-black, at most 1,023 nodes
 pub record Rest (st : State) (T : Linked) : Type 0 where
   pub rep : Rep (st .pool) (st .register .root) T
-  pub sound : Sound (st .pool) T
+  pub sound : SoundIn (st .pool) T
   pub small : Small (st .pool)
 
 pub rest-at : {st : State} {T : Linked} → Rest st T → (fs : List Frame) (t : Linked) → plug fs t ≡ T → At st fs t

@@ -23,11 +23,11 @@ use Rattle.tree.specs.Height.{mostHeight}
 use Rattle.tree.specs.Occurs.{one, one-same, occ, occ-at, occWay, occ-plug}
 use Rattle.tree.specs.Successor.{third₀, third-order, publish-find}
 use Rattle.tree.specs.DeleteFixup as DeleteFixup
-use Rattle.tree.specs.DeleteFixup.{DeleteFixup}
+use Rattle.tree.specs.DeleteFixup.{framesUp, DeleteFixup}
 use Rattle.heap.specs.Sites.{linkTo}
 use Rattle.heap.specs.Colours.{colours, colours-is, colours-alike, erase-occ, way-occ}
 use Rattle.heap.specs.Fill.{retire-quiet}
-use Rattle.heap.specs.Fixups.{framesUp, tip, deleteFixupEnding}
+use Rattle.heap.specs.Fixups.{tip, deleteFixupEnding}
 use Rattle.heap.specs.DeleteFixupRun.{deleteFixupOf}
 use Rattle.heap.specs.Moves.{At, Fresh, new-apart, Linked-in, link-in, clear-of, at-quiet, fields-trans, held-fields}
 use Rattle.heap.specs.Lowers.{is-node, not-empty, Top, top-of, far-down}

@@ -25,11 +25,11 @@ use Rattle.tree.specs.Zipper.{Frame, hole, plug}
 use Rattle.tree.specs.Erase.{erase, eraseWay, erase-plug}
 use Rattle.tree.specs.Recolour.{DeleteColours}
 use Rattle.tree.specs.DeleteFixup as DeleteFixup
-use Rattle.tree.specs.DeleteFixup.{DeleteFixupEnd, deleteFixup-ends}
+use Rattle.tree.specs.DeleteFixup.{framesUp, DeleteFixupEnd, deleteFixup-ends}
 use Rattle.heap.specs.Rep.{Alike, upToLinks}
 use Rattle.heap.specs.Sites.{linkTo, links, Site, site-of, of-site, site-alike}
 use Rattle.heap.specs.Colours.{colours}
-use Rattle.heap.specs.Fixups.{framesUp, tip, deleteFixupEnding, Stop, stop-root, stop-red, stop-turn, stop-redSibling}
+use Rattle.heap.specs.Fixups.{tip, deleteFixupEnding, Stop, stop-root, stop-red, stop-turn, stop-redSibling}
 use Rattle.heap.specs.DeleteFixupRun.{deleteFixupOf}
 use Rattle.heap.specs.Paints.{treeUp, treeUp-plug, over-frames, framesUp-way, treeUp-erased}
 use Rattle.heap.specs.Moves.{At}

@@ -25,11 +25,11 @@ use Rattle.tree.specs.Linked.{Linked}
 use Rattle.tree.specs.Zipper.{Frame, plug}
 use Rattle.tree.specs.Erase.{erase, eraseWay}
 use Rattle.tree.specs.Occurs.{occ-plug}
-use Rattle.tree.specs.DeleteFixup.{DeleteFixupFinds}
+use Rattle.tree.specs.DeleteFixup.{framesUp, DeleteFixupFinds}
 use Rattle.heap.specs.Rep.{Rep, Alike, alike-refl, alike-trans, upToLinks}
 use Rattle.heap.specs.Sites.{linkTo, links}
 use Rattle.heap.specs.Colours.{redly, colours, red-is, paint-alike, erase-occ}
-use Rattle.heap.specs.Fixups.{Sides, way-sides, framesUp, rep-num}
+use Rattle.heap.specs.Fixups.{Sides, way-sides, rep-num}
 use Rattle.heap.specs.DeleteFixupRun.{deleteFixupOf, deleteFixup-run, stop-there}
 use Rattle.heap.specs.Paints.{paint-deleteFixup}
 use Rattle.heap.specs.Moves.{At}

@@ -29,11 +29,11 @@ use Rattle.heap.specs.Colours.{colours, paint-alike, way-occ, erase-top}
 use Rattle.heap.specs.Fixups.{numOf, formOf, deleteFixupEnding, nephewEnding, Stop, stop-root, stop-red, stop-turn, stop-redSibling}
 use Rattle.heap.specs.Paints.{top-outside}
 use Rattle.heap.specs.Places.{Diag}
-use Rattle.heap.specs.Phase.{onBlackSibling, onRedSibling, followStores, DiagNeeds, underCopy, diagGoal, Lined, Phase, at-rest, diag-0, zig-0}
+use Rattle.heap.specs.Phase.{onBlackSibling, onRedSibling, followStores, DiagNeeds, underRedCopy, diagGoal, Lined, Phase, at-rest, diag-0, zig-0}
 use Rattle.heap.specs.RaiseSteps.{split, erase-near}
 
 -- the same parts of a tree under the names of the sequential fix-up and of the phases
-under-copy : (l : Nephew) (s : Side) (k v : ℕ) (x w : Tree) → under l s k v x w ≡ underCopy l (other s) k v w x
+under-copy : (l : Nephew) (s : Side) (k v : ℕ) (x w : Tree) → under l s k v x w ≡ underRedCopy l (other s) k v w x
 under-copy noNephew s k v x w = sym (mk-other s black k v x (Seq.paint red w))
 under-copy (nephew true) s k v x w = refl
 under-copy (nephew false) s k v x w = refl
@@ -44,7 +44,7 @@ erase-back f R N x y = refl
 
 redSibling-tree : (o : Nephew) (s : Side) (f : ℕ → Colour) (B : Node) (k v : ℕ) (x z : Linked) (u : Tree)
     → (let w = erase f (at (other s) B x z) in mk s black (Seq.keyOf w) (Seq.recordOf w) (under o s k v u (Seq.child s w)) (Seq.child (other s) w))
-    ≡ mk (other s) black (B .key) (B .val) (erase f x) (underCopy o (other s) k v (erase f z) u)
+    ≡ mk (other s) black (B .key) (B .val) (erase f x) (underRedCopy o (other s) k v (erase f z) u)
 redSibling-tree o L f B k v x z u = rw (under-copy o L k v u (erase f z))
 redSibling-tree o R f B k v x z u = rw (under-copy o R k v u (erase f z))
 

@@ -19,10 +19,10 @@ use Rattle.sequential.specs.Tree.{Colour, red, black}
 use Rattle.tree.specs.Linked.{Node, Linked, nil, cell, nodes}
 use Rattle.tree.specs.Zipper.{Frame, hole, plug, plug-append}
 use Rattle.tree.specs.Erase.{eraseWay}
-use Rattle.tree.specs.DeleteFixup.{noNephew, nephew, DeleteFixupEnd, darken, atBlackSibling, atRedSibling}
+use Rattle.tree.specs.DeleteFixup.{framesUp, noNephew, nephew, DeleteFixupEnd, darken, atBlackSibling, atRedSibling}
 use Rattle.tree.specs.Occurs.{one, one-same, occ, occWay}
 use Rattle.heap.specs.Sites.{linkTo, Site, site-of, of-site}
-use Rattle.heap.specs.Fixups.{framesUp, numOf, deleteFixupEnding, formOf}
+use Rattle.heap.specs.Fixups.{numOf, deleteFixupEnding, formOf}
 
 -- Ways put together.
 pub site-append : (p : List ℕ) (root : ℕ) (gs fs : List Frame) (t : _) → Site p root fs (plug gs t) → Site p root (gs ++ fs) t

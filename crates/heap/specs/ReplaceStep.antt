@@ -31,13 +31,13 @@ use Rattle.tree.specs.Occurs.{one, one-same, one-other, occ, in-occ, occ-in, oc
 use Rattle.tree.specs.Phases.{writes-whole, form-writes}
 use Rattle.tree.specs.Stores.{form-order, adopt-find, replace-find}
 use Rattle.tree.specs.DeleteFixup as DeleteFixup
-use Rattle.tree.specs.DeleteFixup.{DeleteFixup, DeleteFixupFinds}
+use Rattle.tree.specs.DeleteFixup.{framesUp, DeleteFixup, DeleteFixupFinds}
 use Rattle.heap.specs.Rep.{Rep}
 use Rattle.heap.specs.Sites.{linkTo, links, of-site}
 use Rattle.heap.specs.Colours.{redly, colours, colours-is, colours-link, paint-alike, paint-other, paint-same, red-tree, erase-occ, way-occ}
 use Rattle.heap.specs.Fill.{retire-quiet}
 use Rattle.heap.specs.Paths.{path-to, OnceWay}
-use Rattle.heap.specs.Fixups.{Sides, way-sides, framesUp, tip, deleteFixupEnding, Stop, rep-num}
+use Rattle.heap.specs.Fixups.{Sides, way-sides, tip, deleteFixupEnding, Stop, rep-num}
 use Rattle.heap.specs.DeleteFixupRun.{deleteFixupOf, deleteFixup-run, FixupRun}
 use Rattle.heap.specs.Paints.{DeletePainted, paint-deleteFixup}
 use Rattle.heap.specs.Moves.{At, apart-one, clear-of, link-size, link-held, fields-trans, fields-queued, held-fields, same-fields}

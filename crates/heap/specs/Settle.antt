@@ -26,7 +26,7 @@ use Rattle.heap.specs.Phase.{insertEnding, removalEnding, Phases, diag-0
 use Rattle.heap.specs.Shift.{isListStore, later}
 use Rattle.heap.specs.Effects.{shift-same}
 use Rattle.heap.specs.Nodes.{Settled, phase-told}
-use Rattle.heap.specs.Writes.{Turn}
+use Rattle.heap.specs.Writes.{TurnMade}
 
 turn-settled : (f : Form) (l : Link) (s : Side) (purpose : Purpose) (w : List Store) → Settled w → Settled (turnStores f l s purpose ++ w)
 turn-settled Diag l s purpose w h = (refl, (refl, h))
@@ -75,9 +75,9 @@ pub later-settled : (st : State) (s : Link) (x : Step) (l : List Store) → Sett
 later-settled st s x l h = cond-both Settled (profile x .renames) (map-settled (linkNode st s) (st .register .first) l h) h
 
 -- a turn whose store is the list store, or comes after it: lookups find what G has
-pub turn-told : {st : State} {G : Tree} {T : Linked} {x : Store} {l : List Store} (t : Turn st G T x l) → Settled l → Told G (t .next .tree)
+pub turn-told : {st : State} {G : Tree} {T : Linked} {x : Store} {l : List Store} (t : TurnMade st G T x l) → Settled l → Told G (t .next .tree)
 turn-told {st} {x = x} {l = l} t h = phase-told (t .next .phase) (later-settled st (x .link) (x .step) l h)
 
 -- any other leaves each lookup's answer
-pub turn-same : {st : State} {G : Tree} {T : Linked} {x : Store} {l : List Store} (t : Turn st G T x l) → isListStore (x .step) ≡ false → Same T (t .next .tree)
+pub turn-same : {st : State} {G : Tree} {T : Linked} {x : Store} {l : List Store} (t : TurnMade st G T x l) → isListStore (x .step) ≡ false → Same T (t .next .tree)
 turn-same t e = shift-same (rw e at (t .next .shift))

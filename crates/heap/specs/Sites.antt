@@ -1,6 +1,6 @@
 -- A place in the pool's tree: the way from the root link down to a link, as a zipper, and what that link unfolds to. A store of that link
 -- changes what is at the place and nothing else, if the link's node occurs nowhere else.
-use Prim.Native.Nat.{ℕ, _<_, _≤_}
+use Prim.Native.Nat.{ℕ, _<_}
 use mathlib.Core.Path.{_≡_, refl, _∙_}
 use mathlib.Core.Logic.{_≢_, inr}
 use mathlib.Core.List.{List, [], _∷_}
@@ -12,10 +12,10 @@ use Rattle.datatypes.specs.declared.Link.{Link}
 use Rattle.datatypes.specs.declared.Link.the-variants.{Root}
 use Rattle.datatypes.specs.Side.{other, linkAt}
 use Rattle.spec.specs.Numbers.{nodeWords}
-use Rattle.spec.specs.Pool.{setWord, child, keyWord, recordWord, linkWord, leftWord}
+use Rattle.spec.specs.Pool.{setWord, child, linkWord}
 use Rattle.spec.specs.Register.{State, state, nodeAt, setLink, withRoot}
 use Rattle.laws.specs.Words.{length-setWord, word-same, word-other}
-use Rattle.laws.specs.Queue.{link-low}
+use Rattle.laws.specs.Queue.{link-low, key-link, record-link}
 use Rattle.tree.specs.Linked.{Node, Linked, at, nodes}
 use Rattle.tree.specs.Zipper.{Frame, hole, plug}
 use Rattle.tree.specs.Occurs.{one-same, occ, occWay, occ-plug}
@@ -78,10 +78,6 @@ site-up p root fs s N x y h =
     record { way = w .2; sub = rep-at p (nodeAt p root (linkTo fs)) s N x y .1 (w .0, rw (node-at p root s (N .num)) at (h .sub), w .1) }
 
 -- Pools that agree at the nodes of a way.
-pub link-high : (s : Side) → leftWord ≤ linkWord s
-link-high L = omega arith
-link-high R = omega arith
-
 pub links-apart : (s : Side) → linkWord s ≢ linkWord (other s)
 links-apart L = omega arith
 links-apart R = omega arith
@@ -139,8 +135,8 @@ redirect p root s D y fs t u b c i r =
     let top : Words q (nodeAt p root (linkTo fs)) D = record {
       is = w .0 .is;
       within = record { low = w .0 .within .low; high = rw len (w .0 .within .high) };
-      key-is = word-other p d d (linkWord s) keyWord b low (omega arith) (inr (omega (arith, link-high s))) ∙ w .0 .key-is;
-      val-is = word-other p d d (linkWord s) recordWord b low (omega arith) (inr (omega (arith, link-high s))) ∙ w .0 .val-is;
+      key-is = key-link p d d s b ∙ w .0 .key-is;
+      val-is = record-link p d d s b ∙ w .0 .val-is;
     } in
     let other-kept : child q (other s) d ≡ child p (other s) d = word-other p d d (linkWord s) (linkWord (other s)) b low (omega (arith, link-low (other s))) (inr (links-apart s)) in
     record {

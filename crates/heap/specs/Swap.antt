@@ -18,9 +18,9 @@ use Rattle.tree.specs.Zipper.{Frame, hole}
 use Rattle.tree.specs.Erase.{erase, eraseWay}
 use Rattle.tree.specs.Occurs.{one, one-same, occWay}
 use Rattle.tree.specs.Recolour.{DeleteColours}
-use Rattle.tree.specs.DeleteFixup.{DeleteFixupEnd, darken, atBlackSibling, atRedSibling}
+use Rattle.tree.specs.DeleteFixup.{framesUp, DeleteFixupEnd, darken, atBlackSibling, atRedSibling}
 use Rattle.heap.specs.Sites.{linkTo, set-link, set-root}
-use Rattle.heap.specs.Fixups.{framesUp, tip, deleteFixupEnding}
+use Rattle.heap.specs.Fixups.{tip, deleteFixupEnding}
 
 -- the tip's colour is seen in the erased way
 pub tipOf : Colour → ℕ → List Seq.Frame → Colour

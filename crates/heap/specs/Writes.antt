@@ -123,13 +123,13 @@ pub with-write : (r : Register) (w : Write) → withWrite r w .write ≡ w
 unfolding withWrite
 with-write r w = refl
 
-pub record Turn (st : State) (G : Tree) (T : Linked) (x : Store) (l : List Store) : Type 0 where
+pub record TurnMade (st : State) (G : Tree) (T : Linked) (x : Store) (l : List Store) : Type 0 where
   pub first : storeOf (st .register) 0 ≡ x
   pub finds : stepFinds st (x .link) (x .step) ≡ true
   pub next : Next st G T (stepMade st (x .link) (x .step)) x (later st (x .link) (x .step) l)
   pub in-hand : InHand (stored (stepMade st (x .link) (x .step)) .after) G (next .tree) (later st (x .link) (x .step) l)
 
-pub turn : (st : State) (G : Tree) (T : Linked) (x : Store) (l : List Store) → InHand st G T (x ∷ l) → Ready st T (takenBy (x .step) (st .register .first)) → Turn st G T x l
+pub turn : (st : State) (G : Tree) (T : Linked) (x : Store) (l : List Store) → InHand st G T (x ∷ l) → Ready st T (takenBy (x .step) (st .register .first)) → TurnMade st G T x l
 unfolding stored
 turn st G T x l h ready =
     let a = advance st G (h .phase) (h .small) ready in

@@ -12,7 +12,7 @@ use Rattle.datatypes.specs.declared.Side.the-variants.{L, R}
 use Rattle.datatypes.specs.Side.{other}
 use Rattle.base.specs.Lists.{_∈_, Distinct}
 use Rattle.spec.specs.Numbers.{nodeWords}
-use Rattle.spec.specs.Pool.{word, setWord, keyWord, recordWord, linkWord, colourWord, standingWord, holdersWord, nextWord, standingLinked}
+use Rattle.spec.specs.Pool.{word, setWord, recordAt, keyWord, recordWord, leftWord, rightWord, linkWord, colourWord, standingWord, holdersWord, nextWord, standingLinked}
 use Rattle.spec.specs.Register.{State, withQueue}
 use Rattle.spec.specs.Free.{takeFree, fillNode, takeNode, freeNode}
 use Rattle.spec.specs.FreeQueue.{InPool, Chain, lastOf, Queue}
@@ -43,6 +43,15 @@ chain-word p d f v a (m ∷ l) hf h = (
 pub link-low : (s : Side) → linkWord s < colourWord
 link-low L = omega arith
 link-low R = omega arith
+
+-- a stored link changes no key and no record
+pub key-link : (p : List ℕ) (d n : ℕ) (s : Side) (b : ℕ) → word (setWord p d (linkWord s) b) n keyWord ≡ word p n keyWord
+key-link p d n L b = word-other p d n leftWord keyWord b (omega arith) (omega arith) (inr (omega arith))
+key-link p d n R b = word-other p d n rightWord keyWord b (omega arith) (omega arith) (inr (omega arith))
+
+pub record-link : (p : List ℕ) (d n : ℕ) (s : Side) (b : ℕ) → recordAt (setWord p d (linkWord s) b) n ≡ recordAt p n
+record-link p d n L b = word-other p d n leftWord recordWord b (omega arith) (omega arith) (inr (omega arith))
+record-link p d n R b = word-other p d n rightWord recordWord b (omega arith) (omega arith) (inr (omega arith))
 
 -- A taken node is filled word by word, here only: what setting a word of it keeps, filling it keeps. G f u says that word f may be set to u.
 pub record Fills (G : ℕ → ℕ → Type 0) (k v : ℕ) (s : Side) (x y c : ℕ) : Type 0 where

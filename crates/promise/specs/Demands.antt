@@ -1,6 +1,6 @@
 -- Demands 2 and 3 as statements about whole lists of calls, in the words of 01. To check them no proof need be read: what they name is
 -- defined in crate `spec` (the calls, the plain list, the free queue), in crate `sequential` (the sequential tree), in Run, and in crate
--- `base` (Lists: `_∈_`, Distinct).
+-- `base` (Lists: `_∈_`, Distinct). S is where the run starts: in 01's demands a pool of N nodes just set up (`Promise`, at the end).
 use Prim.Native.Nat.{ℕ, _+_, _<_, _≤_}
 use mathlib.Core.Path.{_≡_}
 use mathlib.Core.Logic.{_≢_, _↔_}
@@ -30,6 +30,7 @@ use Rattle.promise.specs.Run.{Start, justSetUp, Reads, callAt, indexAfte
 abbrev pub AtOneMoment : Start → List Call → ℕ → ℕ → ℕ → Option ℕ → Type 0
 AtOneMoment S cs k i j o = (t : ℕ) × (i < t) × (t ≤ j + 1) × (recordFor k (ticketsAfter S cs t) ≡ o)
 
+-- slot s, wanted key k, begun by call i, ended by call j
 pub record LookupsRight (S : Start) (cs : List Call) : Type 0 where
   pub whenFound : (s k i j v : ℕ) → Lookup S cs s k i j → Turns S cs s j (found v) → AtOneMoment S cs k i j (some v)
   pub whenAbsent : (s k i j : ℕ) → Lookup S cs s k i j → Turns S cs s j absent → AtOneMoment S cs k i j none
@@ -52,6 +53,7 @@ abbrev pub answerOf : Option ℕ → Answer
 answerOf none = absent
 answerOf (some v) = found v
 
+-- after every call, for every key; and keys held is the number of tickets
 pub record TreeHolds (S : Start) (cs : List Call) : Type 0 where
   pub everyKey : (j k : ℕ) → Going (indexAfter S cs j) k 0 (answerOf (recordFor k (ticketsAfter S cs j)))
   pub keysHeld : (j : ℕ) → indexAfter S cs j .register .held ≡ length (ticketsAfter S cs j)
@@ -72,8 +74,8 @@ pub record Reaches (st : State) (s m : ℕ) : Type 0 where
   pub reads : Reads st s
   pub leads : Leads (st .pool) (origin st s) m
 
--- A call takes a node if it is a writer's turn that makes a store whose step takes one ('The writer's stores': a new node, a copy):
--- it takes the first free node.
+-- A call takes a node if it is a writer's turn that makes a store (it answers more or done: `carriedOut`) whose step takes one ('The
+-- writer's stores': a new node, a copy): it takes the first free node.
 abbrev pub takesOne : Step → Bool
 takesOne x = profile x .takes
 
@@ -83,8 +85,8 @@ pub record Takes (st : State) (c : Call) (m : ℕ) : Type 0 where
   pub step : takesOne (storeOf (st .register) 0 .step) ≡ true
   pub first : st .register .first ≡ m
 
--- A node that a reading slot reached at a moment of its lookup (after t calls) doesn't stand free and is not taken by any call, from that
--- moment until the lookup ends.
+-- A node m that a reading slot reached at a moment of its lookup (after t calls) doesn't stand free and is not taken by any call, from that
+-- moment until the lookup ends: not at a moment u, and not by call u.
 pub record NodesKept (S : Start) (cs : List Call) : Type 0 where
   pub notFree : (s k i j t m u : ℕ) → Reading S cs s k i j → i < t → Reaches (indexAfter S cs t) s m → t ≤ u → u ≤ j
       → word (indexAfter S cs u .pool) m standingWord ≢ standingFree
@@ -97,7 +99,7 @@ pub record Demand3 (S : Start) (cs : List Call) : Type 0 where
   pub holds : TreeHolds S cs
   pub kept : NodesKept S cs
 
--- Demand 2. The link value a holds, in the pool, a tree of this shape with these keys, records and colours.
+-- Demand 2. From the link value a hangs, in the pool, a tree of this shape with these keys, records and colours.
 abbrev pub colourNumber : Colour → ℕ
 colourNumber red = redColour
 colourNumber black = blackColour
@@ -120,17 +122,17 @@ pub record FreeRight (st : State) : Type 0 where
   pub standing : (n : ℕ) → (n ∈ queue) ↔ ((1 ≤ n) × (n ≤ nodes (st .pool)) × (word (st .pool) n standingWord ≡ standingFree))
   pub counted : st .register .free ≡ length queue
 
--- whenever no write is in hand the tree is the sequential tree of the writes accepted, in order, from the start's on
 pub record Demand2 (S : Start) (cs : List Call) : Type 0 where
+  -- whenever no write is in hand the tree is the sequential tree of the writes accepted, in order, on the start's (`leaf` when just set up)
   pub atRest : (j : ℕ) → writeInHand (indexAfter S cs j) ≡ false
       → Stands (indexAfter S cs j .pool) (indexAfter S cs j .register .root) (changedBy (S .tree) (acceptedWrites (plainAfter S cs j)))
   pub free : (j : ℕ) → FreeRight (indexAfter S cs j)
-  -- a write is done after at most seven stores
+  -- a write is done after at most seven stores: one that isn't done has made fewer
   pub soon : (j : ℕ) (l : Link) (n : ℕ) → Gives S cs j writing (more l n) → plainAfter S cs (j + 1) .made < mostStores
   -- a turn answers wait only while an awaited slot is reading
   pub waits : (j : ℕ) → Gives S cs j writing wait
       → (s : ℕ) × (s < slots) × (hasSlot (indexAfter S cs j .register .awaited) s ≡ true) × Reads (indexAfter S cs j) s
-  -- with no awaited slot reading, a turn of a write in hand makes a store
+  -- with no awaited slot reading, a turn of a write in hand makes a store: it answers more or done
   pub goesOn : (j : ℕ) → writeInHand (indexAfter S cs j) ≡ true
       → ((s : ℕ) → s < slots → hasSlot (indexAfter S cs j .register .awaited) s ≡ true → reading (indexAfter S cs j) s ≡ false)
       → noticeOf (call (indexAfter S cs j) writing .answer) ≡ carriedOut
@@ -142,9 +144,9 @@ pub record Demand2 (S : Start) (cs : List Call) : Type 0 where
 -- 'When a call is turned down': no run from a fresh index meets 2 or 12; and the pool keeps its length, so none meets 1. From any other
 -- sound start likewise.
 pub record NeverMet (S : Start) (cs : List Call) : Type 0 where
-  pub range : (j : ℕ) (c : Call) → ¬ (Gives S cs j c (refused 2))
-  pub steps : (j : ℕ) (c : Call) → ¬ (Gives S cs j c (refused 12))
-  pub lent : (j : ℕ) (c : Call) → ¬ (Gives S cs j c (refused 1))
+  pub two : (j : ℕ) (c : Call) → ¬ (Gives S cs j c (refused 2))
+  pub twelve : (j : ℕ) (c : Call) → ¬ (Gives S cs j c (refused 12))
+  pub one : (j : ℕ) (c : Call) → ¬ (Gives S cs j c (refused 1))
 
 -- What holds of every list of calls from a start; for which starts: `promise-from` (crate theorem).
 pub record PromiseFrom (S : Start) (cs : List Call) : Type 0 where

@@ -11,14 +11,14 @@ use Rattle.spec.specs.Register.{State, fresh}
 use Rattle.spec.specs.Calls.{Answer, ok, absent, found, Call, beginning, turning, givingUp, call, reading}
 use Rattle.spec.specs.PlainList.{Ticket, Plain, noneAccepted, noticeOf, feed}
 
--- Where a run starts: N, pool and register, the sequential tree that stands there, and the plain list's tickets.
+-- Where a run starts: N, pool and register, the sequential tree that stands there, and the plain list's tickets. 01's own start is `justSetUp N`.
 pub record Start : Type 0 where
   pub size : ℕ
   pub index : State
   pub tree : Tree
   pub tickets : List Ticket
 
--- a pool of N nodes just set up: no ticket, no tree
+-- a pool of N nodes just set up: no ticket, the tree `leaf`
 abbrev pub justSetUp : ℕ → Start
 justSetUp N = record { size = N; index = fresh N; tree = leaf; tickets = [] }
 
@@ -90,6 +90,7 @@ module _ (S : Start) (cs : List Call) where
     pub later : i < j
     pub lasts : (t : ℕ) → i < t → t < j → ¬ (Ends s t)
 
-  -- Lookup. It is a slot's, from an accepted begin to that slot's turn that answers found or absent, or to its accepted give up.
+  -- 'Lookup': a slot's, from an accepted begin to that slot's turn that answers found or absent, or to its accepted give up. Here up to
+  -- call j; that call j ends it, and with which answer, stands beside it (Demands: whenFound, whenAbsent).
   abbrev pub Lookup : ℕ → ℕ → ℕ → ℕ → Type 0
   Lookup s k i j = Reading s k i j

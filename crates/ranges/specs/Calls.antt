@@ -26,7 +26,7 @@ use Rattle.spec.specs.Plan.{Plan}
 use Rattle.spec.specs.Turn.{stepFinds, stepMade}
 use Rattle.spec.specs.Calls.{Outcome, outOfRange, placeOf, insertAt, deleteAt, stored, Call}
 use Rattle.readers.specs.CallCase.{CallCase, refuses, plansInsert, plansDelete, waits, stores, begins, loads, misses, finds, leaves, Loads, atRoot, atNode}
-use Rattle.ranges.specs.Fits.{Fits, child-fits, Within, within-reader, within-end, within-write}
+use Rattle.ranges.specs.Fits.{PoolOk, child-fits, Within, within-reader, within-end, within-write}
 use Rattle.ranges.specs.Stores.{step-within}
 use Rattle.ranges.specs.Writes.{Number, LinkOk, StepOk, WriteOk, write-of, write-less}
 use Rattle.ranges.specs.Plans.{PlaceOk, seek-ok, PlanOk, insert-ok, delete-ok}
@@ -66,7 +66,7 @@ store-true capacity w i h = elim (decLt i (w .count)) [
   | no u ↦ rw (le-ltb i (w .count) (omega arith), h .others i (omega arith))
 ]
 
-node-true : (capacity : ℕ) (p : List ℕ) (n : ℕ) → Fits capacity p → nodeInRange p capacity n ≡ true
+node-true : (capacity : ℕ) (p : List ℕ) (n : ℕ) → PoolOk capacity p → nodeInRange p capacity n ≡ true
 unfolding nodeInRange
 node-true capacity p n h =
     rw (

@@ -32,7 +32,7 @@ use Rattle.readers.specs.Marks.{reading-below}
 use Rattle.readers.specs.Words.{fill-length}
 
 -- word f may be v; the capacity is N
-pub record Fit (capacity f v : ℕ) : Type 0 where
+pub record WordOk (capacity f v : ℕ) : Type 0 where
   pub left : f ≡ leftWord → v ≤ capacity
   pub right : f ≡ rightWord → v ≤ capacity
   pub colour : f ≡ colourWord → v ≤ 1
@@ -40,10 +40,10 @@ pub record Fit (capacity f v : ℕ) : Type 0 where
   pub holders : f ≡ holdersWord → v ≤ allSlots
   pub next : f ≡ nextWord → v ≤ capacity
 
-abbrev pub Fits : ℕ → List ℕ → Type 0
-Fits capacity p = (n f : ℕ) → f < nodeWords → Fit capacity f (word p n f)
+abbrev pub PoolOk : ℕ → List ℕ → Type 0
+PoolOk capacity p = (n f : ℕ) → f < nodeWords → WordOk capacity f (word p n f)
 
-pub fit-zero : (capacity f : ℕ) → Fit capacity f 0
+pub fit-zero : (capacity f : ℕ) → WordOk capacity f 0
 fit-zero capacity f = omega arith
 
 -- a word after a set: the old one, the new one, or 0 past the end
@@ -63,52 +63,52 @@ set-cases p d m f g v hf hg = elim (ℕ-discrete d m) [
   ]
 ]
 
-pub fits-set : (capacity : ℕ) (p : List ℕ) (d f v : ℕ) → f < nodeWords → Fit capacity f v → Fits capacity p → Fits capacity (setWord p d f v)
+pub fits-set : (capacity : ℕ) (p : List ℕ) (d f v : ℕ) → f < nodeWords → WordOk capacity f v → PoolOk capacity p → PoolOk capacity (setWord p d f v)
 fits-set capacity p d f v hf fit h m g hg = go (set-cases p d m f g v hf hg)
   where
-    go : (word (setWord p d f v) m g ≡ word p m g) ⊎ (((f ≡ g) × (word (setWord p d f v) m g ≡ v)) ⊎ (word (setWord p d f v) m g ≡ 0)) → Fit capacity g (word (setWord p d f v) m g)
+    go : (word (setWord p d f v) m g ≡ word p m g) ⊎ (((f ≡ g) × (word (setWord p d f v) m g ≡ v)) ⊎ (word (setWord p d f v) m g ≡ 0)) → WordOk capacity g (word (setWord p d f v) m g)
     go (inl e) = rw e (h m g hg)
-    go (inr (inl e)) = rw (e .1) (subst (λ x. Fit capacity x v) (e .0) fit)
+    go (inr (inl e)) = rw (e .1) (subst (λ x. WordOk capacity x v) (e .0) fit)
     go (inr (inr e)) = rw e (fit-zero capacity g)
 
 -- values that fit
-fit-key : (capacity v : ℕ) → Fit capacity keyWord v
+fit-key : (capacity v : ℕ) → WordOk capacity keyWord v
 fit-key capacity v = omega arith
 
-fit-record : (capacity v : ℕ) → Fit capacity recordWord v
+fit-record : (capacity v : ℕ) → WordOk capacity recordWord v
 fit-record capacity v = omega arith
 
-fit-link : (capacity : ℕ) (s : Side) (v : ℕ) → v ≤ capacity → Fit capacity (linkWord s) v
+fit-link : (capacity : ℕ) (s : Side) (v : ℕ) → v ≤ capacity → WordOk capacity (linkWord s) v
 fit-link capacity L v h = omega arith
 fit-link capacity R v h = omega arith
 
-fit-colour : (capacity v : ℕ) → v ≤ 1 → Fit capacity colourWord v
+fit-colour : (capacity v : ℕ) → v ≤ 1 → WordOk capacity colourWord v
 fit-colour capacity v h = omega arith
 
-fit-standing : (capacity v : ℕ) → v ≤ 2 → Fit capacity standingWord v
+fit-standing : (capacity v : ℕ) → v ≤ 2 → WordOk capacity standingWord v
 fit-standing capacity v h = omega arith
 
-fit-holders : (capacity v : ℕ) → v ≤ allSlots → Fit capacity holdersWord v
+fit-holders : (capacity v : ℕ) → v ≤ allSlots → WordOk capacity holdersWord v
 fit-holders capacity v h = omega arith
 
-pub fit-next : (capacity v : ℕ) → v ≤ capacity → Fit capacity nextWord v
+pub fit-next : (capacity v : ℕ) → v ≤ capacity → WordOk capacity nextWord v
 fit-next capacity v h = omega arith
 
 -- words read off the pool fit
-pub child-fits : (capacity : ℕ) (p : List ℕ) (s : Side) (n : ℕ) → Fits capacity p → child p s n ≤ capacity
+pub child-fits : (capacity : ℕ) (p : List ℕ) (s : Side) (n : ℕ) → PoolOk capacity p → child p s n ≤ capacity
 child-fits capacity p L n h = h n leftWord (omega arith) .left refl
 child-fits capacity p R n h = h n rightWord (omega arith) .right refl
 
-pub colour-fits : (capacity : ℕ) (p : List ℕ) (n : ℕ) → Fits capacity p → word p n colourWord ≤ 1
+pub colour-fits : (capacity : ℕ) (p : List ℕ) (n : ℕ) → PoolOk capacity p → word p n colourWord ≤ 1
 colour-fits capacity p n h = h n colourWord (omega arith) .colour refl
 
-next-fits : (capacity : ℕ) (p : List ℕ) (n : ℕ) → Fits capacity p → word p n nextWord ≤ capacity
+next-fits : (capacity : ℕ) (p : List ℕ) (n : ℕ) → PoolOk capacity p → word p n nextWord ≤ capacity
 next-fits capacity p n h = h n nextWord (omega arith) .next refl
 
 -- The register but for the write in hand, with the pool; the pool has N nodes.
 pub record Within (capacity : ℕ) (st : State) : Type 0 where
   pub size : nodes (st .pool) ≡ capacity
-  pub fits : Fits capacity (st .pool)
+  pub fits : PoolOk capacity (st .pool)
   pub root : st .register .root ≤ capacity
   pub first : st .register .first ≤ capacity
   pub last : st .register .last ≤ capacity
@@ -118,7 +118,7 @@ pub record Within (capacity : ℕ) (st : State) : Type 0 where
   pub readers : (s : ℕ) → readerOf (st .register) s .node ≤ capacity
 
 -- another pool of the same size
-pub within-pool : (capacity : ℕ) (st : State) (q : List ℕ) → length q ≡ length (st .pool) → Fits capacity q → Within capacity st → Within capacity (state q (st .register))
+pub within-pool : (capacity : ℕ) (st : State) (q : List ℕ) → length q ≡ length (st .pool) → PoolOk capacity q → Within capacity st → Within capacity (state q (st .register))
 within-pool capacity st q e f h = record {
   size = ap (λ n. n / nodeWords) e ∙ h .size;
   fits = f;
@@ -147,7 +147,7 @@ within-take capacity st k v s x y c hx hy hc h =
     let next = word p n nextWord in
     record {
       size = ap (λ m. m / nodeWords) (fill-length p n k v s x y c) ∙ h .size;
-      fits = fill-keeps (Fits capacity) p n k v s x y c (Fit capacity) (λ q f u. fits-set capacity q n f u) record {
+      fits = fill-keeps (PoolOk capacity) p n k v s x y c (WordOk capacity) (λ q f u. fits-set capacity q n f u) record {
         key = fit-key capacity k;
         val = fit-record capacity v;
         near = fit-link capacity s x hx;
@@ -173,15 +173,15 @@ within-free capacity st n hn h =
     let a = setWord p n standingWord standingFree in
     let b = setWord a n holdersWord 0 in
     let d = setWord b (st .register .last) nextWord n in
-    let fb : Fits capacity b
+    let fb : PoolOk capacity b
     = fits-set capacity a n holdersWord 0 (omega arith) (fit-zero capacity holdersWord) (fits-set capacity p n standingWord standingFree (omega arith) (fit-zero capacity standingWord) (h .fits)) in
-    let fd : Fits capacity d = fits-set capacity b (st .register .last) nextWord n (omega arith) (fit-next capacity n hn) fb in
+    let fd : PoolOk capacity d = fits-set capacity b (st .register .last) nextWord n (omega arith) (fit-next capacity n hn) fb in
     let lb : length b ≡ length p = length-setWord a n holdersWord 0 ∙ length-setWord p n standingWord standingFree in
     let ld : length d ≡ length p = length-setWord b (st .register .last) nextWord n ∙ lb in
     let le : length (cond (queueEmpty st) b d) ≡ length p = cond-both {A = List ℕ} (λ q. length q ≡ length p) (queueEmpty st) lb ld in
     record {
       size = ap (λ m. m / nodeWords) (length-setWord (cond (queueEmpty st) b d) n nextWord 0 ∙ le) ∙ h .size;
-      fits = fits-set capacity (cond (queueEmpty st) b d) n nextWord 0 (omega arith) (fit-zero capacity nextWord) (cond-both (λ q. Fits capacity q) (queueEmpty st) fb fd);
+      fits = fits-set capacity (cond (queueEmpty st) b d) n nextWord 0 (omega arith) (fit-zero capacity nextWord) (cond-both (λ q. PoolOk capacity q) (queueEmpty st) fb fd);
       root = h .root;
       first = cond-le (queueEmpty st) n (st .register .first) capacity hn (h .first);
       last = hn;
@@ -278,7 +278,7 @@ within-link capacity st (Left n) v hv h = within-pool capacity st (setWord (st .
 within-link capacity st (Right n) v hv h = within-pool capacity st (setWord (st .pool) n rightWord v) (length-setWord (st .pool) n rightWord v)
     (fits-set capacity (st .pool) n rightWord v (omega arith) (fit-link capacity R v hv) (h .fits)) h
 
-pub fits-paint : (capacity : ℕ) (p : List ℕ) (n c : ℕ) → c ≤ 1 → Fits capacity p → Fits capacity (paint p n c)
+pub fits-paint : (capacity : ℕ) (p : List ℕ) (n c : ℕ) → c ≤ 1 → PoolOk capacity p → PoolOk capacity (paint p n c)
 fits-paint capacity p n c hc h = fits-set capacity p n colourWord c (omega arith) (fit-colour capacity c hc) h
 
 pub within-held : (capacity : ℕ) (st : State) (n : ℕ) → n ≤ capacity → Within capacity st → Within capacity (state (st .pool) (withHeld (st .register) n))

@@ -31,7 +31,7 @@ use Rattle.spec.specs.Search.{towards, seek, sameLink, trail, pathTo, leftmost}
 use Rattle.spec.specs.Plan.{fixupResult, insertFixup, fixupAfterInsert, redChild, redSibling, deleteFixup, fixupAfterRemoval, store, turnStores, rotationStores, endingStores, Plan}
 use Rattle.spec.specs.Plan.{plan, insertPlan, twoChildren, onlyChild, successorPath, unlinkPlan, successorPlan, deletePlan}
 use Rattle.heap.specs.Accept.{turn-room}
-use Rattle.ranges.specs.Fits.{Fits, child-fits, Within, node-fits}
+use Rattle.ranges.specs.Fits.{PoolOk, child-fits, Within, node-fits}
 use Rattle.ranges.specs.Writes.{Number, LinkOk, StoresOk, stores-append}
 
 abbrev pub LinksOk : ℕ → List Link → Type 0
@@ -59,7 +59,7 @@ PlaceOk capacity (Held l n) = LinkOk capacity l × Number capacity n
 PlaceOk capacity (Empty l) = LinkOk capacity l
 PlaceOk capacity TooDeep = Unit {0}
 
-module _ (capacity : ℕ) (p : List ℕ) (fits : Fits capacity p) where
+module _ (capacity : ℕ) (p : List ℕ) (fits : PoolOk capacity p) where
   kid : (s : Side) (n : ℕ) → child p s n ≤ capacity
   kid s n = child-fits capacity p s n fits
 

@@ -24,10 +24,10 @@ use Rattle.spec.specs.Turn.{painted, colourOf, oneMore, oneLess, endInsert, ins
 use Rattle.spec.specs.Turn.{endDiag, diagRaise, zigLowerA, zigLowerC, endZig, zigRaise, stepMade}
 use Rattle.spec.specs.Turn.{unlinkPath, unlinkFixup, unlinkStore, adoptStore, replacePath, replaceFixup, replaceStore, publishStore, detachPath, detachFixup, detachStore}
 use Rattle.heap.specs.ColourWork.{coloursOnly-paint, coloursOnly-insertFixup, coloursOnly-deleteFixup}
-use Rattle.ranges.specs.Fits.{Fits, child-fits, colour-fits, Within, within-pool, within-take, within-retire, within-retireTwo, within-write}
+use Rattle.ranges.specs.Fits.{PoolOk, child-fits, colour-fits, Within, within-pool, within-take, within-retire, within-retireTwo, within-write}
 use Rattle.ranges.specs.Fits.{within-await, within-link, fits-paint, within-more, within-less, node-fits}
 
-fits-insertFixup : (capacity m : ℕ) (path : List Link) (p : List ℕ) → Fits capacity p → Fits capacity (paintInsertFixup m path p)
+fits-insertFixup : (capacity m : ℕ) (path : List Link) (p : List ℕ) → PoolOk capacity p → PoolOk capacity (paintInsertFixup m path p)
 unfolding paintInsertFixup
 fits-insertFixup capacity zero path p h = h
 fits-insertFixup capacity (suc m) [] p h = h
@@ -39,7 +39,7 @@ fits-insertFixup capacity (suc m) (x ∷ y ∷ up) p h =
     fits-insertFixup capacity m up (paint b (owner y) redColour)
     (fits-paint capacity b (owner y) redColour (omega arith) (fits-paint capacity a aunt blackColour (omega arith) (fits-paint capacity p (owner x) blackColour (omega arith) h)))
 
-fits-deleteFixup : (capacity m : ℕ) (path : List Link) (p : List ℕ) → Fits capacity p → Fits capacity (paintDeleteLevels m path p)
+fits-deleteFixup : (capacity m : ℕ) (path : List Link) (p : List ℕ) → PoolOk capacity p → PoolOk capacity (paintDeleteLevels m path p)
 unfolding paintDeleteLevels
 fits-deleteFixup capacity zero path p h = h
 fits-deleteFixup capacity (suc m) [] p h = h
@@ -94,7 +94,7 @@ risen-low capacity ForInsert st c h = omega arith
 risen-low capacity RedSibling st c h = omega arith
 risen-low capacity BlackSibling st c h = colour-fits capacity (st .pool) c (h .fits)
 
-only-fits : (capacity : ℕ) (p : List ℕ) (b : ℕ) → Fits capacity p → onlyChild p b ≤ capacity
+only-fits : (capacity : ℕ) (p : List ℕ) (b : ℕ) → PoolOk capacity p → onlyChild p b ≤ capacity
 only-fits capacity p b h = cond-both (λ x. x ≤ capacity) (eqb (child p L b) 0) (child-fits capacity p R b h) (child-fits capacity p L b h)
 
 module _ (capacity : ℕ) (st : State) (h : Within capacity st) where

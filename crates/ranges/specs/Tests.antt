@@ -17,7 +17,7 @@ use Rattle.spec.specs.Calls.{outOfRange}
 use Rattle.laws.specs.Words.{word-none, word-at}
 use Rattle.laws.specs.Tests.{and-left, and-right}
 use Rattle.readers.specs.Words.{Whole}
-use Rattle.ranges.specs.Fits.{Fit, Fits, fit-zero}
+use Rattle.ranges.specs.Fits.{WordOk, PoolOk, fit-zero}
 use Rattle.ranges.specs.Writes.{write-none}
 use Rattle.ranges.specs.Calls.{Ranged}
 
@@ -25,7 +25,7 @@ both : (a b : Bool) → (a && b) ≡ true → (a ≡ true) × (b ≡ true)
 both a b e = (and-left a b e, and-right a b e)
 
 -- a node's words
-node-fits : (N : ℕ) (p : List ℕ) (n f : ℕ) → nodeInRange p N n ≡ true → Fit N f (word p n f)
+node-fits : (N : ℕ) (p : List ℕ) (n f : ℕ) → nodeInRange p N n ≡ true → WordOk N f (word p n f)
 unfolding nodeInRange
 node-fits N p n f e =
     let a = both (leb (word p n leftWord) N && leb (word p n rightWord) N && (leb (word p n colourWord) 1 && leb (word p n standingWord) 2)) _ e in
@@ -43,7 +43,7 @@ node-fits N p n f e =
     }
 
 -- no node, and nodes past the last, have words 0
-pool-fits : (p : List ℕ) → Whole p → poolInRange p ≡ true → Fits (nodes p) p
+pool-fits : (p : List ℕ) → Whole p → poolInRange p ≡ true → PoolOk (nodes p) p
 unfolding poolInRange
 pool-fits p w e n f u = elim (ℕ-discrete n 0) [
   | yes z ↦ rw (z, word-none p f) (fit-zero (nodes p) f)
@@ -71,7 +71,7 @@ ranged-of N st size whole perSlot idle e =
     record {
       within = record {
         size = size;
-        fits = subst (λ n. Fits n (st .pool)) size (pool-fits (st .pool) whole (h .0));
+        fits = subst (λ n. PoolOk n (st .pool)) size (pool-fits (st .pool) whole (h .0));
         root = leb-true _ N (d .0);
         first = leb-true _ N (d .1);
         last = leb-true _ N (c .1);

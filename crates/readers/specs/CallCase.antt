@@ -68,18 +68,18 @@ tested st c o h = go (eqb (firstOf (testsOf st c)) 0) refl
     go false e = refuses c (eqb-false (firstOf (testsOf st c)) 0 e)
 
 -- all tests passed, their numbers not being 0
-abbrev pub Clear : List Test → Type 0
-Clear [] = Unit {0}
-Clear ((b gives n) ∷ ts) = (b ≡ false) × Clear ts
+abbrev pub TestsPass : List Test → Type 0
+TestsPass [] = Unit {0}
+TestsPass ((b gives n) ∷ ts) = (b ≡ false) × TestsPass ts
 
 abbrev pub Numbered : List Test → Type 0
 Numbered [] = Unit {0}
 Numbered ((b gives n) ∷ ts) = (n ≢ 0) × Numbered ts
 
-pub clear : (ts : List Test) → Numbered ts → firstOf ts ≡ 0 → Clear ts
-clear [] h e = tt
-clear ((true gives n) ∷ ts) h e = absurd (h .0 e)
-clear ((false gives n) ∷ ts) h e = (refl, clear ts (h .1) e)
+pub tests-pass : (ts : List Test) → Numbered ts → firstOf ts ≡ 0 → TestsPass ts
+tests-pass [] h e = tt
+tests-pass ((true gives n) ∷ ts) h e = absurd (h .0 e)
+tests-pass ((false gives n) ∷ ts) h e = (refl, tests-pass ts (h .1) e)
 
 load-case : (st : State) (s n : ℕ) → Passed st s → Loads st s n → CallCase st (turning s) (loaded st s (readerOf (st .register) s) n)
 load-case st s n p l = elim (ℕ-discrete n 0) [
@@ -101,7 +101,7 @@ step-case st s p =
 turn-case : (st : State) → firstOf (writerTests st) ≡ 0
     → CallCase st writing (cond (waiting st) (outcome wait st) (stored (stepMade st (storeOf (st .register) 0 .link) (storeOf (st .register) 0 .step))))
 turn-case st e =
-    let c = clear (writerTests st) (omega arith, (omega arith, (omega arith, (omega arith, tt)))) e in
+    let c = tests-pass (writerTests st) (omega arith, (omega arith, (omega arith, (omega arith, tt)))) e in
     go (eqb (st .register .awaited) 0) refl (not-false (writeInHand st) (c .1 .1 .0)) (c .1 .1 .1 .0)
   where
     go : (x : Bool) → eqb (st .register .awaited) 0 ≡ x → writeInHand st ≡ true → (not (not x) && not (firstFinds st)) ≡ false
@@ -111,13 +111,13 @@ turn-case st e =
 
 passed : (st : State) (s : ℕ) → firstOf (readerTests st s) ≡ 0 → Passed st s
 passed st s e =
-    let c = clear (readerTests st s) (omega arith, (omega arith, (omega arith, (omega arith, tt)))) e in
+    let c = tests-pass (readerTests st s) (omega arith, (omega arith, (omega arith, (omega arith, tt)))) e in
     record { low = leb-false slots s (c .1 .1 .0); reads = not-false (reading st s) (c .1 .1 .1 .0) }
 
 begin-case : (st : State) (s k : ℕ) → firstOf (beginTests st s) ≡ 0
     → CallCase st (beginning s k) (outcome ok (state (st .pool) (withReader (st .register) s (begunReader k))))
 begin-case st s k e =
-    let c = clear (beginTests st s) (omega arith, (omega arith, (omega arith, (omega arith, tt)))) e in
+    let c = tests-pass (beginTests st s) (omega arith, (omega arith, (omega arith, (omega arith, tt)))) e in
     begins s k (leb-false slots s (c .1 .1 .0)) (c .1 .1 .1 .0)
 
 pub call-case : (st : State) (c : Call) → CallCase st c (call st c)

@@ -21,7 +21,7 @@ use Rattle.tree.specs.Linked.{Linked, nil, cell, nodes as treeNodes}
 use Rattle.heap.specs.Rep.{Rep}
 use Rattle.promise.specs.Demands.{Leads, arrived, onward}
 use Rattle.readers.specs.Marks.{no-bit}
-use Rattle.readers.specs.Words.{node-high, node-length, Whole, whole-length, stands-node}
+use Rattle.readers.specs.Words.{node-high, node-length, Whole, whole-kept, stands-node}
 use Rattle.readers.specs.QueueExact.{QueueExact}
 use Rattle.readers.specs.Release.{retired, freedBy, end-released}
 
@@ -103,7 +103,7 @@ module _ (st : State) (s : ℕ) (l : List ℕ) (w : Whole (st .pool)) (h : Queue
   after-node : (n : ℕ) → word after n standingWord ≢ standingFree → InPool before n
   after-node n d =
       let e = end-released st s l h .size in
-      node-length after before n (sym e) (stands-node after n standingWord (whole-length before after e w) (omega arith) d)
+      node-length after before n (sym e) (stands-node after n standingWord (whole-kept before after e w) (omega arith) d)
 
   pub linked-end : (n : ℕ) → HasStanding after n standingLinked → HasStanding before n standingLinked
   linked-end n e =

@@ -20,7 +20,7 @@ use Rattle.spec.specs.Calls.{reading}
 use Rattle.promise.specs.Demands.{Leads, Reaches}
 use Rattle.promise.specs.Run.{Reads}
 use Rattle.readers.specs.Marks.{reader-same, reader-other}
-use Rattle.readers.specs.Words.{Whole, whole-length, stands-node}
+use Rattle.readers.specs.Words.{Whole, whole-kept, stands-node}
 use Rattle.readers.specs.Release.{ended, end-released}
 use Rattle.readers.specs.Owned.{readingIn, Owned, own-reader, own-end}
 use Rattle.readers.specs.Reach.{HasStanding, Kept, LinkedClosed, Closed, kept-reach, leads-there, kept-end, closed-end, end-linked, kept-store, closed-store}
@@ -108,7 +108,7 @@ safe-end st s u h =
     let d = end-released st s q exact in
     let same : endReading st s .register .root ≡ st .register .root = d .else .root ∙ ended-root st s in
     record {
-      whole = whole-length (st .pool) (endReading st s .pool) (d .size) (h .whole);
+      whole = whole-kept (st .pool) (endReading st s .pool) (d .size) (h .whole);
       queue = _;
       owned = own-end st q s (h .owned);
       closed = closed-end st s q (h .whole) exact (h .closed);
@@ -125,12 +125,12 @@ safe-end st s u h =
 pub safe-turn : (st after : State) (came gone : List ℕ) (l : Link) (v : ℕ) → Safe st → Turn st after came gone l v → LinkedClosed (after .pool)
     → (after .register .root ≢ 0 → HasStanding (after .pool) (after .register .root) standingLinked) → Safe after
 safe-turn st after came gone l v h t linked root = record {
-  whole = whole-length (st .pool) (after .pool) (t .size) (h .whole);
+  whole = whole-kept (st .pool) (after .pool) (t .size) (h .whole);
   queue = t .queue;
   owned = t .owned;
   closed = closed-store (st .pool) (after .pool) (Reads st) (t .change) (h .closed) linked
       (λ n s e u i. subst (λ xs. readingIn xs s ≡ true) (t .readers)
-      (t .owned .good n (stands-node (after .pool) n standingWord (whole-length (st .pool) (after .pool) (t .size) (h .whole)) (omega arith) (omega arith)) .reads e s u i));
+      (t .owned .good n (stands-node (after .pool) n standingWord (whole-kept (st .pool) (after .pool) (t .size) (h .whole)) (omega arith) (omega arith)) .reads e s u i));
   root = root;
   at = λ s u i d. (let o : readerOf (after .register) s ≡ readerOf (st .register) s = ap (λ xs. getD xs s noReader) (t .readers) in
       subst (λ y. Kept (after .pool) s (y .node)) (sym o)

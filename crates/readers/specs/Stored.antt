@@ -4,7 +4,7 @@ use Prim.Native.Nat.{ℕ, _+_, _<_, _≤_}
 use mathlib.Core.Path.{_≡_, refl, sym, ap, _∙_, subst}
 use mathlib.Core.Bool.{Bool, true, false, cond}
 use mathlib.Core.List.{List, [], _∷_}
-use mathlib.Core.Logic.{_≢_, inl, inr}
+use mathlib.Core.Logic.{inl, inr}
 use native.Mathlib.Omega.{arith}
 use lib.Dec.{eqb}
 use lib.ListN.{length}
@@ -22,8 +22,8 @@ use Rattle.spec.specs.Free.{takeFree, takeNode}
 use Rattle.base.specs.Lists.{_∈_}
 use Rattle.spec.specs.FreeQueue.{InPool}
 use Rattle.laws.specs.Words.{length-setWord, word-same, word-other}
-use Rattle.laws.specs.Queue.{link-low}
-use Rattle.readers.specs.Words.{Whole, whole-length, stands-node, fill-length, fill-other, fill-standing}
+use Rattle.laws.specs.Queue.{link-low, key-link, record-link}
+use Rattle.readers.specs.Words.{Whole, whole-kept, stands-node, fill-length, fill-other, fill-standing}
 use Rattle.readers.specs.QueueExact.{field-exact}
 use Rattle.readers.specs.Owned.{Slots, Owned, own-word, own-take}
 use Rattle.readers.specs.Reach.{HasStanding}
@@ -97,8 +97,8 @@ side-stored st q d s v l same keep hd h =
       size = length-setWord p d (linkWord s) v;
       standing = λ n _. high n standingWord (omega arith) (omega arith);
       holders = λ n _. high n holdersWord (omega arith) (omega arith);
-      keys = λ n _. word-other p d n (linkWord s) keyWord v (omega arith) (omega arith) (inr (low s));
-      records = λ n _. word-other p d n (linkWord s) recordWord v (omega arith) (omega arith) (inr (mid s));
+      keys = λ n _. key-link p d n s v;
+      records = λ n _. record-link p d n s v;
       links = λ n z _. rw (same n z) (child-set p d s v n z hd);
       new = λ n i. absurd i;
       root = sym keep;
@@ -107,14 +107,6 @@ side-stored st q d s v l same keep hd h =
       queue = q;
       owned = own-word st q d (linkWord s) v (omega arith) h;
     }
-  where
-    low : (s : Side) → linkWord s ≢ keyWord
-    low L = omega arith
-    low R = omega arith
-
-    mid : (s : Side) → linkWord s ≢ recordWord
-    mid L = omega arith
-    mid R = omega arith
 
 pub link-stored : (st : State) (q : List ℕ) (l : Link) (v : ℕ) → Whole (st .pool) → OwnerLinked (st .pool) l → Owned st q → Stored st (setLink st l v) [] l v
 unfolding setLink withRoot
@@ -148,7 +140,7 @@ taking-stored st n q k w s x y c l v whole o h =
     let base = takeNode st k w s x y c in
     let out : (m f : ℕ) → f < nodeWords → ¬ (m ∈ (n ∷ [])) → word (base .pool) m f ≡ word p m f =
     λ m f u i. fill-other p a k w s x y c m f u (λ e. i (inl (sym e ∙ first))) in
-    let g = link-stored base q l v (whole-length p (base .pool) (fill-length p a k w s x y c) whole) (owner l o (λ m e. out m standingWord (omega arith) e) (here .1))
+    let g = link-stored base q l v (whole-kept p (base .pool) (fill-length p a k w s x y c) whole) (owner l o (λ m e. out m standingWord (omega arith) e) (here .1))
     (own-take st n q k w s x y c h) in
     record {
       size = g .size ∙ fill-length p a k w s x y c;

@@ -25,7 +25,7 @@ use Rattle.laws.specs.Words.{word-none}
 use Rattle.promise.specs.Run.{Reads}
 use Rattle.heap.specs.Rep.{alike-refl, upToColour}
 use Rattle.heap.specs.Fill.{Quiet, retire-quiet, retireTwo-quiet}
-use Rattle.readers.specs.Words.{Whole, whole-length, stands-node}
+use Rattle.readers.specs.Words.{Whole, whole-kept, stands-node}
 use Rattle.readers.specs.Owned.{readingIn, Owned, own-retire}
 use Rattle.readers.specs.Reach.{HasStanding, NodeChange, comes, leaves, goes}
 use Rattle.readers.specs.NodeChanges.{ranked, change-same, Retires, stays, out, off, retire-other, retire-retires, retire-gone, retire-free}
@@ -143,7 +143,7 @@ module _ (st mid : State) (q came : List ℕ) (l : Link) (v : ℕ) (w : Whole (s
   linked-mid n e = s .standing n (linked-stays s n e) ∙ e
 
   node-mid : (n : ℕ) → HasStanding (st .pool) n standingLinked → InPool (mid .pool) n
-  node-mid n e = let i = linked-mid n e in stands-node (mid .pool) n standingWord (whole-length (st .pool) (mid .pool) (s .size) w) (omega arith) (omega arith)
+  node-mid n e = let i = linked-mid n e in stands-node (mid .pool) n standingWord (whole-kept (st .pool) (mid .pool) (s .size) w) (omega arith) (omega arith)
 
   -- none retired
   pub turn-none : Turn st mid came [] l v

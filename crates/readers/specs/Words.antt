@@ -32,8 +32,8 @@ node-in p n a b = record { low = a; high = omega arith }
 abbrev pub Whole : List ℕ → Type 0
 Whole p = length p ≡ nodes p * nodeWords
 
-pub whole-length : (p q : List ℕ) → length q ≡ length p → Whole p → Whole q
-whole-length p q e h = omega arith
+pub whole-kept : (p q : List ℕ) → length q ≡ length p → Whole p → Whole q
+whole-kept p q e h = omega arith
 
 pub stands-node : (p : List ℕ) (n f : ℕ) → Whole p → f < nodeWords → word p n f ≢ 0 → InPool p n
 stands-node p n f w u d = elim (ℕ-discrete n 0) [

@@ -37,13 +37,13 @@ slotOf (beginning s k) = s
 slotOf (turning s) = s
 slotOf (givingUp s) = s
 
-abbrev pub keyOf : Call → ℕ
-keyOf (inserting k v) = k
-keyOf (deleting k) = k
-keyOf writing = 0
-keyOf (beginning s k) = k
-keyOf (turning s) = 0
-keyOf (givingUp s) = 0
+abbrev pub keyOfCall : Call → ℕ
+keyOfCall (inserting k v) = k
+keyOfCall (deleting k) = k
+keyOfCall writing = 0
+keyOfCall (beginning s k) = k
+keyOfCall (turning s) = 0
+keyOfCall (givingUp s) = 0
 
 abbrev pub kindOf : Call → ℕ
 kindOf (inserting k v) = 0
@@ -64,15 +64,15 @@ toldOf (more l n) = 5
 toldOf (done l n) = 6
 toldOf (refused n) = 7
 
-abbrev pub recordOf : Answer → ℕ
-recordOf ok = 0
-recordOf go = 0
-recordOf absent = 0
-recordOf wait = 0
-recordOf (found v) = v
-recordOf (more l n) = 0
-recordOf (done l n) = 0
-recordOf (refused n) = 0
+abbrev pub recordOfAnswer : Answer → ℕ
+recordOfAnswer ok = 0
+recordOfAnswer go = 0
+recordOfAnswer absent = 0
+recordOfAnswer wait = 0
+recordOfAnswer (found v) = v
+recordOfAnswer (more l n) = 0
+recordOfAnswer (done l n) = 0
+recordOfAnswer (refused n) = 0
 
 nil-none : (p : List ℕ) (a : ℕ) (T : Linked) (k : ℕ) → Rep p a T → a ≡ 0 → find T k ≡ none
 nil-none p a nil k h e = refl
@@ -96,7 +96,7 @@ begun-right st c o A s k (waits f) safe (e, a) = absurd (let z = ap kindOf e in 
 begun-right st c o A s k (stores f g i) safe (e, a) = absurd (let z = ap kindOf e in omega arith)
 begun-right st c o A s k (begins t j u f) safe (e, a) =
     let y = ap slotOf e in
-    let z = ap keyOf e in
+    let z = ap keyOfCall e in
     (subst (λ m. m < slots) y u, begun-stand st A s k t j y z (rw (safe .owned .perSlot) u))
 begun-right st c o A s k (loads t n p l f) safe (e, a) = absurd (let z = ap kindOf e in omega arith)
 begun-right st c o A s k (misses t n p l f) safe (e, a) = absurd (let z = ap kindOf e in omega arith)
@@ -140,7 +140,7 @@ module _ (W : State → Plain → Linked → Type 0) (writer : Writer W) where
   found-right st x c o A s k v (misses t n p l f) h (e, a) g = absurd (let z = ap toldOf a in omega arith)
   found-right st x c o A s k v (finds t p d f) h (e, a) g =
       let y = ap slotOf e in
-      let z = ap recordOf a in
+      let z = ap recordOfAnswer a in
       let d′ = subst (λ m. readerOf (st .register) m .node ≢ 0) y d in
       let f′ = subst (λ m. readerOf (st .register) m .key ≡ word (st .pool) (readerOf (st .register) m .node) keyWord) y f in
       let z′ = subst (λ m. recordAt (st .pool) (readerOf (st .register) m .node) ≡ v) y z in

@@ -20,7 +20,7 @@ use Rattle.spec.specs.FreeQueue.{Chain, lastOf}
 use Rattle.readers.specs.Words.{node-in, node-high}
 use Rattle.readers.specs.QueueExact.{QueueExact}
 use Rattle.readers.specs.Reach.{leads-there}
-use Rattle.ranges.specs.Fits.{Fit, Fits, fit-zero, fit-next}
+use Rattle.ranges.specs.Fits.{WordOk, PoolOk, fit-zero, fit-next}
 use Rattle.ranges.specs.Writes.{write-none}
 use Rattle.ranges.specs.Calls.{Ranged, ranged-in}
 use Rattle.runs.specs.Starts.{SoundStart, exact-right}
@@ -121,10 +121,10 @@ module _ (N : ℕ) (lo : leastNodes ≤ N) where
     ]
   ]
 
-  fits : Fits N p
+  fits : PoolOk N p
   fits n f u = elim (decLt f nextWord) [
     | yes v ↦ rw (word-low n f v) (fit-zero N f)
-    | no v ↦ (let e : nextWord ≡ f = omega arith in subst (λ g. Fit N g (word p n g)) e (fit-next N (word p n nextWord) (next-low n)))
+    | no v ↦ (let e : nextWord ≡ f = omega arith in subst (λ g. WordOk N g (word p n g)) e (fit-next N (word p n nextWord) (next-low n)))
   ]
 
   ranged-fresh : Ranged N (fresh N)

@@ -28,7 +28,7 @@ use Rattle.promise.specs.Demands.{Stands}
 use Rattle.readers.specs.Words.{Whole}
 use Rattle.spec.specs.Calls.{insertTests, deleteTests, writerTests, firstFinds, waiting}
 use Rattle.readers.specs.CallCase.{CallCase, refuses, plansInsert, plansDelete, waits, stores, begins, loads, misses, finds, leaves, testsOf}
-use Rattle.readers.specs.CallCase.{Clear}
+use Rattle.readers.specs.CallCase.{TestsPass}
 use Rattle.readers.specs.Safe.{Safe}
 use Rattle.runs.specs.Sound.{store-notice}
 use Rattle.runs.specs.Answers.{toldOf}
@@ -211,7 +211,7 @@ not-twelve W w st x T h g (beginning s k) = avoided 12 (beginTests st s) (omega 
 not-twelve W w st x T h g (turning s) = avoided 12 (readerTests st s) (omega arith) (inl (omega arith), λ _. (inl (omega arith), λ _. (inl (omega arith), λ _. (inl (omega arith), λ _. tt))))
 not-twelve W w st x T h g (givingUp s) = avoided 12 (readerTests st s) (omega arith) (inl (omega arith), λ _. (inl (omega arith), λ _. (inl (omega arith), λ _. (inl (omega arith), λ _. tt))))
 
-all-clear : (ts : List Test) → Clear ts → firstOf ts ≡ 0
+all-clear : (ts : List Test) → TestsPass ts → firstOf ts ≡ 0
 all-clear [] h = refl
 all-clear ((true gives n) ∷ ts) h = absurd (false≢true (sym (h .0)))
 all-clear ((false gives n) ∷ ts) h = all-clear ts (h .1)

@@ -33,7 +33,7 @@ pub record SoundStart (S : Start) : Type 0 where
   pub most : S .size ≤ mostNodes
   pub words : length (S .index .pool) ≡ S .size * nodeWords
   pub inRange : outOfRange (S .index) ≡ false
-  -- no slot is reading or awaited, no write is in hand
+  -- each slot has a record; none is reading or awaited; no write is in hand
   pub perSlot : length (S .index .register .readers) ≡ slots
   pub quiet : (s : ℕ) → s < slots → reading (S .index) s ≡ false
   pub unawaited : S .index .register .awaited ≡ 0
@@ -78,7 +78,7 @@ module _ (S : Start) (h : SoundStart S) where
   abbrev p : List ℕ
   p = S .index .pool
 
-  pub size : nodes p ≡ S .size
+  size : nodes p ≡ S .size
   size = let a = h .words in omega arith
 
   whole : Whole p

@@ -129,10 +129,10 @@ module _ (W : State → Plain → Linked → Type 0) (writer : Writer W) (comple
 
   pub never : NeverMet S cs
   never = record {
-    range = λ j c g. not-two (at j) c (ranged-in (S .size) (at j) (ranged j)) (refused-by (at j) c (call (at j) c) 2 (omega arith) (call-case (at j) c) (g .1));
-    steps = λ j c g. (let h = sound j in
+    two = λ j c g. not-two (at j) c (ranged-in (S .size) (at j) (ranged j)) (refused-by (at j) c (call (at j) c) 2 (omega arith) (call-case (at j) c) (g .1));
+    twelve = λ j c g. (let h = sound j in
         not-twelve W completes (at j) (plainAfter S cs j) (h .tree) (h .safe) (h .holds) c (refused-by (at j) c (call (at j) c) 12 (omega arith) (call-case (at j) c) (g .1)));
-    lent = λ j c g. not-one (at j) c (lent j) (refused-by (at j) c (call (at j) c) 1 (omega arith) (call-case (at j) c) (g .1));
+    one = λ j c g. not-one (at j) c (lent j) (refused-by (at j) c (call (at j) c) 1 (omega arith) (call-case (at j) c) (g .1));
   }
 
   pub promise : PromiseFrom S cs

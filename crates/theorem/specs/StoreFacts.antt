@@ -80,24 +80,24 @@ module _ (st : State) (G : Tree) (T : Linked) (x : Store) (l : List Store) (safe
   abbrev pub made : Made
   made = stepMade st (x .link) (x .step)
 
-  abbrev pub turned : Writes.Turn st G T x l
-  turned = turn st G T x l hand ready
+  abbrev pub turn-made : Writes.TurnMade st G T x l
+  turn-made = turn st G T x l hand ready
 
   abbrev pub next : Next st G T made x (later st (x .link) (x .step) l)
-  next = turned .next
+  next = turn-made .next
 
   rep : Rep (st .pool) (st .register .root) T
   rep = phase-rep (hand .phase)
 
   rep′ : Rep (stored made .after .pool) (stored made .after .register .root) (next .tree)
-  rep′ = phase-rep (turned .in-hand .phase)
+  rep′ = phase-rep (turn-made .in-hand .phase)
 
-  met : Turn st (made .after) (takenBy (x .step) (st .register .first)) (next .gone) (made .link) (made .node)
-  met = parts-turn st T (next .tree) made _ (next .gone) _ _ safe rep (λ n u. lk n .1 (occ-in n (nodes T) u)) (next .shift) (next .parts) exactOf
+  store-met : Turn st (made .after) (takenBy (x .step) (st .register .first)) (next .gone) (made .link) (made .node)
+  store-met = parts-turn st T (next .tree) made _ (next .gone) _ _ safe rep (λ n u. lk n .1 (occ-in n (nodes T) u)) (next .shift) (next .parts) exactOf
       (rw (next .fields .awaited) (await-slots (x .step) (st .register) (safe .owned .awaited)))
 
   pub facts-turn : Turn st (stored made .after) (takenBy (x .step) (st .register .first)) (next .gone) (made .link) (made .node)
-  facts-turn = rw (after-is made) (turn-write st (made .after) _ _ (made .link) (made .node) _ met)
+  facts-turn = rw (after-is made) (turn-write st (made .after) _ _ (made .link) (made .node) _ store-met)
 
   moves : Moves (takenBy (x .step) (st .register .first)) (next .gone) T (next .tree)
   moves = shift-moves (next .shift)

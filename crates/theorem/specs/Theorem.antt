@@ -95,11 +95,11 @@ starts-sound S h =
       quiet = λ s u e. false≢true (sym (h .quiet s u) ∙ e);
     }
 
--- every list of calls from a sound start
+-- THE THEOREM. Every list of calls from a sound start,
 pub promise-from : (S : Start) → SoundStart S → (cs : List Call) → PromiseFrom S cs
 promise-from S h cs = Whole.promise WriterSide writer completes S (starts-sound S h) cs
 
--- and so on a pool of N nodes just set up
+-- and so, as 01's demands have it, on a pool of N nodes just set up
 pub promise : (N : ℕ) → 8 ≤ N → N ≤ 1023 → (cs : List Call) → Promise N cs
 promise N lo hi cs = promise-from (justSetUp N) (sound-fresh N lo hi) cs
 

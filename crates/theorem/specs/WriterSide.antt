@@ -35,7 +35,7 @@ use Rattle.readers.specs.Safe.{Safe}
 use Rattle.runs.specs.Writer.{Stores, afterStore}
 use Rattle.theorem.specs.Laters.{takesAll, later-plain, held-plain, later-takes, taken-length}
 use Rattle.theorem.specs.Steps.{QueueHas}
-use Rattle.theorem.specs.StoreFacts.{turned, facts-turn, facts-linked, facts-stores}
+use Rattle.theorem.specs.StoreFacts.{turn-made, facts-turn, facts-linked, facts-stores}
 
 abbrev pub seqOf : Plain → Tree
 seqOf x = changedBy (x .started) (acceptedWrites x)
@@ -93,8 +93,8 @@ module _ (st : State) (x : Plain) (T : Linked) (safe : Safe st) (was : WriterSid
   pub ready : Ready st T (takenBy (s .step) (st .register .first)) × QueueHas st (takenBy (s .step) (st .register .first))
   ready = queue-ready st T (takenBy (s .step) (st .register .first)) safe (was .linked) (let a = taken-length (s .step) (st .register .first) 0 in omega arith)
 
-  abbrev t : Writes.Turn st (seqOf x) T s l
-  t = turned st (seqOf x) T s l safe hand (was .linked) (ready .0) (ready .1)
+  abbrev t : Writes.TurnMade st (seqOf x) T s l
+  t = turn-made st (seqOf x) T s l safe hand (was .linked) (ready .0) (ready .1)
 
   abbrev m : Made
   m = stepMade st (s .link) (s .step)

@@ -14,8 +14,8 @@ use Rattle.tree.specs.Order.{tri-case, ord-apart}
 use Rattle.tree.specs.Sorted.{Ordered, size}
 use Rattle.tree.specs.RedBlack.{RedBlack, rb-leaf}
 use Rattle.tree.specs.Writes.{count}
-use Rattle.tree.specs.Insert.{insert-redblack, insert-writes, insert-held}
-use Rattle.tree.specs.Delete.{delete-writes, delete-absent}
+use Rattle.tree.specs.Insert.{insert-redblack, insert-writes, insert-same}
+use Rattle.tree.specs.Delete.{delete-writes, delete-same}
 use Rattle.tree.specs.DeleteShape.{delete-redblack}
 
 -- keys in order, and a red-black tree
@@ -36,23 +36,23 @@ held-case {A} t q f g = go (find t q) refl
 
 -- Insert.
 pub insert-ordered : (t : Tree) (q w : ℕ) → Ordered t → Ordered (insert t q w)
-insert-ordered t q w h = held-case t q (λ e. insert-writes t q w e .ordered h) (λ v e. rw (insert-held t q w v e) h)
+insert-ordered t q w h = held-case t q (λ e. insert-writes t q w e .ordered h) (λ v e. rw (insert-same t q w v e) h)
 
 pub find-insert : (t : Tree) (q w : ℕ) → Ordered t → find t q ≡ none → find (insert t q w) q ≡ some w
 find-insert t q w h e = insert-writes t q w e .there h
 
 pub find-insert-other : (t : Tree) (q w r : ℕ) → Ordered t → r ≢ q → find (insert t q w) r ≡ find t r
-find-insert-other t q w r h n = held-case t q (λ e. insert-writes t q w e .elsewhere h r n) (λ v e. ap (λ u. find u r) (insert-held t q w v e))
+find-insert-other t q w r h n = held-case t q (λ e. insert-writes t q w e .elsewhere h r n) (λ v e. ap (λ u. find u r) (insert-same t q w v e))
 
 -- Delete.
 pub delete-ordered : (t : Tree) (q : ℕ) → Ordered t → Ordered (delete t q)
-delete-ordered t q h = held-case t q (λ e. rw (delete-absent t q e) h) (λ v e. delete-writes t q v e .ordered h)
+delete-ordered t q h = held-case t q (λ e. rw (delete-same t q e) h) (λ v e. delete-writes t q v e .ordered h)
 
 pub find-delete : (t : Tree) (q : ℕ) → Ordered t → find (delete t q) q ≡ none
-find-delete t q h = held-case t q (λ e. ap (λ u. find u q) (delete-absent t q e) ∙ e) (λ v e. delete-writes t q v e .there h)
+find-delete t q h = held-case t q (λ e. ap (λ u. find u q) (delete-same t q e) ∙ e) (λ v e. delete-writes t q v e .there h)
 
 pub find-delete-other : (t : Tree) (q r : ℕ) → Ordered t → r ≢ q → find (delete t q) r ≡ find t r
-find-delete-other t q r h n = held-case t q (λ e. ap (λ u. find u r) (delete-absent t q e)) (λ v e. delete-writes t q v e .elsewhere h r n)
+find-delete-other t q r h n = held-case t q (λ e. ap (λ u. find u r) (delete-same t q e)) (λ v e. delete-writes t q v e .elsewhere h r n)
 
 -- One write, and a list of writes.
 pub changed-proper : (t : Tree) (c : Change) → Proper t → Proper (changed t c)
@@ -78,7 +78,7 @@ toldBy [] q o = o
 toldBy (c ∷ cs) q o = toldBy cs q (told c q o)
 
 find-insert-here : (t : Tree) (q w : ℕ) → Ordered t → find (insert t q w) q ≡ orElse (find t q) w
-find-insert-here t q w h = held-case t q (λ e. rw e (find-insert t q w h e)) (λ v e. rw (insert-held t q w v e, e))
+find-insert-here t q w h = held-case t q (λ e. rw e (find-insert t q w h e)) (λ v e. rw (insert-same t q w v e, e))
 
 pub find-changed : (t : Tree) (c : Change) (q : ℕ) → Ordered t → find (changed t c) q ≡ told c q (find t q)
 find-changed t (insertion k v) q h =
@@ -109,5 +109,5 @@ keyOfChange (insertion k v) = k
 keyOfChange (deletion k) = k
 
 pub size-changed : (t : Tree) (c : Change) → Ordered t → size (changed t c) + count (find t (keyOfChange c)) ≡ size t + count (find (changed t c) (keyOfChange c))
-size-changed t (insertion k v) h = held-case t k (λ e. rw (find-insert t k v h e, e) (insert-writes t k v e .sized)) (λ u e. rw (insert-held t k v u e))
-size-changed t (deletion k) h = held-case t k (λ e. rw (delete-absent t k e)) (λ u e. rw (find-delete t k h, e) (delete-writes t k u e .sized))
+size-changed t (insertion k v) h = held-case t k (λ e. rw (find-insert t k v h e, e) (insert-writes t k v e .sized)) (λ u e. rw (insert-same t k v u e))
+size-changed t (deletion k) h = held-case t k (λ e. rw (delete-same t k e)) (λ u e. rw (find-delete t k h, e) (delete-writes t k u e .sized))

@@ -163,7 +163,7 @@ remove-none fs q leaf h e = refl
 remove-none fs q (node c k v l r) h e = absurd (let e′ = rw (here-of L q k h) at e in let z : _≡_ {A = ℕ} 0 1 = cc in omega arith)
 
 -- delete of a key that is not held changes nothing
-pub delete-absent : (t : Tree) (q : ℕ) → find t q ≡ none → delete t q ≡ t
-delete-absent t q e =
+pub delete-same : (t : Tree) (q : ℕ) → find t q ≡ none → delete t q ≡ t
+delete-same t q e =
     let x = descend t q [] in
     remove-none (x .way) q (x .at) (descend-into t q [] tt .1) (descend-find t q [] ∙ e) ∙ descend-plug t q []

@@ -46,11 +46,11 @@ deleteFixupOn c [] = record { levels = 0; end = darken }
 deleteFixupOn red (f ∷ fs) = record { levels = 0; end = darken }
 deleteFixupOn black (frame s d k v w ∷ fs) = ifRed (colourOf w) (record { levels = 0; end = atRedSibling (nephewOf s (child s w)) }) (nephewOr (nephewOf s w) (deleteFixupMore (deleteFixupOn d fs)))
 
--- the way above n levels, and the subtree there when their siblings are red
-abbrev pub overFrames : ℕ → List Frame → List Frame
-overFrames zero fs = fs
-overFrames (suc n) [] = []
-overFrames (suc n) (f ∷ fs) = overFrames n fs
+-- the way above n levels (likewise), and the subtree there when their siblings are red
+abbrev pub framesUp : {A : Type 0} → ℕ → List A → List A
+framesUp zero fs = fs
+framesUp (suc n) [] = []
+framesUp (suc n) (f ∷ fs) = framesUp n fs
 
 abbrev pub reddened : ℕ → List Frame → Tree → Tree
 reddened zero fs x = x
@@ -89,7 +89,7 @@ underRed-nephew : (s : Side) (k v : ℕ) (x w : Tree) → underRed s k v x w ≡
 underRed-nephew s k v x w = nephew-case s w (λ b l r h. rw (l, r, h red k v x)) (λ l r. rw (l, r))
 
 pub deleteFixup-ends : (fs : List Frame) (x : Tree)
-    → rbDeleteFixup fs x ≡ deleteEnded (deleteFixupOn (colourOf x) fs .end) (overFrames (deleteFixupOn (colourOf x) fs .levels) fs) (reddened (deleteFixupOn (colourOf x) fs .levels) fs x)
+    → rbDeleteFixup fs x ≡ deleteEnded (deleteFixupOn (colourOf x) fs .end) (framesUp (deleteFixupOn (colourOf x) fs .levels) fs) (reddened (deleteFixupOn (colourOf x) fs .levels) fs x)
 deleteFixup-ends [] x = refl
 deleteFixup-ends (frame s c k v w ∷ fs) x =
     colour-case (colourOf x)

@@ -12,14 +12,14 @@ use Rattle.datatypes.specs.Side.{other}
 use Rattle.sequential.specs.Tree.{Colour, red, black, Tree, leaf, node, mk, keyOf, recordOf, colourOf, paint, find, Frame, frame, plug, descend}
 use Rattle.sequential.specs.Insert.{turnUp, rbInsertFixup, insertedAt, insert}
 use Rattle.tree.specs.Order.{here-of, tri-case}
-use Rattle.tree.specs.Sorted.{ifRed-case, NotLeaf, mk-other, mk-there, parts, Seen, outer, inner, seen}
+use Rattle.tree.specs.Sorted.{ifRed-case, NotLeaf, mk-other, mk-there, parts, OuterOrInner, outer, inner, outer-or-inner}
 use Rattle.tree.specs.Keeps.{Keeps, keeps-refl, keeps-trans, keeps-mk, keeps-plug, keeps-paint, keeps-diag, keeps-zig}
 use Rattle.tree.specs.RedBlack.{RB, rb-leaf, rb-red, rb-black, RedBlack, Fit, fit-top, fit-red, fit-black, mk-red, mk-black, red-child, blacken, blacken-root, fit-plug}
 use Rattle.tree.specs.Descent.{Into, AtKey, descend-plug, descend-into, descend-find, descend-fit}
 use Rattle.tree.specs.Writes.{Writes, writes-keeps, writes-plug}
 
 -- The shape. x is red.
-turnUp-good : {z s : Side} {b : Bool} → Seen z s b → (k v j w : ℕ) {h : ℕ} {x y a : Tree} → RB red h x → RB black h y → RB black h a
+turnUp-good : {z s : Side} {b : Bool} → OuterOrInner z s b → (k v j w : ℕ) {h : ℕ} {x y a : Tree} → RB red h x → RB black h y → RB black h a
     → RB black (suc h) (turnUp b z j w (mk s red k v x y) a)
 turnUp-good {z} outer k v j w r ry ra = simp parts (mk-black z k v r (mk-red z j w ry ra))
 turnUp-good {z} inner k v j w {x = x} {y = y} r ry ra =
@@ -29,10 +29,10 @@ turnUp-good {z} inner k v j w {x = x} {y = y} r ry ra =
 pub rbInsertFixup-good : {fs : List Frame} {h : ℕ} {x : Tree} → Fit fs black h → RB red h x → RedBlack (paint black (rbInsertFixup fs x))
 rbInsertFixup-good fit-top r = (_, blacken r)
 rbInsertFixup-good (fit-black {s} {k} {v} f ry) r = blacken-root (fit-plug f (mk-black s k v r ry))
-rbInsertFixup-good (fit-red {s} {k} {v} (fit-black {s = z} {k = j} {v = w} f rb-leaf) ry) r = blacken-root (fit-plug f (turnUp-good (seen z s) k v j w r ry rb-leaf))
+rbInsertFixup-good (fit-red {s} {k} {v} (fit-black {s = z} {k = j} {v = w} f rb-leaf) ry) r = blacken-root (fit-plug f (turnUp-good (outer-or-inner z s) k v j w r ry rb-leaf))
 rbInsertFixup-good (fit-red {s} {k} {v} (fit-black {s = z} {k = j} {v = w} f (rb-red a b)) ry) r = rbInsertFixup-good f (mk-red z j w (mk-black s k v r ry) (rb-black a b))
 rbInsertFixup-good (fit-red {s} {k} {v} (fit-black {s = z} {k = j} {v = w} f (rb-black a b)) ry) r =
-    blacken-root (fit-plug f (turnUp-good (seen z s) k v j w r ry (rb-black a b)))
+    blacken-root (fit-plug f (turnUp-good (outer-or-inner z s) k v j w r ry (rb-black a b)))
 
 insertedAt-good : (q w : ℕ) {fs : List Frame} {c : Colour} {h : ℕ} {t : Tree} → Fit fs c h → RB c h t → RedBlack (insertedAt q w fs t)
 insertedAt-good q w f rb-leaf = rbInsertFixup-good f (rb-red rb-leaf rb-leaf)
@@ -43,7 +43,7 @@ pub insert-redblack : (t : Tree) (q w : ℕ) → RedBlack t → RedBlack (insert
 insert-redblack t q w g = let x = descend-fit q fit-top (g .1) in insertedAt-good q w (x .2) (x .3)
 
 -- The tickets.
-turnUp-keeps : {z s : Side} {b : Bool} → Seen z s b → (k v j w : ℕ) (c d : Colour) (x y a : Tree) → NotLeaf x
+turnUp-keeps : {z s : Side} {b : Bool} → OuterOrInner z s b → (k v j w : ℕ) (c d : Colour) (x y a : Tree) → NotLeaf x
     → Keeps (mk z c j w (mk s d k v x y) a) (turnUp b z j w (mk s d k v x y) a)
 turnUp-keeps {z} outer k v j w c d x y a n = keeps-diag z c black red j w (mk z d k v x y) a (mk-there z d k v x y)
 turnUp-keeps {z} inner k v j w c d x y a n =
@@ -56,7 +56,7 @@ rbInsertFixup-keeps (frame s red k v y ∷ []) x n = keeps-refl _
 rbInsertFixup-keeps (frame s red k v y ∷ frame z c j w a ∷ fs) x n =
     ifRed-case (Keeps (plug fs (mk z c j w (mk s red k v x y) a))) (colourOf a)
     (λ e. keeps-trans (keeps-plug fs (keeps-mk z c red j w (keeps-mk s red black k v (keeps-refl x) (keeps-refl y)) (keeps-paint black a))) (rbInsertFixup-keeps fs _ (mk-there z red j w _ _)))
-    (λ e. keeps-plug fs (turnUp-keeps (seen z s) k v j w c red x y a n))
+    (λ e. keeps-plug fs (turnUp-keeps (outer-or-inner z s) k v j w c red x y a n))
 
 pub new-writes : (c : Colour) (q w : ℕ) → Writes q none (some w) leaf (node c q w leaf leaf)
 new-writes c q w = record {
@@ -83,5 +83,5 @@ insertedAt-held q w v fs leaf e = let z : _≡_ {A = ℕ} 0 1 = cc in absurd (om
 insertedAt-held q w v fs (node c k u l r) e = refl
 
 -- insert of a held key changes nothing
-pub insert-held : (t : Tree) (q w v : ℕ) → find t q ≡ some v → insert t q w ≡ t
-insert-held t q w v e = let x = descend t q [] in insertedAt-held q w v (x .way) (x .at) (descend-find t q [] ∙ e) ∙ descend-plug t q []
+pub insert-same : (t : Tree) (q w v : ℕ) → find t q ≡ some v → insert t q w ≡ t
+insert-same t q w v e = let x = descend t q [] in insertedAt-held q w v (x .way) (x .at) (descend-find t q [] ∙ e) ∙ descend-plug t q []

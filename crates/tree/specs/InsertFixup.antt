@@ -32,12 +32,12 @@ insertFixupOn (frame s black k v y ∷ fs) = record { levels = 0; end = balanced
 insertFixupOn (frame s red k v y ∷ []) = record { levels = 0; end = rootRed }
 insertFixupOn (frame s red k v y ∷ frame z c j w aunt ∷ fs) = ifRed (colourOf aunt) (insertFixupMore (insertFixupOn fs)) (record { levels = 0; end = rotate (sameSide s z) z })
 
--- the way above n levels, and the subtree there when they are recoloured
-abbrev pub overPairs : ℕ → List Frame → List Frame
-overPairs zero fs = fs
-overPairs (suc n) [] = []
-overPairs (suc n) (f ∷ []) = f ∷ []
-overPairs (suc n) (f ∷ g ∷ fs) = overPairs n fs
+-- the way above n levels (of frames of either kind: linked trees have theirs), and the subtree there when the levels are recoloured
+abbrev pub pairsUp : {A : Type 0} → ℕ → List A → List A
+pairsUp zero fs = fs
+pairsUp (suc n) [] = []
+pairsUp (suc n) (f ∷ []) = f ∷ []
+pairsUp (suc n) (f ∷ g ∷ fs) = pairsUp n fs
 
 abbrev pub recoloured : ℕ → List Frame → Tree → Tree
 recoloured zero fs x = x
@@ -53,7 +53,7 @@ insertEnded (rotate b z) [] x = x
 insertEnded (rotate b z) (f ∷ []) x = plug (f ∷ []) x
 insertEnded (rotate b z) (frame s c k v y ∷ frame z′ d j w aunt ∷ fs) x = plug fs (turnUp b z j w (mk s c k v x y) aunt)
 
-pub insertFixup-ends : (fs : List Frame) (x : Tree) → rbInsertFixup fs x ≡ insertEnded (insertFixupOn fs .end) (overPairs (insertFixupOn fs .levels) fs) (recoloured (insertFixupOn fs .levels) fs x)
+pub insertFixup-ends : (fs : List Frame) (x : Tree) → rbInsertFixup fs x ≡ insertEnded (insertFixupOn fs .end) (pairsUp (insertFixupOn fs .levels) fs) (recoloured (insertFixupOn fs .levels) fs x)
 insertFixup-ends [] x = refl
 insertFixup-ends (frame s black k v y ∷ fs) x = refl
 insertFixup-ends (frame s red k v y ∷ []) x = refl

@@ -38,8 +38,8 @@ diag-keeps s B C n o x r =
     simp erase-at (simp parts at (keeps-diag s black black black (C .key) (C .val) b (bare r) (mk-there s black (B .key) (B .val) (bare o) (bare x))))
 
 -- The list stores.
-pub insert-writes : (Z : Node) → Writes (Z .key) none (some (Z .val)) (bare nil) (bare (cell Z nil nil))
-insert-writes Z = new-writes black (Z .key) (Z .val)
+pub insertion-writes : (Z : Node) → Writes (Z .key) none (some (Z .val)) (bare nil) (bare (cell Z nil nil))
+insertion-writes Z = new-writes black (Z .key) (Z .val)
 
 pub unlink-writes : (s : Side) (B : Node) (x : Linked) → Writes (B .key) (some (B .val)) none (bare (at s B x nil)) (bare x)
 unlink-writes s B x = rw (erase-at none-red s B x nil) (drop-one s black (B .key) (B .val) (bare x))

@@ -115,12 +115,12 @@ find-none L k r (node c j v x y) h n = rw (far-of L r j (ord-past L j k r (h .0)
 find-none R k r (node c j v x y) h n = rw (near-of L r j (ord-past R j k r (h .0) n)) (find-none R k r x (h .1) n)
 
 -- a child's side against its parent's: an outer child has the same, an inner one the other
-pub data Seen (z : Side) : Side → Bool → Type 0 where
-  outer : Seen z z true
-  inner : Seen z (other z) false
+pub data OuterOrInner (z : Side) : Side → Bool → Type 0 where
+  outer : OuterOrInner z z true
+  inner : OuterOrInner z (other z) false
 
-pub seen : (z s : Side) → Seen z s (sameSide s z)
-seen L L = outer
-seen L R = inner
-seen R L = inner
-seen R R = outer
+pub outer-or-inner : (z s : Side) → OuterOrInner z s (sameSide s z)
+outer-or-inner L L = outer
+outer-or-inner L R = inner
+outer-or-inner R L = inner
+outer-or-inner R R = outer
