@@ -4,6 +4,7 @@
     python3 tools/rename.py DIR
 
 which rewrites every .rt, .antt, .edit and crates.txt below DIR (names in code, not prose) and moves files and folders.
+Then the names of renames-theory.txt, each within its crates or files; what moved to another module moves by hand (docs/PROOF.md has today's places).
 """
 import os
 import re
@@ -179,6 +180,28 @@ def rename_text(text, is_proof, is_code, home):
     return "\n".join(lines)
 
 
+def theory_renames():
+    """renames-theory.txt: `where | old | new`; where is *, a crate or crate/File, parted by blanks"""
+    rows = []
+    for line in open(os.path.join(os.path.dirname(os.path.abspath(__file__)), "renames-theory.txt")):
+        parts = [x.strip() for x in line.split("|")]
+        if len(parts) == 3 and re.match(r"^[\w'\-]+$", parts[1]) and re.match(r"^[\w'\-]+$", parts[2]):
+            rows.append((parts[0].split(), parts[1], parts[2]))
+    return rows
+
+
+def rename_theory(path, text, rows):
+    """the later names of the theory, in order"""
+    m = re.match(r"crates/(\w+)/specs/(\w+)\.antt$", path)
+    if not m:
+        return text
+    here = {"*", m.group(1), m.group(1) + "/" + m.group(2)}
+    for where, old, new in rows:
+        if here & set(where):
+            text = re.sub(r"(?<![\w'\-])%s(?![\w'\-])" % re.escape(old), new, text)
+    return text
+
+
 def rename_path(path):
     parts = path.split(os.sep)
     for i, p in enumerate(parts):
@@ -193,6 +216,7 @@ def rename_path(path):
 
 
 def main(top):
+    rows = theory_renames()
     os.chdir(top)
     for folder, folders, files in os.walk("."):
         folders[:] = [f for f in folders if f not in (".git", "target")]
@@ -221,6 +245,14 @@ def main(top):
     for folder, folders, files in list(os.walk("crates", topdown=False)):
         if not os.listdir(folder):
             os.rmdir(folder)
+            continue
+        for name in files:
+            path = os.path.join(folder, name)
+            if name.endswith(".antt"):
+                text = open(path).read()
+                new = rename_theory(path, text, rows)
+                if new != text:
+                    open(path, "w").write(new)
 
 
 if __name__ == "__main__":

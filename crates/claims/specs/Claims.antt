@@ -9,6 +9,7 @@ use mathlib.Core.Option.{none, some}
 use lib.ListN.{length}
 use Rattle.sequential.specs.Tree.{leaf}
 use Rattle.sequential.specs.Delete.{changedBy}
+use Rattle.spec.specs.Numbers.{leastNodes, mostNodes}
 use Rattle.spec.specs.Pool.{word, nodes, standingWord, standingFree}
 use Rattle.spec.specs.Register.{State}
 use Rattle.spec.specs.Calls.{Answer, absent, found, Call, turning, call, writeInHand}
@@ -36,7 +37,7 @@ Free st m = word (st .pool) m standingWord ≡ standingFree
 abbrev pub AtMoment : ℕ → ℕ → ℕ → Type 0
 AtMoment i j t = (i < t) × (t ≤ j + 1)
 
-module _ (N : ℕ) (low : 8 ≤ N) (high : N ≤ 1023) (cs : List Call) where
+module _ (N : ℕ) (low : leastNodes ≤ N) (high : N ≤ mostNodes) (cs : List Call) where
   -- after every call the index holds exactly the plain list's tickets
   pub holds-right : (j k : ℕ) → Going (at N cs j) k 0 (answerOf (recordFor k (listed N cs j)))
   holds-right j k = promise N low high cs .demand3 .holds .everyKey j k

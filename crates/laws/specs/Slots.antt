@@ -9,6 +9,7 @@ use native.Mathlib.Decide.{ℕ-discrete}
 use native.Mathlib.Nat.{pow-succ', div-div-eq-div-mul, div-one, div-eq-of-lt, one-mul}
 use native.Mathlib.Omega.{arith}
 use Prim.Native.Nat.{ℕ, zero, suc, _+_, _-_, _*_, _/_, _%_, _^_, _<_, _≤_}
+use Rattle.spec.specs.Numbers.{wordBits}
 use Rattle.spec.specs.Register.{hasSlot, putSlot, dropSlot}
 
 -- bit s of m
@@ -124,8 +125,8 @@ no-slot (suc w) m h none =
     omega arith
 
 -- the bit of a slot as the code shifts it
-pub shifted : (s : ℕ) → s < 32 → (1 * 2 ^ s) % 4294967296 ≡ 2 ^ s
-shifted s h = shl-exact {a = 1} 1 s 32 (lit< tt) (omega arith) ∙ one-mul (2 ^ s)
+pub shifted : (s : ℕ) → s < wordBits → (1 * 2 ^ s) % 4294967296 ≡ 2 ^ s
+shifted s h = shl-exact {a = 1} 1 s wordBits (lit< tt) (omega arith) ∙ one-mul (2 ^ s)
 
 -- a slot that is not in a mask
 pub bit-out : (m s : ℕ) → hasSlot m s ≡ false → bit m s ≡ 0

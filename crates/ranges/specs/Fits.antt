@@ -20,7 +20,7 @@ use Rattle.datatypes.specs.declared.Reader.{Reader}
 use Rattle.datatypes.specs.declared.Write.{Write}
 use Rattle.datatypes.specs.Side.{other}
 use Rattle.spec.specs.Numbers.{nodeWords, allSlots}
-use Rattle.spec.specs.Pool.{place, word, setWord, child, paint, nodes, keyWord, recordWord, leftWord, rightWord, linkWord}
+use Rattle.spec.specs.Pool.{place, word, setWord, child, paint, nodes, keyWord, recordWord, leftWord, rightWord, linkWord, redColour, standingRetired}
 use Rattle.spec.specs.Pool.{colourWord, standingWord, holdersWord, nextWord, standingFree, standingLinked, standingRetired}
 use Rattle.spec.specs.Register.{State, state, noReader, readerOf, withRoot, withQueue, withHeld, withReader, withAwaited, withWrite, countUp}
 use Rattle.spec.specs.Register.{countDown, nodeAt, linkNode, setLink, dropSlot, readingSlots}
@@ -35,8 +35,8 @@ use Rattle.readers.specs.Words.{fill-length}
 pub record WordOk (capacity f v : ℕ) : Type 0 where
   pub left : f ≡ leftWord → v ≤ capacity
   pub right : f ≡ rightWord → v ≤ capacity
-  pub colour : f ≡ colourWord → v ≤ 1
-  pub standing : f ≡ standingWord → v ≤ 2
+  pub colour : f ≡ colourWord → v ≤ redColour
+  pub standing : f ≡ standingWord → v ≤ standingRetired
   pub holders : f ≡ holdersWord → v ≤ allSlots
   pub next : f ≡ nextWord → v ≤ capacity
 
@@ -99,7 +99,7 @@ pub child-fits : (capacity : ℕ) (p : List ℕ) (s : Side) (n : ℕ) → PoolOk
 child-fits capacity p L n h = h n leftWord (omega arith) .left refl
 child-fits capacity p R n h = h n rightWord (omega arith) .right refl
 
-pub colour-fits : (capacity : ℕ) (p : List ℕ) (n : ℕ) → PoolOk capacity p → word p n colourWord ≤ 1
+pub colour-fits : (capacity : ℕ) (p : List ℕ) (n : ℕ) → PoolOk capacity p → word p n colourWord ≤ redColour
 colour-fits capacity p n h = h n colourWord (omega arith) .colour refl
 
 next-fits : (capacity : ℕ) (p : List ℕ) (n : ℕ) → PoolOk capacity p → word p n nextWord ≤ capacity

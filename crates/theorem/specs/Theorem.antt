@@ -7,6 +7,7 @@ use mathlib.Core.List.{List}
 use native.Mathlib.Omega.{arith}
 use native.Mathlib.Decide.{ℕ-discrete}
 use borrow.Author.Tests.{eq-eqb, ne-eqb}
+use Rattle.spec.specs.Numbers.{leastNodes, mostNodes}
 use Rattle.spec.specs.Pool.{word, colourWord, standingWord, redColour, standingLinked}
 use Rattle.spec.specs.Calls.{Call}
 use Rattle.tree.specs.Linked.{Linked, nil, cell, find}
@@ -100,7 +101,7 @@ pub promise-from : (S : Start) → SoundStart S → (cs : List Call) → Promise
 promise-from S h cs = Whole.promise WriterSide writer completes S (starts-sound S h) cs
 
 -- and so, as 01's demands have it, on a pool of N nodes just set up
-pub promise : (N : ℕ) → 8 ≤ N → N ≤ 1023 → (cs : List Call) → Promise N cs
+pub promise : (N : ℕ) → leastNodes ≤ N → N ≤ mostNodes → (cs : List Call) → Promise N cs
 promise N lo hi cs = promise-from (justSetUp N) (sound-fresh N lo hi) cs
 
 -- Two facts of every run from a sound start (runs: Facts), between the stores of a write too; C-11 and C-13 will use them.

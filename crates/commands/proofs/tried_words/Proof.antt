@@ -1,7 +1,7 @@
 use Prim.Native.Nat.{ℕ}
 use mathlib.Core.Path.{_≡_, refl}
 use mathlib.Core.List.{[], _∷_}
-use borrow.Author.Tests.{lt-ltb, le-ltb}
+use borrow.Author.Tests.{lt-leb, le-leb}
 use borrow.Author.Needs.{needs}
 use types.Run.{OneOf, miss}
 use denote.Enum.Declared.{tagOf}
@@ -29,21 +29,21 @@ others lent command.Ill h = refl
 enum-known-c : tie.Need-enum-known-c
 enum-known-c c = search needs
 
-cast-result : tie.Need-cast-result
-cast-result c = search needs
+cast-nodes : tie.Need-cast-nodes
+cast-nodes c = search needs
 
 mul-result : tie.Need-mul-result
 mul-result c = search needs
 
 returns : tie.Need-returns
-returns c = rw (c .before .before .c .given .1, lt-ltb _ _ (c .if1 .taken))
+returns c = rw (c .before .before .c .given .1, le-leb _ _ (c .if1 .taken))
 
 returns-2 : tie.Need-returns-2
-returns-2 c = rw (c .before .before .c .given .1, le-ltb _ _ (c .if1 .left))
+returns-2 c = rw (c .before .before .c .given .1, lt-leb _ _ (c .if1 .left))
 
 returns-3 : tie.Need-returns-3
 returns-3 c = others _ (c .before .args .c) (c .match .keys2)
 
 pub tried-words-spec : {M : Type 1} → statement M
 tried-words-spec =
-    tie.close (tie.spec enum-known-c cast-result mul-result returns returns-2 returns-3)
+    tie.close (tie.spec enum-known-c cast-nodes mul-result returns returns-2 returns-3)
