@@ -13,8 +13,8 @@ use Rattle.spec.specs.Search.{pathTo}
 use Rattle.spec.specs.Plan.{fixupAfterRemoval, paintDeleteFixup, store}
 use Rattle.spec.specs.Turn.{made, detachPath, detachStore, stepFinds}
 use Rattle.sequential.specs.Tree.{Colour, black, Tree, colourOf}
+use Rattle.sequential.specs.Proper.{Ordered}
 use Rattle.tree.specs.Linked.{Node, copy, Linked, nil, cell, at, nodes}
-use Rattle.tree.specs.Sorted.{Ordered}
 use Rattle.tree.specs.LinkedOrder.{bare, ordered-bare, into-top, ordered-within}
 use Rattle.tree.specs.Zipper.{Frame, hole, plug, plug-append, Into, same-lift}
 use Rattle.tree.specs.Erase.{erase, eraseWay, erase-plug}

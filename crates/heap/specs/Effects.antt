@@ -8,10 +8,9 @@ use mathlib.Core.List.{List}
 use Rattle.datatypes.specs.declared.Side.{Side}
 use Rattle.datatypes.specs.declared.Side.the-variants.{L}
 use Rattle.datatypes.specs.declared.Link.{Link}
-use Rattle.tree.specs.Order.{Ord}
-use Rattle.tree.specs.Sorted.{Ordered}
 use Rattle.base.specs.Lists.{_∈_}
 use Rattle.tree.specs.Linked.{Node, Linked, nil, cell, at}
+use Rattle.sequential.specs.Proper.{Ord, Ordered}
 use Rattle.tree.specs.LinkedOrder.{bare, ordered-within}
 use Rattle.tree.specs.Zipper.{Frame, plug, Same, same-lift, thin-lift, Thins}
 use Rattle.tree.specs.Rotations.{diag₀, diag₁, diag₂, zig₀, zig₁, zig₂, zig₃, diag-order, zig-order, diag-lower-find, diag-raise-find}

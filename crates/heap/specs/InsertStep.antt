@@ -17,10 +17,11 @@ use Rattle.spec.specs.Free.{takeNode}
 use Rattle.spec.specs.Plan.{endingStores, paintInsertFixup, store}
 use Rattle.spec.specs.Turn.{made, oneMore, blackRoot, endInsert, insertStore, stepFinds}
 use Rattle.sequential.specs.Tree as Seq
+use Rattle.sequential.specs.Proper.{Proper}
 use Rattle.sequential.specs.Tree.{Colour, red, black, Tree, node, leaf}
 use Rattle.sequential.specs.Delete.{insertion}
 use Rattle.tree.specs.Sorted.{NotLeaf}
-use Rattle.tree.specs.Changes.{Proper, changed-proper}
+use Rattle.tree.specs.Changes.{changed-proper}
 use Rattle.tree.specs.Linked.{Node, Linked, nil, cell, at, nodes}
 use Rattle.tree.specs.LinkedOrder.{ordered-bare}
 use Rattle.tree.specs.Zipper.{Frame, hole, plug, find-into, sameBut-lift}

@@ -15,10 +15,9 @@ use Rattle.spec.specs.Register.{State}
 use Rattle.spec.specs.Plan.{fixupResult, endingStores, missing, fixupAfterInsert}
 use Rattle.spec.specs.FreeQueue.{InPool}
 use Rattle.sequential.specs.Tree as Seq
+use Rattle.sequential.specs.Proper.{RedBlack, Proper}
 use Rattle.sequential.specs.Tree.{Colour, red, black, Tree, mk, colourOf}
 use Rattle.tree.specs.Sorted.{NotLeaf, colour-case, OuterOrInner, outer, inner, outer-or-inner}
-use Rattle.tree.specs.Changes.{Proper}
-use Rattle.tree.specs.RedBlack.{RedBlack}
 use Rattle.tree.specs.Height.{height, height-1023, mostHeight}
 use Rattle.base.specs.Lists.{_∈_, in-append}
 use Rattle.tree.specs.Linked.{Node, Linked, nil, cell, at, nodes, at-other}

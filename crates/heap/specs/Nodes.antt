@@ -8,9 +8,9 @@ use Rattle.datatypes.specs.declared.Side.the-variants.{L}
 use Rattle.datatypes.specs.declared.Link.{Link}
 use Rattle.datatypes.specs.declared.Store.{Store}
 use Rattle.sequential.specs.Tree as Seq
+use Rattle.sequential.specs.Proper.{Ordered}
 use Rattle.sequential.specs.Tree.{Colour, Tree}
 use Rattle.tree.specs.Linked.{find, copy, Linked, nil, at, nodes}
-use Rattle.tree.specs.Sorted.{Ordered}
 use Rattle.tree.specs.LinkedOrder.{bare, ordered-within}
 use Rattle.tree.specs.Zipper.{plug, same-lift}
 use Rattle.tree.specs.Erase.{erase-find}

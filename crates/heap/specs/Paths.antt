@@ -23,7 +23,8 @@ use Rattle.spec.specs.Search.{towards, seek, sameLink, trail, pathTo, leftmost}
 use Rattle.spec.specs.Plan.{successorPath}
 use Rattle.laws.specs.Descend.{seek-empty, seek-step, trail-here, trail-step, leftmost-here, leftmost-step}
 use Rattle.sequential.specs.Tree.{Colour}
-use Rattle.tree.specs.Order.{Ord, ord-apart, tri-case}
+use Rattle.sequential.specs.Proper.{Ord}
+use Rattle.tree.specs.Order.{ord-apart, tri-case}
 use Rattle.tree.specs.Height.{height, height-mk}
 use Rattle.tree.specs.Linked.{Node, Linked, nil, cell, at}
 use Rattle.tree.specs.Zipper.{Frame, hole, plug, Into, Along}

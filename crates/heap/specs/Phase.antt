@@ -17,11 +17,11 @@ use Rattle.datatypes.specs.declared.Store.{Store}
 use Rattle.datatypes.specs.Side.{other, linkAt}
 use Rattle.spec.specs.Plan.{store, turnStores, endingStores}
 use Rattle.sequential.specs.Tree as Seq
+use Rattle.sequential.specs.Proper.{Ordered, Proper}
 use Rattle.sequential.specs.Tree.{Colour, red, black, Tree, mk, colourOf}
 use Rattle.sequential.specs.Insert as SeqInsert
 use Rattle.sequential.specs.Delete.{blackOuter, afterRemoval, delete}
-use Rattle.tree.specs.Sorted.{NotLeaf, Ordered}
-use Rattle.tree.specs.Changes.{Proper}
+use Rattle.tree.specs.Sorted.{NotLeaf}
 use Rattle.tree.specs.Linked.{Node, Linked, nil, at, nodes}
 use Rattle.tree.specs.LinkedOrder.{bare}
 use Rattle.tree.specs.Zipper.{Frame, plug, Into, Along}

@@ -17,10 +17,10 @@ use Rattle.spec.specs.Plan.{turnStores, store}
 use Rattle.spec.specs.Turn.{Made, made, painted, risenColour, endDiag, endZig, diagRaise, zigRaise, endDiagFinds, stepFinds}
 use Rattle.spec.specs.Free.{retire}
 use Rattle.sequential.specs.Tree as Seq
+use Rattle.sequential.specs.Proper.{Proper}
 use Rattle.sequential.specs.Tree.{Colour, red, black, Tree, mk, colourOf}
 use Rattle.tree.specs.Sorted.{NotLeaf, parts, mk-other}
 use Rattle.tree.specs.RedBlack.{red-there}
-use Rattle.tree.specs.Changes.{Proper}
 use Rattle.tree.specs.Linked.{Node, copy, Linked, nil, cell, at, nodes, at-other}
 use Rattle.tree.specs.LinkedOrder.{ordered-within}
 use Rattle.tree.specs.Zipper.{Frame, hole, plug, same-lift}

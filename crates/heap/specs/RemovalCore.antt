@@ -16,10 +16,10 @@ use Rattle.spec.specs.Pool.{paint, leftWord, rightWord}
 use Rattle.spec.specs.Register.{State, state, nodeAt, linkNode}
 use Rattle.spec.specs.Plan.{fixupResult, endingStores, paintDeleteLevels, paintEnd, paintDeleteFixup}
 use Rattle.sequential.specs.Tree as Seq
+use Rattle.sequential.specs.Proper.{Proper}
 use Rattle.sequential.specs.Tree.{Colour, red, black, Tree, mk, colourOf}
 use Rattle.sequential.specs.Delete.{rbDeleteFixup}
 use Rattle.tree.specs.Sorted.{colourOf-mk}
-use Rattle.tree.specs.Changes.{Proper}
 use Rattle.tree.specs.Linked.{Linked}
 use Rattle.tree.specs.Zipper.{Frame, hole, plug}
 use Rattle.tree.specs.Erase.{erase, eraseWay, erase-plug}

@@ -19,8 +19,8 @@ use Rattle.spec.specs.Pool.{paint, child, isRed, redColour, blackColour}
 use Rattle.spec.specs.Register.{State, state, linkNode}
 use Rattle.spec.specs.Plan.{fixupResult, endingStores, missing, fixupAfterRemoval, paintDeleteLevels, paintEnd, paintDeleteFixup}
 use Rattle.sequential.specs.Tree.{Colour, red, black, Tree, colourOf}
+use Rattle.sequential.specs.Proper.{Proper}
 use Rattle.sequential.specs.Delete.{afterRemoval}
-use Rattle.tree.specs.Changes.{Proper}
 use Rattle.tree.specs.Linked.{Linked}
 use Rattle.tree.specs.Zipper.{Frame, plug}
 use Rattle.tree.specs.Erase.{erase, eraseWay}

@@ -15,10 +15,10 @@ use Rattle.spec.specs.Pool.{paint, blackColour}
 use Rattle.spec.specs.Register.{nodeAt}
 use Rattle.spec.specs.Plan.{turnStores, endingStores}
 use Rattle.sequential.specs.Tree as Seq
+use Rattle.sequential.specs.Proper.{Proper}
 use Rattle.sequential.specs.Tree.{Colour, red, black, Tree, mk, colourOf, node, leaf}
 use Rattle.tree.specs.Sorted.{NotLeaf, mk-other}
 use Rattle.tree.specs.RedBlack.{red-there}
-use Rattle.tree.specs.Changes.{Proper}
 use Rattle.tree.specs.Linked.{Node, Linked, at, at-other}
 use Rattle.tree.specs.Zipper.{Frame, hole, plug}
 use Rattle.tree.specs.Erase.{erase, eraseWay, erase-plug}

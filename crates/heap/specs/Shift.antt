@@ -22,7 +22,7 @@ use Rattle.spec.specs.Pool as Pool
 use Rattle.spec.specs.Register.{State, linkNode, readingSlots}
 use Rattle.spec.specs.Turn.{Made, movedStore, movedWrite, profile, isListed, countedBy}
 use Rattle.sequential.specs.Tree.{Tree}
-use Rattle.tree.specs.Sorted.{Ordered}
+use Rattle.sequential.specs.Proper.{Ordered}
 use Rattle.tree.specs.Linked.{Node, copy, Linked, nil, cell, at, nodes}
 use Rattle.tree.specs.LinkedOrder.{bare}
 use Rattle.tree.specs.Zipper.{Frame, hole, plug, Into, Along}

@@ -4,10 +4,10 @@ use mathlib.Core.Path.{_≡_, sym, _∙_}
 use mathlib.Core.Option.{none, some}
 use native.Mathlib.Decide.{ℕ-discrete}
 use Rattle.sequential.specs.Tree as Seq
+use Rattle.sequential.specs.Proper.{Ordered}
 use Rattle.sequential.specs.Tree.{Tree}
 use Rattle.sequential.specs.Insert.{insert}
 use Rattle.sequential.specs.Delete.{delete}
-use Rattle.tree.specs.Sorted.{Ordered}
 use Rattle.tree.specs.Changes.{find-insert, find-insert-other, find-delete, find-delete-other}
 use Rattle.tree.specs.Linked.{Linked, find}
 use Rattle.tree.specs.Zipper.{SameBut}

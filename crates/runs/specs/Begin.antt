@@ -23,7 +23,8 @@ use Rattle.readers.specs.Reach.{leads-there}
 use Rattle.ranges.specs.Fits.{WordOk, PoolOk, fit-zero, fit-next}
 use Rattle.ranges.specs.Writes.{write-none}
 use Rattle.ranges.specs.Calls.{Ranged, ranged-in}
-use Rattle.runs.specs.Starts.{SoundStart, exact-right}
+use Rattle.promise.specs.Starts.{SoundStart}
+use Rattle.runs.specs.Starts.{exact-right}
 
 -- k numbers from n on
 abbrev run : ℕ → ℕ → List ℕ

@@ -1,3 +1,4 @@
 pub mod Tree
 pub mod Insert
 pub mod Delete
+pub mod Proper

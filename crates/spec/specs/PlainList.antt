@@ -48,6 +48,7 @@ listStore t (deletion k) = cond (adopts (descend t k [] .at)) 2 1
 
 -- It keeps tickets, the writes accepted so far (the last of them may be in hand), the one in hand and how many stores that has made; and the
 -- tree that it started with, on which the sequential tree goes on.
+-- It is not told when a write is done: the last one stands as the one in hand until the next is accepted; no turn makes a store between.
 pub record Plain : Type 0 where
   pub started : Tree
   pub tickets : List Ticket

@@ -28,7 +28,7 @@ use Rattle.readers.specs.Words.{stands-node}
 use Rattle.readers.specs.Reach.{leads-in, in-leads}
 use Rattle.readers.specs.Safe.{Safe}
 use Rattle.ranges.specs.Calls.{ranged-in}
-use Rattle.runs.specs.Starts.{SoundStart}
+use Rattle.promise.specs.Starts.{SoundStart}
 use Rattle.runs.specs.Rest.{some-slot, none-awaited}
 use Rattle.runs.specs.Theorem.{sound-at}
 use Rattle.runs.specs.Whole as Whole

@@ -23,6 +23,7 @@ use Rattle.datatypes.specs.declared.Step.the-variants.{Unlink, Adopt, Replace, 
 use Rattle.datatypes.specs.declared.Store.{Store}
 use Rattle.datatypes.specs.Side.{other, linkAt, owner, sideOf}
 use Rattle.sequential.specs.Tree as Seq
+use Rattle.sequential.specs.Proper.{Ordered}
 use Rattle.sequential.specs.Tree.{Colour, Tree, node, descend}
 use Rattle.sequential.specs.Delete as SeqDelete
 use Rattle.sequential.specs.Delete.{deletion}
@@ -33,7 +34,6 @@ use Rattle.spec.specs.Plan.{fixupResult, redChild, redSibling, deleteFixup, fix
 use Rattle.spec.specs.Calls.{firstOf, placeOf, isHeld, deleteAt}
 use Rattle.spec.specs.PlainList.{Ticket, Plain, recordFor, without, updated, acceptedWrites, begun, adopts}
 use Rattle.laws.specs.Turns.{and-false}
-use Rattle.tree.specs.Sorted.{Ordered}
 use Rattle.tree.specs.Descent.{descend-place}
 use Rattle.tree.specs.Changes.{changedBy-proper, find-delete, find-delete-other}
 use Rattle.tree.specs.Linked.{Node, Linked, nil, cell, find}

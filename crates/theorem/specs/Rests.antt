@@ -27,6 +27,7 @@ use Rattle.datatypes.specs.declared.Store.{Store}
 use Rattle.datatypes.specs.declared.Register.{Register}
 use Rattle.datatypes.specs.Side.{other, owner, sideOf, sameSide}
 use Rattle.sequential.specs.Tree as Seq
+use Rattle.sequential.specs.Proper.{Ordered}
 use Rattle.sequential.specs.Tree.{Tree}
 use Rattle.sequential.specs.Insert as SeqInsert
 use Rattle.sequential.specs.Delete.{Change, insertion, changed, changedBy}
@@ -37,7 +38,6 @@ use Rattle.spec.specs.Search.{pathTo}
 use Rattle.spec.specs.Plan.{fixupResult, insertFixup, fixupAfterInsert, store, turnStores, endingStores, insertPlan}
 use Rattle.spec.specs.Calls.{firstOf, writeInHand, placeOf, isHeld, tooDeep, insertAt}
 use Rattle.spec.specs.PlainList.{Ticket, Plain, recordFor, updated, acceptedWrites, begun}
-use Rattle.tree.specs.Sorted.{Ordered}
 use Rattle.tree.specs.Changes.{changedBy-proper, find-insert, find-insert-other}
 use Rattle.tree.specs.Linked.{Linked, find}
 use Rattle.tree.specs.Erase.{erase, erase-find}

@@ -10,12 +10,10 @@ use Rattle.base.specs.Lists.{_∈_, in-append}
 use Rattle.datatypes.specs.declared.Side.{Side}
 use Rattle.datatypes.specs.declared.Side.the-variants.{L, R}
 use Rattle.sequential.specs.Tree as Seq
+use Rattle.sequential.specs.Proper.{Ord, Below, Ordered, Proper}
 use Rattle.sequential.specs.Tree.{Colour, red, black, Tree, leaf, node}
 use Rattle.spec.specs.Pool.{word, child, keyWord}
 use Rattle.spec.specs.Register.{noWrite, writeOf}
-use Rattle.tree.specs.Order.{Ord}
-use Rattle.tree.specs.Sorted.{Below, Ordered}
-use Rattle.tree.specs.Changes.{Proper}
 use Rattle.tree.specs.Linked.{Linked, nil, cell, nodes}
 use Rattle.tree.specs.Occurs.{one-case, occ, occ-append, occ-in}
 use Rattle.tree.specs.Erase.{erase, erase-find}
@@ -28,7 +26,7 @@ use Rattle.promise.specs.Run.{Start, outset}
 use Rattle.promise.specs.Demands.{colourNumber, Stands}
 use Rattle.readers.specs.Words.{node-in}
 use Rattle.readers.specs.Reach.{leads-in, in-leads}
-use Rattle.runs.specs.Starts.{SoundStart}
+use Rattle.promise.specs.Starts.{SoundStart}
 use Rattle.theorem.specs.WriterSide.{over, WriterSide}
 
 hue-of : (c : Colour) → hue (colourNumber c) ≡ c

@@ -23,7 +23,8 @@ use Rattle.readers.specs.Words.{node-high}
 use Rattle.readers.specs.Reach.{Kept}
 use Rattle.runs.specs.Writer.{Writer}
 use Rattle.runs.specs.Sound.{Starts}
-use Rattle.runs.specs.Starts.{SoundStart, ranged-start, safe-start}
+use Rattle.promise.specs.Starts.{SoundStart}
+use Rattle.runs.specs.Starts.{ranged-start, safe-start}
 use Rattle.runs.specs.Begin.{sound-fresh}
 use Rattle.runs.specs.Rest.{Completes}
 use Rattle.runs.specs.Facts as Facts

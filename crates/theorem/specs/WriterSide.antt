@@ -11,6 +11,7 @@ use lib.ListN.{length}
 use borrow.Author.Tests.{eq-eqb, ne-eqb}
 use Rattle.datatypes.specs.declared.Store.{Store}
 use Rattle.sequential.specs.Tree as Seq
+use Rattle.sequential.specs.Proper.{Proper}
 use Rattle.sequential.specs.Tree.{Tree}
 use Rattle.sequential.specs.Delete.{Change, changedBy}
 use Rattle.spec.specs.Numbers.{nodeWords, mostStores}
@@ -20,7 +21,6 @@ use Rattle.spec.specs.Turn.{Made, stepFinds, stepMade}
 use Rattle.spec.specs.Calls.{stored, writeInHand}
 use Rattle.spec.specs.PlainList.{Ticket, Plain, recordFor, Unique, updated, withInHand, acceptedWrites, storeMade, listStore}
 use Rattle.base.specs.Lists.{_∈_}
-use Rattle.tree.specs.Changes.{Proper}
 use Rattle.tree.specs.Linked.{Linked, find, nodes}
 use Rattle.tree.specs.Occurs.{occ, occ-in}
 use Rattle.heap.specs.Moves.{Fresh}

@@ -8,20 +8,15 @@ use mathlib.Core.Option.{Option, none, some}
 use native.Mathlib.Omega.{arith}
 use Rattle.datatypes.specs.declared.Side.the-variants.{L}
 use Rattle.sequential.specs.Tree.{Tree, leaf, rel, pick, find}
+use Rattle.sequential.specs.Proper.{Ordered, rb-leaf, Proper}
 use Rattle.sequential.specs.Insert.{insert}
 use Rattle.sequential.specs.Delete.{delete, Change, insertion, deletion, changed, changedBy}
 use Rattle.tree.specs.Order.{tri-case, ord-apart}
-use Rattle.tree.specs.Sorted.{Ordered, size}
-use Rattle.tree.specs.RedBlack.{RedBlack, rb-leaf}
+use Rattle.tree.specs.Sorted.{size}
 use Rattle.tree.specs.Writes.{count}
 use Rattle.tree.specs.Insert.{insert-redblack, insert-writes, insert-same}
 use Rattle.tree.specs.Delete.{delete-writes, delete-same}
 use Rattle.tree.specs.DeleteShape.{delete-redblack}
-
--- keys in order, and a red-black tree
-pub record Proper (t : Tree) : Type 0 where
-  pub ordered : Ordered t
-  pub redblack : RedBlack t
 
 pub proper-leaf : Proper leaf
 proper-leaf = record { ordered = tt; redblack = (0, rb-leaf) }

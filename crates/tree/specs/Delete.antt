@@ -10,9 +10,10 @@ use Rattle.datatypes.specs.declared.Side.{Side}
 use Rattle.datatypes.specs.declared.Side.the-variants.{L, R}
 use Rattle.datatypes.specs.Side.{other}
 use Rattle.sequential.specs.Tree.{Colour, red, black, Tree, leaf, node, ifRed, mk, child, keyOf, recordOf, colourOf, redChild, find, Frame, frame, plug, descend, diag, zig}
+use Rattle.sequential.specs.Proper.{Ord, Below, Ordered}
 use Rattle.sequential.specs.Delete.{blackOuter, siblingTurn, underRed, rbDeleteFixup, afterRemoval, leastKey, leastRecord, removeLeast, remove, delete}
-use Rattle.tree.specs.Order.{Ord, ord-trans, ord-anti, ord-apart, near-of, here-of, tri-case}
-use Rattle.tree.specs.Sorted.{ifRed-case, Below, Ordered, size, NotLeaf, mk-other, mk-there, whole, below-mk, ordered-mk, find-mk, size-mk, below-trans, find-none}
+use Rattle.tree.specs.Order.{ord-trans, ord-anti, ord-apart, near-of, here-of, tri-case}
+use Rattle.tree.specs.Sorted.{ifRed-case, size, NotLeaf, mk-other, mk-there, whole, below-mk, ordered-mk, find-mk, size-mk, below-trans, find-none}
 use Rattle.tree.specs.Keeps.{Keeps, keeps-refl, keeps-trans, keeps-mk, keeps-plug, keeps-paint, keeps-diag, keeps-zig}
 use Rattle.tree.specs.RedBlack.{red-there}
 use Rattle.tree.specs.Descent.{Into, AtKey, descend-plug, descend-into, descend-find}

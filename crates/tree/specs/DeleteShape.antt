@@ -7,9 +7,10 @@ use Rattle.datatypes.specs.declared.Side.{Side}
 use Rattle.datatypes.specs.declared.Side.the-variants.{L, R}
 use Rattle.datatypes.specs.Side.{other}
 use Rattle.sequential.specs.Tree.{Colour, red, black, Tree, leaf, node, ifRed, mk, child, keyOf, recordOf, colourOf, paint, redChild, Frame, frame, plug, diag, zig}
+use Rattle.sequential.specs.Proper.{RB, rb-leaf, rb-red, rb-black, RedBlack}
 use Rattle.sequential.specs.Delete.{blackOuter, siblingTurn, underRed, rbDeleteFixup, afterRemoval, removeLeast, remove, delete}
 use Rattle.tree.specs.Sorted.{ifRed-case, NotLeaf, parts, colourOf-mk, paint-mk}
-use Rattle.tree.specs.RedBlack.{RB, rb-leaf, rb-red, rb-black, RedBlack, Fit, fit-top, fit-red, fit-black, above, mk-black, mk-any}
+use Rattle.tree.specs.RedBlack.{Fit, fit-top, fit-red, fit-black, above, mk-black, mk-any}
 use Rattle.tree.specs.RedBlack.{red-child, black-child, blacken, root-is, red-there, blacken-root, fit-either, fit-plug}
 use Rattle.tree.specs.Descent.{descend-fit}
 

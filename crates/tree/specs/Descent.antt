@@ -5,8 +5,9 @@ use mathlib.Core.List.{List, [], _∷_, _++_, append-nil}
 use Rattle.datatypes.specs.declared.Side.{Side}
 use Rattle.datatypes.specs.declared.Side.the-variants.{L, R}
 use Rattle.sequential.specs.Tree.{Colour, Tree, leaf, node, mk, find, Frame, frame, plug, descend}
-use Rattle.tree.specs.Order.{Ord, tri-case, near-of, far-of, here-of}
-use Rattle.tree.specs.RedBlack.{RB, rb-leaf, rb-red, rb-black, Fit, fit-red, fit-black}
+use Rattle.sequential.specs.Proper.{Ord, RB, rb-leaf, rb-red, rb-black}
+use Rattle.tree.specs.Order.{tri-case, near-of, far-of, here-of}
+use Rattle.tree.specs.RedBlack.{Fit, fit-red, fit-black}
 
 -- a lookup of q comes through the hole
 abbrev pub Into : ℕ → List Frame → Type 0

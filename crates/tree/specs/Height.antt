@@ -8,8 +8,8 @@ use lib.Pow.{pow-add, pow-mono}
 use Rattle.datatypes.specs.declared.Side.{Side}
 use Rattle.datatypes.specs.declared.Side.the-variants.{L, R}
 use Rattle.sequential.specs.Tree.{Colour, red, black, Tree, leaf, node, mk}
+use Rattle.sequential.specs.Proper.{RB, rb-leaf, rb-red, rb-black, RedBlack}
 use Rattle.tree.specs.Sorted.{size}
-use Rattle.tree.specs.RedBlack.{RB, rb-leaf, rb-red, rb-black, RedBlack}
 
 -- the nodes on the longest way down
 abbrev pub height : Tree → ℕ

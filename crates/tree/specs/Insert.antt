@@ -10,11 +10,12 @@ use Rattle.datatypes.specs.declared.Side.{Side}
 use Rattle.datatypes.specs.declared.Side.the-variants.{L}
 use Rattle.datatypes.specs.Side.{other}
 use Rattle.sequential.specs.Tree.{Colour, red, black, Tree, leaf, node, mk, keyOf, recordOf, colourOf, paint, find, Frame, frame, plug, descend}
+use Rattle.sequential.specs.Proper.{RB, rb-leaf, rb-red, rb-black, RedBlack}
 use Rattle.sequential.specs.Insert.{turnUp, rbInsertFixup, insertedAt, insert}
 use Rattle.tree.specs.Order.{here-of, tri-case}
 use Rattle.tree.specs.Sorted.{ifRed-case, NotLeaf, mk-other, mk-there, parts, OuterOrInner, outer, inner, outer-or-inner}
 use Rattle.tree.specs.Keeps.{Keeps, keeps-refl, keeps-trans, keeps-mk, keeps-plug, keeps-paint, keeps-diag, keeps-zig}
-use Rattle.tree.specs.RedBlack.{RB, rb-leaf, rb-red, rb-black, RedBlack, Fit, fit-top, fit-red, fit-black, mk-red, mk-black, red-child, blacken, blacken-root, fit-plug}
+use Rattle.tree.specs.RedBlack.{Fit, fit-top, fit-red, fit-black, mk-red, mk-black, red-child, blacken, blacken-root, fit-plug}
 use Rattle.tree.specs.Descent.{Into, AtKey, descend-plug, descend-into, descend-find, descend-fit}
 use Rattle.tree.specs.Writes.{Writes, writes-keeps, writes-plug}
 

@@ -8,8 +8,9 @@ use Rattle.datatypes.specs.declared.Side.{Side}
 use Rattle.datatypes.specs.declared.Side.the-variants.{L}
 use Rattle.datatypes.specs.Side.{other}
 use Rattle.sequential.specs.Tree.{Colour, Tree, leaf, node, mk, child, keyOf, recordOf, colourOf, paint, find, Frame, frame, plug, diag, zig}
+use Rattle.sequential.specs.Proper.{Below, Ordered}
 use Rattle.tree.specs.Order.{ord-other, other-ord, cut-case, cut3-case}
-use Rattle.tree.specs.Sorted.{Below, Ordered, size, NotLeaf, find-mk, below-mk, ordered-mk, size-mk, below-trans, whole}
+use Rattle.tree.specs.Sorted.{size, NotLeaf, find-mk, below-mk, ordered-mk, size-mk, below-trans, whole}
 
 -- u has the tickets of t: what is on a side of a key stays there, the order stays, each lookup and the size too
 pub record Keeps (t u : Tree) : Type 0 where

@@ -7,8 +7,8 @@ use mathlib.Core.Option.{none}
 use Rattle.datatypes.specs.declared.Side.{Side}
 use Rattle.datatypes.specs.Side.{other}
 use Rattle.sequential.specs.Tree.{Colour, black, Tree}
-use Rattle.tree.specs.Order.{Ord}
-use Rattle.tree.specs.Sorted.{Below, Ordered, below-mk, ordered-mk, find-none}
+use Rattle.sequential.specs.Proper.{Ord, Below, Ordered}
+use Rattle.tree.specs.Sorted.{below-mk, ordered-mk, find-none}
 use Rattle.tree.specs.Linked.{Node, Linked, nil, cell, at, find}
 use Rattle.tree.specs.Zipper.{Frame, hole, plug, Into}
 use Rattle.tree.specs.Erase.{erase, erase-at, erase-find}

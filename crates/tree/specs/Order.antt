@@ -1,6 +1,6 @@
 -- The order of keys seen from a side, and the places that a key can have among one, two or three keys.
 -- Each case split hands over the equations that make `rel` compute. Used by every proof about lookups.
-use Prim.Native.Nat.{ℕ, _<_}
+use Prim.Native.Nat.{ℕ}
 use mathlib.Core.Path.{_≡_, refl, sym}
 use mathlib.Core.Bool.{Bool, true, false}
 use native.Mathlib.Omega.{arith}
@@ -10,11 +10,7 @@ use Rattle.datatypes.specs.declared.Side.{Side}
 use Rattle.datatypes.specs.declared.Side.the-variants.{L, R}
 use Rattle.datatypes.specs.Side.{other}
 use Rattle.sequential.specs.Tree.{near, here, far, rel}
-
--- a comes before b, seen from the side s: a lookup of a turns to the side s at b
-abbrev pub Ord : Side → ℕ → ℕ → Type 0
-Ord L a b = a < b
-Ord R a b = b < a
+use Rattle.sequential.specs.Proper.{Ord}
 
 pub ord-trans : (s : Side) (a b c : ℕ) → Ord s a b → Ord s b c → Ord s a c
 ord-trans L a b c h k = omega arith

@@ -7,16 +7,8 @@ use native.Mathlib.Omega.{arith}
 use Rattle.datatypes.specs.declared.Side.{Side}
 use Rattle.datatypes.specs.declared.Side.the-variants.{L, R}
 use Rattle.sequential.specs.Tree.{Colour, red, black, Tree, leaf, node, mk, child, colourOf, paint, Frame, frame, plug}
+use Rattle.sequential.specs.Proper.{RB, rb-leaf, rb-red, rb-black, RedBlack}
 use Rattle.tree.specs.Sorted.{NotLeaf}
-
--- the root of t has the colour c, each way down has h black nodes, and no red node has a red child
-pub data RB : Colour → ℕ → Tree → Type 0 where
-  rb-leaf : RB black 0 leaf
-  rb-red : {h k v : ℕ} {l r : Tree} → RB black h l → RB black h r → RB red h (node red k v l r)
-  rb-black : {h k v : ℕ} {l r : Tree} {c d : Colour} → RB c h l → RB d h r → RB black (suc h) (node black k v l r)
-
-abbrev pub RedBlack : Tree → Type 0
-RedBlack t = (h : ℕ) × RB black h t
 
 -- with a tree of the colour c and h black nodes on each way down in the hole, the whole is a red-black tree
 pub data Fit : List Frame → Colour → ℕ → Type 0 where

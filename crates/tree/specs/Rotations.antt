@@ -4,8 +4,8 @@
 use Prim.Native.Nat.{ℕ}
 use Rattle.datatypes.specs.declared.Side.{Side}
 use Rattle.datatypes.specs.Side.{other}
-use Rattle.tree.specs.Order.{Ord, other-ord, tri-case, cut-case, cut3-case}
-use Rattle.tree.specs.Sorted.{Ordered}
+use Rattle.tree.specs.Order.{other-ord, tri-case, cut-case, cut3-case}
+use Rattle.sequential.specs.Proper.{Ord, Ordered}
 use Rattle.tree.specs.Linked.{Node, copy, Linked, at, find-at, path-at}
 use Rattle.tree.specs.Thin.{thin}
 use Rattle.tree.specs.Zipper.{Same, Thins}

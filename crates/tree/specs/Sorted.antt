@@ -10,17 +10,8 @@ use Rattle.datatypes.specs.declared.Side.{Side}
 use Rattle.datatypes.specs.declared.Side.the-variants.{L, R}
 use Rattle.datatypes.specs.Side.{other, sameSide}
 use Rattle.sequential.specs.Tree.{Colour, red, black, Tree, leaf, node, ifRed, Rel, near, here, far, turned, rel, pick, mk, child, keyOf, recordOf, colourOf, paint, find}
-use Rattle.tree.specs.Order.{Ord, ord-trans, ord-past, near-of, far-of}
-
--- all keys of t are on the side s of k
-abbrev pub Below : Side → ℕ → Tree → Type 0
-Below s k leaf = Unit {0}
-Below s k (node c j v l r) = Ord s j k × Below s k l × Below s k r
-
--- the keys rise from left to right, none twice
-abbrev pub Ordered : Tree → Type 0
-Ordered leaf = Unit {0}
-Ordered (node c k v l r) = Below L k l × Below R k r × Ordered l × Ordered r
+use Rattle.sequential.specs.Proper.{Ord, Below, Ordered}
+use Rattle.tree.specs.Order.{ord-trans, ord-past, near-of, far-of}
 
 abbrev pub size : Tree → ℕ
 size leaf = 0

@@ -6,8 +6,8 @@ use mathlib.Core.Option.{none, some}
 use Rattle.datatypes.specs.declared.Side.{Side}
 use Rattle.datatypes.specs.declared.Side.the-variants.{L}
 use Rattle.datatypes.specs.Side.{other}
-use Rattle.tree.specs.Order.{Ord, ord-trans, ord-anti, ord-apart, other-ord, near-of, here-of, tri-case, cut-case}
-use Rattle.tree.specs.Sorted.{Below, Ordered}
+use Rattle.tree.specs.Order.{ord-trans, ord-anti, ord-apart, other-ord, near-of, here-of, tri-case, cut-case}
+use Rattle.sequential.specs.Proper.{Ord, Below, Ordered}
 use Rattle.tree.specs.Linked.{Node, Linked, nil, cell, at, find-at, path-at}
 use Rattle.tree.specs.Thin.{thin}
 use Rattle.tree.specs.Zipper.{Same, SameBut, Thins}

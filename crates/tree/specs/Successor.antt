@@ -7,8 +7,8 @@ use mathlib.Core.List.{List, [], _∷_}
 use mathlib.Core.Option.{none, some}
 use Rattle.datatypes.specs.declared.Side.{Side}
 use Rattle.datatypes.specs.Side.{other}
-use Rattle.tree.specs.Order.{Ord, ord-trans, ord-anti, ord-apart, other-ord, near-of, here-of, tri-case}
-use Rattle.tree.specs.Sorted.{Below, Ordered}
+use Rattle.tree.specs.Order.{ord-trans, ord-anti, ord-apart, other-ord, near-of, here-of, tri-case}
+use Rattle.sequential.specs.Proper.{Ord, Below, Ordered}
 use Rattle.tree.specs.Linked.{Node, copy, Linked, nil, at, find, path, find-at, path-at, at-other}
 use Rattle.tree.specs.Thin.{Thin, thin}
 use Rattle.tree.specs.Zipper.{Frame, hole, plug, Into, Along, Same, SameBut, Thins, find-lift, find-into, thin-lift, into-before}

@@ -7,8 +7,8 @@ use mathlib.Core.List.{List, [], _∷_}
 use mathlib.Core.Option.{some}
 use Rattle.datatypes.specs.declared.Side.{Side}
 use Rattle.datatypes.specs.declared.Side.the-variants.{L, R}
-use Rattle.tree.specs.Order.{Ord, near-of, here-of, far-of}
-use Rattle.tree.specs.Sorted.{Below, Ordered}
+use Rattle.tree.specs.Order.{near-of, here-of, far-of}
+use Rattle.sequential.specs.Proper.{Ord, Below, Ordered}
 use Rattle.tree.specs.Linked.{Node, Linked, nil, cell, at, find}
 use Rattle.tree.specs.Zipper.{Frame, hole, plug, Along, Same, same-lift}
 use Rattle.tree.specs.LinkedOrder.{bare, ordered-within, into-top}

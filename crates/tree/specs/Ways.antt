@@ -6,7 +6,8 @@ use mathlib.Core.List.{List, [], _∷_, _++_}
 use Rattle.datatypes.specs.declared.Side.{Side}
 use Rattle.datatypes.specs.declared.Side.the-variants.{L, R}
 use Rattle.sequential.specs.Tree.{Colour, red, black, Tree, leaf, node, mk, Frame, frame, plug}
-use Rattle.tree.specs.RedBlack.{RB, rb-leaf, rb-red, rb-black, RedBlack, Fit, fit-top, fit-red, fit-black}
+use Rattle.sequential.specs.Proper.{RB, rb-leaf, rb-red, rb-black, RedBlack}
+use Rattle.tree.specs.RedBlack.{Fit, fit-top, fit-red, fit-black}
 use Rattle.tree.specs.InsertFixup.{InsertFixupFinds, fit-insert-finds}
 use Rattle.tree.specs.DeleteFixup.{DeleteFixupFinds, fit-delete-finds}
 

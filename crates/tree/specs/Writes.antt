@@ -7,8 +7,9 @@ use mathlib.Core.Option.{Option, none, some}
 use native.Mathlib.Omega.{arith}
 use Rattle.datatypes.specs.declared.Side.{Side}
 use Rattle.sequential.specs.Tree.{Tree, find, Frame, frame, plug}
-use Rattle.tree.specs.Order.{Ord, near-of}
-use Rattle.tree.specs.Sorted.{Below, Ordered, size, find-mk, below-mk, ordered-mk, size-mk}
+use Rattle.sequential.specs.Proper.{Ord, Below, Ordered}
+use Rattle.tree.specs.Order.{near-of}
+use Rattle.tree.specs.Sorted.{size, find-mk, below-mk, ordered-mk, size-mk}
 use Rattle.tree.specs.Keeps.{Keeps}
 use Rattle.tree.specs.Descent.{Into}
 

@@ -6,7 +6,8 @@ use mathlib.Core.List.{List, [], _∷_, _++_}
 use mathlib.Core.Option.{Option}
 use Rattle.datatypes.specs.declared.Side.{Side}
 use Rattle.sequential.specs.Tree.{Rel, near, here, far, rel, pick}
-use Rattle.tree.specs.Order.{Ord, ord-trans, near-of}
+use Rattle.sequential.specs.Proper.{Ord}
+use Rattle.tree.specs.Order.{ord-trans, near-of}
 use Rattle.tree.specs.Linked.{Node, Linked, at, find, path, find-at, path-at}
 use Rattle.tree.specs.Thin.{Thin, done, keep, thin-refl}
 
