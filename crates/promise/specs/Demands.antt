@@ -124,7 +124,7 @@ pub record FreeRight (st : State) : Type 0 where
 
 pub record Demand2 (S : Start) (cs : List Call) : Type 0 where
   -- That a turn makes one store and no more is the definition `writerTurn` itself, to which the call is proved equal. Besides,
--- whenever no write is in hand the tree is the sequential tree of the writes accepted, in order, on the start's (`leaf` when just set up)
+  -- whenever no write is in hand the tree is the sequential tree of the writes accepted, in order, on the start's (`leaf` when just set up)
   pub atRest : (j : ℕ) → writeInHand (indexAfter S cs j) ≡ false
       → Stands (indexAfter S cs j .pool) (indexAfter S cs j .register .root) (changedBy (S .tree) (acceptedWrites (plainAfter S cs j)))
   pub free : (j : ℕ) → FreeRight (indexAfter S cs j)
