@@ -90,7 +90,7 @@ module _ (capacity : ℕ) (p : List ℕ) (fits : PoolOk capacity p) where
   leftmost-ok root (suc a) n up d u h e =
       zero-case (λ x. LinksOk capacity x × Ends root x) (child p L n) (h, e) (λ z. leftmost-ok root a (child p L n) (Left n ∷ up) z (kid L n) (number capacity n d u, h) z)
 
-  -- Climbs.
+  -- The fix-ups.
   abbrev EndingOk : Ending → Type 0
   EndingOk Balanced = Unit {0}
   EndingOk Blacken = Unit {0}

@@ -47,25 +47,25 @@ module _ (st : State) (l : Link) (k v : ℕ) where
     unfolding stepMade insertStore fixupAfterInsert paintInsertFixup
     balanced-made p r e = ap (λ (x : State). made (state (paint (x .pool) (x .register .root) blackColour) (x .register)) l (st .register .first)) e ∙ rw black
 
-  module _ (red : isRed (st .pool) (owner l) ≡ true) (c : Fixup) (climbs : c ≡ insertFixup (st .pool) 0 path) where
-    fixupResult : c ≡ fixupAfterInsert st k l
+  module _ (red : isRed (st .pool) (owner l) ≡ true) (fix : Fixup) (along : fix ≡ insertFixup (st .pool) 0 path) where
+    same-fixup : fix ≡ fixupAfterInsert st k l
     unfolding fixupAfterInsert
-    fixupResult = climbs ∙ rw red
+    same-fixup = along ∙ rw red
 
-    pub fixup-missing : missing (c .ending) ≡ true → stepFinds st l (Insert k v) ≡ false
+    pub fixup-missing : missing (fix .ending) ≡ true → stepFinds st l (Insert k v) ≡ false
     unfolding stepFinds
-    fixup-missing m = rw (← fixupResult, m)
+    fixup-missing m = rw (← same-fixup, m)
 
-    pub fixup-found : missing (c .ending) ≡ false → (st .register .first ≡ 0 → ⊥) → stepFinds st l (Insert k v) ≡ true
+    pub fixup-found : missing (fix .ending) ≡ false → (st .register .first ≡ 0 → ⊥) → stepFinds st l (Insert k v) ≡ true
     unfolding stepFinds
-    fixup-found m d = rw (← fixupResult, m, ne-eqb (st .register .first) 0 d)
+    fixup-found m d = rw (← same-fixup, m, ne-eqb (st .register .first) 0 d)
 
-    pub fixup-made : (p q s : List ℕ) (r : Register) → state p r ≡ linked → q ≡ paintInsertFixup (c .levels) path p → s ≡ endInsert (c .ending) (state q r) .pool
+    pub fixup-made : (p q s : List ℕ) (r : Register) → state p r ≡ linked → q ≡ paintInsertFixup (fix .levels) path p → s ≡ endInsert (fix .ending) (state q r) .pool
         → made (state s r) l (st .register .first) ≡ stepMade st l (Insert k v)
     unfolding stepMade insertStore
     fixup-made p q s r e f g =
-        let pools : state s r ≡ endInsert (c .ending) (state q r) =
-        ap (λ (x : List ℕ). state x r) g ∙ ap (state (endInsert (c .ending) (state q r) .pool)) (sym (end-insert-register (c .ending) (state q r))) in
+        let pools : state s r ≡ endInsert (fix .ending) (state q r) =
+        ap (λ (x : List ℕ). state x r) g ∙ ap (state (endInsert (fix .ending) (state q r) .pool)) (sym (end-insert-register (fix .ending) (state q r))) in
         ap (λ (x : State). made x l (st .register .first))
-        (pools ∙ (ap (λ (x : List ℕ). endInsert (c .ending) (state x r)) f ∙ ap (λ (x : State). endInsert (c .ending) (state (paintInsertFixup (c .levels) path (x .pool)) (x .register))) e))
-        ∙ rw fixupResult
+        (pools ∙ (ap (λ (x : List ℕ). endInsert (fix .ending) (state x r)) f ∙ ap (λ (x : State). endInsert (fix .ending) (state (paintInsertFixup (fix .levels) path (x .pool)) (x .register))) e))
+        ∙ rw same-fixup
