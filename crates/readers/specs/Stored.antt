@@ -23,6 +23,7 @@ use Rattle.base.specs.Lists.{_∈_}
 use Rattle.spec.specs.FreeQueue.{InPool}
 use Rattle.laws.specs.Words.{length-setWord, word-same, word-other}
 use Rattle.laws.specs.Queue.{link-low, key-link, record-link}
+use Rattle.promise.specs.Demands.{OwnerLinked}
 use Rattle.readers.specs.Words.{Whole, whole-kept, stands-node, fill-length, fill-other, fill-standing}
 use Rattle.readers.specs.QueueExact.{field-exact}
 use Rattle.readers.specs.Owned.{Slots, Owned, own-word, own-take}
@@ -39,12 +40,6 @@ abbrev pub rootAfter : Link → ℕ → ℕ → ℕ
 rootAfter Root v r = v
 rootAfter (Left d) v r = r
 rootAfter (Right d) v r = r
-
--- the link is the root, or a linked node's
-abbrev pub OwnerLinked : List ℕ → Link → Type 0
-OwnerLinked p Root = Unit {0}
-OwnerLinked p (Left d) = HasStanding p d standingLinked
-OwnerLinked p (Right d) = HasStanding p d standingLinked
 
 -- The link l := v, with the nodes `came` taken.
 pub record Stored (st mid : State) (came : List ℕ) (l : Link) (v : ℕ) : Type 0 where

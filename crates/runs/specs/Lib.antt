@@ -8,4 +8,5 @@ pub mod Answers
 pub mod Theorem
 pub mod Facts
 pub mod Rest
+pub mod Standings
 pub mod Whole

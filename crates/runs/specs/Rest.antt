@@ -20,9 +20,10 @@ use Rattle.spec.specs.Calls.{Answer, ok, go, absent, wait, found, more, done, r
 use Rattle.spec.specs.Calls.{outOfRange, reading, writeInHand, placeOf, tooDeep, isHeld, fewerFree, insertAt, deleteAt, beginTests, readerTests, Call, inserting}
 use Rattle.spec.specs.Calls.{deleting, writing, beginning, turning, givingUp}
 use Rattle.spec.specs.PlainList.{Plain, carriedOut, noticeOf, acceptedWrites}
+use Rattle.base.specs.Lists.{Distinct}
 use Rattle.laws.specs.Slots.{no-slot}
 use Rattle.laws.specs.Turns.{and-false}
-use Rattle.tree.specs.Linked.{Linked}
+use Rattle.tree.specs.Linked.{Linked, nodes as treeNodes}
 use Rattle.promise.specs.Run.{Reads, after}
 use Rattle.promise.specs.Demands.{Stands}
 use Rattle.readers.specs.Words.{Whole}
@@ -161,6 +162,8 @@ length-right st N lo hi w e =
 pub record Completes (W : State → Plain → Linked → Type 0) : Type 0 where
   pub rest : (st : State) (x : Plain) (T : Linked) → W st x T → ((n : ℕ) → word (st .pool) n colourWord ≤ 1) → writeInHand st ≡ false
       → Stands (st .pool) (st .register .root) (changedBy (x .started) (acceptedWrites x))
+  -- at rest each node of the tree stands in it once, one for each key held
+  pub counts : (st : State) (x : Plain) (T : Linked) → W st x T → writeInHand st ≡ false → Distinct (treeNodes T) × (length (treeNodes T) ≡ st .register .held)
   pub few : (st : State) (x : Plain) (T : Linked) → W st x T → writeInHand st ≡ true → x .made + st .register .write .count ≤ mostStores
   pub insertGoes : (st : State) (x : Plain) (T : Linked) (k v : ℕ) → Safe st → W st x T → writeInHand st ≡ false
       → (tooDeep (placeOf st k) ≡ false) × (isHeld (placeOf st k) ≡ false → fewerFree st freeForInsert ≡ false → insertAt st k v (placeOf st k) .possible ≡ true)

@@ -28,7 +28,7 @@ use Rattle.readers.specs.Graft.{Redirects}
 use Rattle.readers.specs.Lookups.{Unlinked, Finds, OnWay, Store, store-finds, store-way, Anew, anew-finds, anew-way, root-way}
 use Rattle.readers.specs.Descends.{turn-finds, turn-way}
 use Rattle.readers.specs.Once.{SeenOnce, seen-none, seen-turn, seen-store, seen-anew}
-use Rattle.readers.specs.Stored.{OwnerLinked}
+use Rattle.promise.specs.Demands.{OwnerLinked}
 use Rattle.readers.specs.Turns.{Turn}
 
 -- What slot s, at node n, has seen on its way to the key k: the nodes that it has compared so far, in order. Each is kept for it, and with

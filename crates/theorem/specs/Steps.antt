@@ -20,9 +20,10 @@ use Rattle.heap.specs.Rep.{Rep}
 use Rattle.heap.specs.Fill.{retire-quiet, retireTwo-quiet}
 use Rattle.heap.specs.Parts.{Based, unchanged, filled, SameQueue, retireAll, Parts}
 use Rattle.heap.specs.Shift.{Shift}
+use Rattle.promise.specs.Demands.{OwnerLinked}
 use Rattle.readers.specs.Owned.{Slots, Owned}
 use Rattle.readers.specs.Reach.{HasStanding}
-use Rattle.readers.specs.Stored.{OwnerLinked, Stored, own-fields, link-stored, taking-stored}
+use Rattle.readers.specs.Stored.{Stored, own-fields, link-stored, taking-stored}
 use Rattle.readers.specs.ColourWork.{recoloured-pool, stored-recoloured}
 use Rattle.readers.specs.Turns.{Turn, turn-none, turn-one, turn-two}
 use Rattle.readers.specs.Safe.{Safe}
