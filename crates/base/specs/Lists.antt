@@ -1,5 +1,5 @@
--- Lists of numbers: what is in one, one without repetition; from 1 to N there are at most N of the latter. For the nodes of a tree and the
--- free queue.
+-- Lists of numbers: what is in one, one without repetition; such a list within another is no longer, and from 1 to N has at most N numbers.
+-- For the nodes of a tree and the free queue.
 use Prim.Native.Nat.{ℕ, zero, suc, _+_, _<_, _≤_}
 use mathlib.Core.Path.{_≡_, refl, sym, ap, _∙_}
 use mathlib.Core.Logic.{_≢_, _⊎_, inl, inr, ⊎-map, ⊎-elim, _↔_}
@@ -34,7 +34,9 @@ record Less (m : ℕ) (ys : List ℕ) : Type 0 where
 
 less : (m : ℕ) (ys : List ℕ) → m ∈ ys → Less m ys
 less m (y ∷ ys) (inl e) = record { others = ys; fewer = refl; kept = λ n d. ⊎-elim (λ i. absurd (d (i ∙ sym e))) (λ i. i) }
-less m (y ∷ ys) (inr i) = let w = less m ys i in record { others = y ∷ w .others; fewer = ap suc (w .fewer); kept = λ n d. ⊎-map (λ j. j) (w .kept n d) }
+less m (y ∷ ys) (inr i) =
+    let w = less m ys i in
+    record { others = y ∷ w .others; fewer = ap suc (w .fewer); kept = λ n d. ⊎-map (λ j. j) (w .kept n d) }
 
 -- a list without repetition whose numbers are all in another is no longer than that
 pub length-within : (xs ys : List ℕ) → Distinct xs → ((n : ℕ) → n ∈ xs → n ∈ ys) → length xs ≤ length ys

@@ -18,8 +18,8 @@ use Rattle.sequential.specs.Tree.{Colour, red, black, Tree, leaf, node}
 use Rattle.sequential.specs.Delete.{changedBy}
 use Rattle.base.specs.Lists.{_∈_, Distinct}
 use Rattle.spec.specs.Numbers.{slots, mostStores}
-use Rattle.spec.specs.Pool.{word, child, nodes, keyWord, recordAt, colourWord, standingWord, holdersWord, standingFree, standingLinked, standingRetired}
-use Rattle.spec.specs.Pool.{blackColour, redColour}
+use Rattle.spec.specs.Pool.{word, child, nodes, keyWord, recordAt, colourWord, standingWord, holdersWord}
+use Rattle.spec.specs.Pool.{standingFree, standingLinked, standingRetired, blackColour, redColour}
 use Rattle.spec.specs.Register.{State, state, withReader, readerOf, storeOf, linkNode, hasSlot, readingAt}
 use Rattle.spec.specs.Turn.{profile}
 use Rattle.spec.specs.Calls.{Answer, go, absent, found, more, done, wait, refused, Outcome, Call, writing, call, reading, writeInHand, readerStep}

@@ -26,7 +26,8 @@ module _ (st : State) (h : Safe st) where
   pub stands-one : (n : ℕ) → (standingAt st n ≡ standingLinked) ⊎ ((standingAt st n ≡ standingFree) ⊎ (standingAt st n ≡ standingRetired))
   stands-one n = three (standingAt st n) (ranked st (h .queue) (h .whole) (h .owned) n) (λ e. inr (inl e)) inl (λ e. inr (inr e))
 
-  pub retired-held : (n : ℕ) → standingAt st n ≡ standingRetired → (s : ℕ) × (s < slots) × (hasSlot (word (st .pool) n holdersWord) s ≡ true) × Reads st s
+  pub retired-held : (n : ℕ) → standingAt st n ≡ standingRetired
+      → (s : ℕ) × (s < slots) × (hasSlot (word (st .pool) n holdersWord) s ≡ true) × Reads st s
   retired-held n e =
       let g = h .owned .good n (stands-node (st .pool) n standingWord (h .whole) (omega arith) (omega arith)) in
       let s = some-slot (word (st .pool) n holdersWord) (g .mask) (g .holder e) in
@@ -45,16 +46,17 @@ module _ (st : State) (h : Safe st) where
 
       within : (n : ℕ) → n ∈ all → (1 ≤ n) × (n ≤ nodes (st .pool))
       within n i =
-          let node : InPool (st .pool) n = ⊎-elim (λ j. h .owned .exact .standing n .0 j .0)
-          (λ j. let e = linked n .1 j in stands-node (st .pool) n standingWord (h .whole) (omega arith) (omega arith)) (in-append n (h .queue) (treeNodes T) .0 i) in
+          let of-tree : n ∈ treeNodes T → InPool (st .pool) n =
+          λ j. let e = linked n .1 j in stands-node (st .pool) n standingWord (h .whole) (omega arith) (omega arith) in
+          let node : InPool (st .pool) n = ⊎-elim (λ j. h .owned .exact .standing n .0 j .0) of-tree (in-append n (h .queue) (treeNodes T) .0 i) in
           (node .low, node-high (st .pool) n node)
 
       covers : (n : ℕ) → n ∈ numbersFrom (nodes (st .pool)) 1 → n ∈ all
       covers n i =
           let a = numbers-in (nodes (st .pool)) 1 n .0 i in
+          let node : InPool (st .pool) n = node-in (st .pool) n (a .0) (let b = a .1 in omega arith) in
           in-append n (h .queue) (treeNodes T) .1
-          (⊎-elim (λ e. inr (linked n .0 e))
-          (⊎-elim (λ e. inl (h .owned .exact .standing n .1 (node-in (st .pool) n (a .0) (let b = a .1 in omega arith), e))) (λ e. absurd (none-retired n e))) (stands-one n))
+          (⊎-elim (λ e. inr (linked n .0 e)) (⊎-elim (λ e. inl (h .owned .exact .standing n .1 (node, e))) (λ e. absurd (none-retired n e))) (stands-one n))
 
       pub all-counted : st .register .free + length (treeNodes T) ≡ nodes (st .pool)
       all-counted =

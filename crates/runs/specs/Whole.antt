@@ -16,7 +16,8 @@ use Rattle.spec.specs.Numbers.{slots, mostStores}
 use Rattle.spec.specs.Pool.{standingLinked}
 use Rattle.spec.specs.Register.{State, hasSlot, lessFirst}
 use Rattle.spec.specs.Turn.{Made}
-use Rattle.spec.specs.Calls.{Answer, ok, go, absent, wait, found, more, done, refused, Outcome, stored, wrongLength, reading, writeInHand, Call, inserting, deleting, writing, beginning, turning, givingUp, call}
+use Rattle.spec.specs.Calls.{Answer, ok, go, absent, wait, found, more, done, refused, Outcome, stored}
+use Rattle.spec.specs.Calls.{wrongLength, reading, writeInHand, Call, inserting, deleting, writing, beginning, turning, givingUp, call}
 use Rattle.spec.specs.PlainList.{Plain, Notice, turnedDown, waited, carriedOut, noticeOf, acceptedWrites, storeMade, feed}
 use Rattle.base.specs.Walk.{cond-both}
 use Rattle.base.specs.Lists.{_∈_}
@@ -186,7 +187,8 @@ module _ (W : State → Plain → Linked → Type 0) (writer : Writer W) (comple
       let root = at j .register .root in
       (λ e. in-leads (at j .pool) T root n rep (linked-nodes j n .0 e), λ l. linked-nodes j n .1 (leads-in (at j .pool) T root n rep l))
 
-  nothingLost : (j : ℕ) → writeInHand (at j) ≡ false → ((s : ℕ) → s < slots → reading (at j) s ≡ false) → at j .register .free + at j .register .held ≡ S .size
+  nothingLost : (j : ℕ) → writeInHand (at j) ≡ false → ((s : ℕ) → s < slots → reading (at j) s ≡ false)
+      → at j .register .free + at j .register .held ≡ S .size
   nothingLost j e quiet =
       let h = sound j in
       let c = completes .counts (at j) (plainAfter S cs j) (h .tree) (h .holds) e in

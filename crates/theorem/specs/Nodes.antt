@@ -11,7 +11,8 @@ use Rattle.datatypes.specs.declared.Link.{Link}
 use Rattle.base.specs.Lists.{_∈_}
 use Rattle.tree.specs.Linked.{Linked, nil, cell, nodes}
 use Rattle.tree.specs.Occurs.{one-same, occ, in-occ, occ-in}
-use Rattle.heap.specs.Shift.{Shift, by-insert, by-diag-lower, by-diag-raise, by-zig-A, by-zig-C, by-zig-raise, by-unlink, by-adopt, by-replace, by-publish, by-detach}
+use Rattle.heap.specs.Shift.{Shift, by-insert, by-diag-lower, by-diag-raise, by-zig-A, by-zig-C, by-zig-raise, by-unlink}
+use Rattle.heap.specs.Shift.{by-adopt, by-replace, by-publish, by-detach}
 use Rattle.heap.specs.AdoptStep.{form-count}
 use Rattle.heap.specs.Nodes.{shift-nodes, shift-left}
 

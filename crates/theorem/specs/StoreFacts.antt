@@ -69,7 +69,8 @@ held-already : (b : Bool) (v a : ℕ) → (b ≡ true → v ≡ a) → cond b v 
 held-already true v a f = f refl
 held-already false v a f = refl
 
-links-still : (p : List ℕ) (root : ℕ) (k : Link) (v : ℕ) → nodeAt p root k ≡ v → (n : ℕ) (z : Side) → cond (hitsLink k n z) v (child p z n) ≡ child p z n
+links-still : (p : List ℕ) (root : ℕ) (k : Link) (v : ℕ) → nodeAt p root k ≡ v → (n : ℕ) (z : Side)
+    → cond (hitsLink k n z) v (child p z n) ≡ child p z n
 unfolding nodeAt
 links-still p root Root v e n z = refl
 links-still p root (Left d) v e n L = held-already (eqb d n) v _ (λ i. sym e ∙ ap (child p L) (eqb-true d n i))
@@ -83,13 +84,15 @@ root-still p root Root v e = e
 root-still p root (Left d) v e = refl
 root-still p root (Right d) v e = refl
 
-tree-still : (st after : State) (came gone : List ℕ) (k : Link) (v : ℕ) (T T′ : Linked) → Turn st after came gone k v → Rep (st .pool) (st .register .root) T
-    → Rep (after .pool) (after .register .root) T′ → ((n : ℕ) → n ∈ nodes T → HasStanding (st .pool) n standingLinked) → linkNode st k ≡ v → T ≡ T′
+tree-still : (st after : State) (came gone : List ℕ) (k : Link) (v : ℕ) (T T′ : Linked) → Turn st after came gone k v
+    → Rep (st .pool) (st .register .root) T → Rep (after .pool) (after .register .root) T′
+    → ((n : ℕ) → n ∈ nodes T → HasStanding (st .pool) n standingLinked) → linkNode st k ≡ v → T ≡ T′
 tree-still st after came gone k v T T′ t h h′ lk e =
     let p = st .pool in
     let root = st .register .root in
+    let old : (n : ℕ) → n ∈ nodes T → ¬ (n ∈ came) = λ n j i. let a = t .new n i in let b = lk n j in absurd (omega arith) in
     rep-unique (after .pool) T T′ root (after .register .root) (root-still p root k v e ∙ sym (t .root))
-    (rep-agree p (after .pool) (t .size) T root (λ n u. agree n (λ i. let a = t .new n i in let b = lk n (occ-in n (nodes T) u) in absurd (omega arith))) h) h′
+    (rep-agree p (after .pool) (t .size) T root (λ n u. agree n (old n (occ-in n (nodes T) u))) h) h′
   where
     agree : (n : ℕ) → ¬ (n ∈ came) → Agree (st .pool) (after .pool) n
     agree n d zero u = t .keys n d
@@ -172,7 +175,9 @@ module _ (st : State) (G : Tree) (T : Linked) (x : Store) (l : List Store) (safe
       same = tree-still st (stored made .after) _ _ (made .link) (made .node) T (next .tree) facts-turn rep rep′ (λ n. lk n .1) e
 
       gone : (n : ℕ) → ¬ (n ∈ next .gone)
-      gone n i = moves n .0 (subst (λ t. n ∈ nodes t) same (occ-in n (nodes T) (shift-gone (st .pool) (st .register .root) (next .shift) rep n i .0))) .1 i
+      gone n i =
+          let was = occ-in n (nodes T) (shift-gone (st .pool) (st .register .root) (next .shift) rep n i .0) in
+          moves n .0 (subst (λ t. n ∈ nodes t) same was) .1 i
 
       came : (n : ℕ) → ¬ (n ∈ takenBy (x .step) (st .register .first))
       came n i =

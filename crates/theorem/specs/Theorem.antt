@@ -79,7 +79,8 @@ completes = record {
   counts = λ st x T h e. (
       let f = resting st x T h e .rest in
       let c = colours (st .pool) in
-      (occ-distinct (nodes T) (f .sound .once), nodes-size c T ∙ tickets-size (x .tickets) (erase c T) (f .sound .proper) (h .unique) (λ q. erase-find c T q ∙ h .finds q) ∙ sym (h .held))
+      let size = tickets-size (x .tickets) (erase c T) (f .sound .proper) (h .unique) (λ q. erase-find c T q ∙ h .finds q) in
+      (occ-distinct (nodes T) (f .sound .once), nodes-size c T ∙ size ∙ sym (h .held))
       );
   few = λ st x T h e. (let a = h .few in rw (h .hand .write, write-count (h .stores)) a);
   insertGoes = λ st x T k v safe h e. (
