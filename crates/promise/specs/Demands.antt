@@ -87,11 +87,15 @@ pub record Takes (st : State) (c : Call) (m : ℕ) : Type 0 where
   pub step : takesOne (storeOf (st .register) 0 .step) ≡ true
   pub first : st .register .first ≡ m
 
+-- the standing of node n
+abbrev pub standingAt : State → ℕ → ℕ
+standingAt st n = word (st .pool) n standingWord
+
 -- A node m that a reading slot reached at a moment of its lookup (after t calls) doesn't stand free and is not taken by any call, from that
 -- moment until the lookup ends: not at a moment u, and not by call u.
 pub record NodesKept (S : Start) (cs : List Call) : Type 0 where
   pub notFree : (s k i j t m u : ℕ) → Reading S cs s k i j → i < t → Reaches (indexAfter S cs t) s m → t ≤ u → u ≤ j
-      → word (indexAfter S cs u .pool) m standingWord ≢ standingFree
+      → standingAt (indexAfter S cs u) m ≢ standingFree
   pub notTaken : (s k i j t m u : ℕ) (c : Call) → Reading S cs s k i j → i < t → Reaches (indexAfter S cs t) s m → t ≤ u → u < j → callAt cs u ≡ some c
       → ¬ (Takes (indexAfter S cs u) c m)
 
@@ -121,27 +125,23 @@ pub record FreeRight (st : State) : Type 0 where
   pub queue : List ℕ
   pub queued : Queue st queue
   pub once : Distinct queue
-  pub standing : (n : ℕ) → (n ∈ queue) ↔ ((1 ≤ n) × (n ≤ nodes (st .pool)) × (word (st .pool) n standingWord ≡ standingFree))
+  pub standing : (n : ℕ) → (n ∈ queue) ↔ ((1 ≤ n) × (n ≤ nodes (st .pool)) × (standingAt st n ≡ standingFree))
   pub counted : st .register .free ≡ length queue
 
--- the standing of node n
-abbrev pub standingAt : State → ℕ → ℕ
-standingAt st n = word (st .pool) n standingWord
-
--- the link is the root, or a link of a node that stands linked
-abbrev pub OwnerLinked : List ℕ → Link → Type 0
-OwnerLinked p Root = Unit {0}
-OwnerLinked p (Left n) = word p n standingWord ≡ standingLinked
-OwnerLinked p (Right n) = word p n standingWord ≡ standingLinked
+-- a link of the tree: the root, or a link of a node that stands linked
+abbrev pub TreeLink : List ℕ → Link → Type 0
+TreeLink p Root = Unit {0}
+TreeLink p (Left n) = word p n standingWord ≡ standingLinked
+TreeLink p (Right n) = word p n standingWord ≡ standingLinked
 
 -- 'The writer's stores': a turn makes one store of a link, here l := n, and a copy is taken and filled in the turn that makes it reachable.
 pub record StoresOne (before after : State) (l : Link) (n : ℕ) : Type 0 where
   -- l is a link of the tree; it holds n now and held another node, or none, before
-  pub own : OwnerLinked (before .pool) l
+  pub own : TreeLink (before .pool) l
   pub moved : linkNode before l ≢ n
   pub holds : linkNode after l ≡ n
   -- every other link of the tree holds what it held, and every node of the tree keeps its ticket
-  pub others : (m : Link) → m ≢ l → OwnerLinked (before .pool) m → linkNode after m ≡ linkNode before m
+  pub others : (m : Link) → m ≢ l → TreeLink (before .pool) m → linkNode after m ≡ linkNode before m
   pub tickets : (m : ℕ) → standingAt before m ≡ standingLinked
       → (word (after .pool) m keyWord ≡ word (before .pool) m keyWord) × (recordAt (after .pool) m ≡ recordAt (before .pool) m)
   -- no other node than n comes to stand linked

@@ -23,7 +23,7 @@ use Rattle.spec.specs.FreeQueue.{InPool}
 use Rattle.laws.specs.Queue.{link-low}
 use Rattle.laws.specs.Words.{word-none}
 use Rattle.promise.specs.Run.{Reads}
-use Rattle.promise.specs.Demands.{OwnerLinked, StoresOne}
+use Rattle.promise.specs.Demands.{TreeLink, StoresOne}
 use Rattle.heap.specs.Rep.{alike-refl, upToColour}
 use Rattle.heap.specs.Fill.{Quiet, retire-quiet, retireTwo-quiet}
 use Rattle.readers.specs.Words.{Whole, whole-kept, stands-node}
@@ -74,7 +74,7 @@ other-root (Right n) v r d = refl
 not-hit : (l : Link) (n : ℕ) (z : Side) → owner l ≢ n → hitsLink l n z ≡ false
 not-hit l n z d = other-link l n z (λ e. d (ap owner (sym e) ∙ owner-at z n))
 
-pub owner-linked : (p : List ℕ) (l : Link) (n : ℕ) → n ≢ 0 → OwnerLinked p l → ¬ (HasStanding p n standingLinked) → owner l ≢ n
+pub owner-linked : (p : List ℕ) (l : Link) (n : ℕ) → n ≢ 0 → TreeLink p l → ¬ (HasStanding p n standingLinked) → owner l ≢ n
 owner-linked p Root n z o d e = z (sym e)
 owner-linked p (Left m) n z o d e = d (subst (λ i. HasStanding p i standingLinked) e o)
 owner-linked p (Right m) n z o d e = d (subst (λ i. HasStanding p i standingLinked) e o)
@@ -84,7 +84,7 @@ linked-stays : {st mid : State} {came : List ℕ} {l : Link} {v : ℕ} → Store
 linked-stays s n e i = let z = s .new n i .0 in absurd (omega arith)
 
 -- What was stored, then the nodes of `gone` retired.
-module _ (st mid after : State) (q came gone : List ℕ) (l : Link) (v : ℕ) (w : Whole (st .pool)) (o : OwnerLinked (st .pool) l) (h : Owned st q) (s : Stored st mid came l v)
+module _ (st mid after : State) (q came gone : List ℕ) (l : Link) (v : ℕ) (w : Whole (st .pool)) (o : TreeLink (st .pool) l) (h : Owned st q) (s : Stored st mid came l v)
     (quiet : Quiet mid after) (each : (n : ℕ) → Retires (mid .pool) (after .pool) (Reads mid) n)
     (was-linked : (n : ℕ) → n ∈ gone → HasStanding (st .pool) n standingLinked × (owner l ≢ n) × (word (after .pool) n standingWord ≢ standingLinked))
     (kept : (n : ℕ) → ¬ (n ∈ gone) → word (after .pool) n standingWord ≡ word (mid .pool) n standingWord)
@@ -147,7 +147,7 @@ module _ (st mid after : State) (q came gone : List ℕ) (l : Link) (v : ℕ) (w
     owned = owned;
   }
 
-module _ (st mid : State) (q came : List ℕ) (l : Link) (v : ℕ) (w : Whole (st .pool)) (o : OwnerLinked (st .pool) l) (h : Owned st q) (s : Stored st mid came l v) where
+module _ (st mid : State) (q came : List ℕ) (l : Link) (v : ℕ) (w : Whole (st .pool)) (o : TreeLink (st .pool) l) (h : Owned st q) (s : Stored st mid came l v) where
   linked-mid : (n : ℕ) → HasStanding (st .pool) n standingLinked → HasStanding (mid .pool) n standingLinked
   linked-mid n e = s .standing n (linked-stays s n e) ∙ e
 
@@ -219,19 +219,19 @@ module _ (st after : State) (came gone : List ℕ) (l : Link) (v : ℕ) (t : Tur
   not-came : (n : ℕ) → HasStanding (st .pool) n standingLinked → ¬ (n ∈ came)
   not-came n e i = let z = t .new n i in absurd (omega arith)
 
-  link-holds : (m : Link) → m ≡ l → OwnerLinked (st .pool) m → linkNode after m ≡ v
+  link-holds : (m : Link) → m ≡ l → TreeLink (st .pool) m → linkNode after m ≡ v
   unfolding nodeAt
   link-holds Root e o = t .root ∙ rw (← e)
   link-holds (Left n) e o = t .links n L (not-came n o) ∙ rw (← e, eq-eqb n n refl)
   link-holds (Right n) e o = t .links n R (not-came n o) ∙ rw (← e, eq-eqb n n refl)
 
-  link-stays : (m : Link) → m ≢ l → OwnerLinked (st .pool) m → linkNode after m ≡ linkNode st m
+  link-stays : (m : Link) → m ≢ l → TreeLink (st .pool) m → linkNode after m ≡ linkNode st m
   unfolding nodeAt
   link-stays Root d o = t .root ∙ other-root l v (st .register .root) d
   link-stays (Left n) d o = t .links n L (not-came n o) ∙ rw (other-link l n L d)
   link-stays (Right n) d o = t .links n R (not-came n o) ∙ rw (other-link l n R d)
 
-  pub turn-stores : OwnerLinked (st .pool) l → linkNode st l ≢ v → ((n : ℕ) → n ∈ came → n ≡ v) → StoresOne st after l v
+  pub turn-stores : TreeLink (st .pool) l → linkNode st l ≢ v → ((n : ℕ) → n ∈ came → n ≡ v) → StoresOne st after l v
   turn-stores o d f = record {
     own = o;
     moved = d;

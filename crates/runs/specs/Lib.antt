@@ -9,4 +9,5 @@ pub mod Theorem
 pub mod Facts
 pub mod Rest
 pub mod Standings
+pub mod OneStore
 pub mod Whole

@@ -4,105 +4,33 @@ use mathlib.Core.Path.{_≡_, refl, sym, ap, _∙_, subst}
 use mathlib.Core.Bool.{true, false}
 use mathlib.Core.List.{List}
 use mathlib.Core.Option.{Option, none, some}
-use mathlib.Core.Logic.{_≢_, _⊎_, inl, inr, ⊎-map, ⊎-elim, _↔_}
+use mathlib.Core.Logic.{_≢_, _⊎_, ⊎-map, ⊎-elim, _↔_}
 use native.Mathlib.Omega.{arith}
-use lib.Dec.{eqb}
 use native.Mathlib.Numerals.{add-one}
 use borrow.Author.Tests.{eq-eqb, ne-eqb}
 use Rattle.datatypes.specs.declared.Link.{Link}
-use Rattle.datatypes.specs.declared.Link.the-variants.{Root}
 use Rattle.sequential.specs.Delete.{Change, changedBy}
 use Rattle.spec.specs.Numbers.{slots, mostStores}
 use Rattle.spec.specs.Pool.{standingLinked}
-use Rattle.spec.specs.Register.{State, hasSlot, lessFirst}
-use Rattle.spec.specs.Turn.{Made}
-use Rattle.spec.specs.Calls.{Answer, ok, go, absent, wait, found, more, done, refused, Outcome, stored}
+use Rattle.spec.specs.Register.{State, hasSlot}
+use Rattle.spec.specs.Calls.{more, done}
 use Rattle.spec.specs.Calls.{wrongLength, reading, writeInHand, Call, inserting, deleting, writing, beginning, turning, givingUp, call}
 use Rattle.spec.specs.PlainList.{Plain, Notice, turnedDown, waited, carriedOut, noticeOf, acceptedWrites, storeMade, feed}
-use Rattle.base.specs.Walk.{cond-both}
 use Rattle.base.specs.Lists.{_∈_}
 use Rattle.tree.specs.Linked.{Linked, nodes as treeNodes}
 use Rattle.promise.specs.Run.{Start, Moment, thenPerhaps, callAt, after, indexAfter, plainAfter, Gives}
 use Rattle.promise.specs.Demands.{Leads, Stands, standingAt, StoresOne, Demand2, NeverMet, PromiseFrom}
 use Rattle.readers.specs.Reach.{leads-in, in-leads}
-use Rattle.readers.specs.Turns.{turn-stores}
-use Rattle.readers.specs.CallCase.{CallCase, call-case, refuses, plansInsert, plansDelete, waits, stores, begins, loads, misses, finds, leaves}
+use Rattle.readers.specs.CallCase.{call-case}
 use Rattle.ranges.specs.Fits.{colour-fits}
 use Rattle.ranges.specs.Calls.{Ranged, ranged-in, ranged-next}
-use Rattle.runs.specs.Writer.{Writer, firstMade, afterStore}
+use Rattle.runs.specs.Writer.{Writer}
 use Rattle.runs.specs.Sound.{Sound, Starts}
 use Rattle.runs.specs.Starts.{exact-right}
-use Rattle.runs.specs.Answers.{toldOf}
 use Rattle.runs.specs.Theorem.{sound-at, demand3}
-use Rattle.runs.specs.Rest.{Completes, wait-right, stored-told, refused-by, not-one, not-two, not-twelve, length-right, none-awaited, turn-clear, turn-goes, done-left}
+use Rattle.runs.specs.Rest.{Completes, wait-right, refused-by, not-one, not-two, not-twelve, length-right, none-awaited, turn-clear, turn-goes}
 use Rattle.runs.specs.Standings.{stands-one, retired-held, all-counted}
-
--- a turn that answers more leaves stores to come
-more-left : (st : State) (c : Call) (o : Outcome) (l : Link) (n : ℕ) → CallCase st c o → o .answer ≡ more l n → o .after .register .write .count ≢ 0
-more-left st c o l n (refuses d x) e = absurd (let z = ap toldOf e in omega arith)
-more-left st c o l n (plansInsert j v f) e = absurd (let z = ap toldOf e in omega arith)
-more-left st c o l n (plansDelete j f) e = absurd (let z = ap toldOf e in omega arith)
-more-left st c o l n (waits d) e = absurd (let z = ap toldOf e in omega arith)
-more-left st c o l n (stores a w f) e =
-    ⊎-elim (λ x. absurd (let z = ap toldOf e in omega arith)) (λ x. x .1) (stored-told (firstMade st))
-more-left st c o l n (begins t j u f) e = absurd (let z = ap toldOf e in omega arith)
-more-left st c o l n (loads t m p i f) e = absurd (let z = ap toldOf e in omega arith)
-more-left st c o l n (misses t m p i f) e = absurd (let z = ap toldOf e in omega arith)
-more-left st c o l n (finds t p d f) e = absurd (let z = ap toldOf e in omega arith)
-more-left st c o l n (leaves t p) e = absurd (let z = ap toldOf e in omega arith)
-
--- the link and the node that an answer names
-abbrev linkIn : Answer → Link
-linkIn ok = Root
-linkIn go = Root
-linkIn absent = Root
-linkIn wait = Root
-linkIn (found v) = Root
-linkIn (more l n) = l
-linkIn (done l n) = l
-linkIn (refused n) = Root
-
-abbrev nodeIn : Answer → ℕ
-nodeIn ok = 0
-nodeIn go = 0
-nodeIn absent = 0
-nodeIn wait = 0
-nodeIn (found v) = 0
-nodeIn (more l n) = n
-nodeIn (done l n) = n
-nodeIn (refused n) = 0
-
--- a store's answer is more or done, with its link and its node
-abbrev Tells : Answer → Link → ℕ → Type 0
-Tells a l n = (a ≡ more l n) ⊎ (a ≡ done l n)
-
-tells-store : (a : Answer) (l : Link) (n : ℕ) → Tells a l n → (4 < toldOf a) × (toldOf a < 7) × (linkIn a ≡ l) × (nodeIn a ≡ n)
-tells-store a l n (inl e) = rw e (omega arith, omega arith, refl, refl)
-tells-store a l n (inr e) = rw e (omega arith, omega arith, refl, refl)
-
-stored-tells : (m : Made) → (linkIn (stored m .answer) ≡ m .link) × (nodeIn (stored m .answer) ≡ m .node)
-unfolding stored
-stored-tells m =
-    cond-both (λ a. (linkIn a ≡ m .link) × (nodeIn a ≡ m .node)) (eqb (lessFirst (m .after .register .write) .count) 0) (refl, refl) (refl, refl)
-
-module _ (W : State → Plain → Linked → Type 0) (writer : Writer W) where
-  store-one : (st : State) (x : Plain) (c : Call) (o : Outcome) (l : Link) (n : ℕ) → CallCase st c o → Sound W writer st x
-      → (4 < toldOf (o .answer)) × (toldOf (o .answer) < 7) × (linkIn (o .answer) ≡ l) × (nodeIn (o .answer) ≡ n) → StoresOne st (o .after) l n
-  store-one st x c o l n (refuses d f) h e = absurd (let z = e .1 in omega arith)
-  store-one st x c o l n (plansInsert j v f) h e = absurd (let z = e .0 in omega arith)
-  store-one st x c o l n (plansDelete j f) h e = absurd (let z = e .0 in omega arith)
-  store-one st x c o l n (waits d) h e = absurd (let z = e .0 in omega arith)
-  store-one st x c o l n (stores a w f) h e =
-      let m = firstMade st in
-      let t = stored-tells m in
-      let s = writer .store st x (h .tree) (h .safe) (h .holds) a w f in
-      let one = turn-stores st (afterStore st) (s .came) (s .gone) (m .link) (m .node) (s .turn) (s .owner) (s .moved) (s .new) in
-      rw (sym (t .0) ∙ e .2, sym (t .1) ∙ e .3) at one
-  store-one st x c o l n (begins t j u f) h e = absurd (let z = e .0 in omega arith)
-  store-one st x c o l n (loads t i p k f) h e = absurd (let z = e .0 in omega arith)
-  store-one st x c o l n (misses t i p k f) h e = absurd (let z = e .0 in omega arith)
-  store-one st x c o l n (finds t p d f) h e = absurd (let z = e .0 in omega arith)
-  store-one st x c o l n (leaves t p) h e = absurd (let z = e .0 in omega arith)
+use Rattle.runs.specs.OneStore.{more-left, done-left, Tells, store-one}
 
 -- the plain list keeps the tree that it started with
 started-store : (x : Plain) (c : Option Change) → storeMade x c .started ≡ x .started
@@ -202,7 +130,7 @@ module _ (W : State → Plain → Linked → Type 0) (writer : Writer W) (comple
       let called : callAt cs j ≡ some writing = ⊎-elim (λ x. x .0) (λ x. x .0) g in
       let told : Tells (call (at j) writing .answer) l n = ⊎-map (λ x. x .1) (λ x. x .1) g in
       rw (add-one j, next-is j writing called)
-      (store-one W writer (at j) (plainAfter S cs j) writing (call (at j) writing) l n (call-case (at j) writing) (sound j) (tells-store _ l n told))
+      (store-one W writer (at j) (plainAfter S cs j) writing (call (at j) writing) l n (call-case (at j) writing) (sound j) told)
 
   pub demand2 : Demand2 S cs
   demand2 = record {

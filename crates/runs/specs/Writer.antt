@@ -18,7 +18,7 @@ use Rattle.tree.specs.Zipper.{Thins}
 use Rattle.tree.specs.Linked.{Linked, find, nodes}
 use Rattle.tree.specs.Tickets.{True}
 use Rattle.heap.specs.Rep.{Rep, Alike, upToColour}
-use Rattle.promise.specs.Demands.{OwnerLinked}
+use Rattle.promise.specs.Demands.{TreeLink}
 use Rattle.readers.specs.Reach.{HasStanding}
 use Rattle.readers.specs.Lookups.{Unlinked}
 use Rattle.readers.specs.Turns.{Turn}
@@ -42,7 +42,7 @@ pub record Stores (st : State) (m : Made) (T : Linked) (W : Linked → Type 0) :
   pub came : List ℕ
   pub gone : List ℕ
   pub turn : Turn st (stored m .after) came gone (m .link) (m .node)
-  pub owner : OwnerLinked (st .pool) (m .link)
+  pub owner : TreeLink (st .pool) (m .link)
   -- the link changes, and a node that comes is its new node
   pub moved : linkNode st (m .link) ≢ m .node
   pub new : (n : ℕ) → n ∈ came → n ≡ m .node

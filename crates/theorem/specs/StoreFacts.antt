@@ -32,7 +32,7 @@ use Rattle.heap.specs.Effects.{shift-thin}
 use Rattle.heap.specs.Phase.{phase-rep}
 use Rattle.heap.specs.Writes.{InHand, turn}
 use Rattle.heap.specs.Writes as Writes
-use Rattle.promise.specs.Demands.{OwnerLinked}
+use Rattle.promise.specs.Demands.{TreeLink}
 use Rattle.readers.specs.Owned.{Slots, slots-reading}
 use Rattle.readers.specs.Reach.{HasStanding}
 use Rattle.readers.specs.Lookups.{Unlinked}
@@ -52,7 +52,7 @@ sub-rep p (cell N l r) a d R h (inl e) = (r, rw e (h .2))
 sub-rep p (cell N l r) a d z h (inr i) = ⊎-elim (λ j. sub-rep p l _ d z (h .1) j) (λ j. sub-rep p r _ d z (h .2) j) (in-append d (nodes l) (nodes r) .0 i)
 
 -- the stored link's value unfolds
-value-rep : (st after : State) (came gone : List ℕ) (k : Link) (v : ℕ) (T′ : Linked) → Turn st after came gone k v → Rep (after .pool) (after .register .root) T′ → OwnerLinked (st .pool) k
+value-rep : (st after : State) (came gone : List ℕ) (k : Link) (v : ℕ) (T′ : Linked) → Turn st after came gone k v → Rep (after .pool) (after .register .root) T′ → TreeLink (st .pool) k
     → ((n : ℕ) → HasStanding (st .pool) n standingLinked → owner k ≡ n → (n ∈ nodes T′) × (¬ (n ∈ came))) → (u : Linked) × Rep (after .pool) v u
 value-rep st after came gone Root v T′ t h o f = (T′, subst (λ a. Rep (after .pool) a T′) (t .root) h)
 value-rep st after came gone (Left d) v T′ t h o f =
@@ -148,7 +148,7 @@ module _ (st : State) (G : Tree) (T : Linked) (x : Store) (l : List Store) (safe
     λ i. (let a = moves n .0 i in facts-turn .linked n .1 (⊎-elim (λ j. inl (lk n .1 j)) (λ j. inr j) (a .0), a .1)),
   )
 
-  own : OwnerLinked (st .pool) (made .link)
+  own : TreeLink (st .pool) (made .link)
   own = shift-owner (st .pool) (st .register .root) (next .shift) (λ n u. lk n .1 (occ-in n (nodes T) u))
 
   stays : (n : ℕ) → HasStanding (st .pool) n standingLinked → owner (made .link) ≡ n → (n ∈ nodes (next .tree)) × (¬ (n ∈ takenBy (x .step) (st .register .first)))

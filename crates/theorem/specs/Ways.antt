@@ -22,7 +22,7 @@ use Rattle.tree.specs.Successor.{third₀}
 use Rattle.heap.specs.Rep.{Rep, not-below-at}
 use Rattle.heap.specs.Sites.{linkTo, site-of}
 use Rattle.heap.specs.Shift.{Shift, by-insert, by-diag-lower, by-diag-raise, by-zig-A, by-zig-C, by-zig-raise, by-unlink, by-adopt, by-replace, by-publish, by-detach}
-use Rattle.promise.specs.Demands.{OwnerLinked}
+use Rattle.promise.specs.Demands.{TreeLink}
 use Rattle.readers.specs.Reach.{HasStanding}
 
 -- the nodes of a tree that the pool has are nodes
@@ -34,7 +34,7 @@ rep-low p (cell N l r) a i h u =
     (λ e _. (let z = h .0 .within .low in omega arith))
     (λ _ o. elim (decLe 1 (occ i (nodes l))) [ yes z ↦ rep-low p l _ i (h .1) z | no z ↦ rep-low p r _ i (h .2) (omega arith) ])
 
-linked-at : (p : List ℕ) (s : Side) (n : ℕ) → HasStanding p n standingLinked → OwnerLinked p (linkAt s n)
+linked-at : (p : List ℕ) (s : Side) (n : ℕ) → HasStanding p n standingLinked → TreeLink p (linkAt s n)
 linked-at p L n e = e
 linked-at p R n e = e
 
@@ -50,7 +50,7 @@ owner-apart p root (hole s N y ∷ fs) t i h u e =
 
 module _ (p : List ℕ) (root : ℕ) where
   -- the link at a place is the root or a linked node's
-  link-owner : (fs : List Frame) (t : Linked) → ((n : ℕ) → 0 < occ n (nodes (plug fs t)) → HasStanding p n standingLinked) → OwnerLinked p (linkTo fs)
+  link-owner : (fs : List Frame) (t : Linked) → ((n : ℕ) → 0 < occ n (nodes (plug fs t)) → HasStanding p n standingLinked) → TreeLink p (linkTo fs)
   link-owner [] t lk = tt
   link-owner (hole s N y ∷ fs) t lk =
       linked-at p s (N .num) (lk (N .num) (let a = occ-plug (hole s N y ∷ fs) t (N .num) in let b = one-same (N .num) in omega arith))
@@ -69,7 +69,7 @@ module _ (p : List ℕ) (root : ℕ) where
   far-in s N x y i u = let a = occ-at s N x y i in omega arith
 
   pub shift-owner : {T T′ : Linked} {l : Link} {v : ℕ} {came gone : List ℕ} {b w : Bool} → Shift T T′ l v came gone b w
-      → ((n : ℕ) → 0 < occ n (nodes T) → HasStanding p n standingLinked) → OwnerLinked p l
+      → ((n : ℕ) → 0 < occ n (nodes T) → HasStanding p n standingLinked) → TreeLink p l
   shift-owner (by-insert fs Z i w) lk = link-owner fs nil lk
   shift-owner (by-diag-lower fs s B C n o x r ord w z) lk = linked-at p (other s) (B .num) (lk (B .num) (there fs _ (B .num) (near-in s C (at s B o x) r (B .num) (top s B o x))))
   shift-owner (by-diag-raise fs s B C n o x r ord w z) lk = link-owner fs _ lk
