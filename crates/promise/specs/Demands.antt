@@ -151,20 +151,20 @@ pub record Demand2 (S : Start) (cs : List Call) : Type 0 where
   -- whenever no write is in hand the tree is the sequential tree of the writes accepted, in order, on the start's (`leaf` when just set up)
   pub atRest : (j : ℕ) → writeInHand (indexAfter S cs j) ≡ false
       → Stands (indexAfter S cs j .pool) (indexAfter S cs j .register .root) (changedBy (S .tree) (acceptedWrites (plainAfter S cs j)))
-  -- the nodes that stand linked are those that links lead to from the root; at rest they are the sequential tree's
+  -- 'Pool and register', standing: the nodes that stand linked are those that links lead to from the root. So at rest they are that tree's.
   pub linked : (j n : ℕ) → (standingAt (indexAfter S cs j) n ≡ standingLinked) ↔ Leads (indexAfter S cs j .pool) (indexAfter S cs j .register .root) n
   pub free : (j : ℕ) → FreeRight (indexAfter S cs j)
-  -- 'Pool and register': each node from 1 to N stands linked, free or retired
+  -- each node from 1 to N stands linked, free or retired
   pub standing : (j n : ℕ) → 1 ≤ n → n ≤ S .size
       → (standingAt (indexAfter S cs j) n ≡ standingLinked)
       ⊎ ((standingAt (indexAfter S cs j) n ≡ standingFree) ⊎ (standingAt (indexAfter S cs j) n ≡ standingRetired))
-  -- 'Retire', 'Reader's turn': a retired node has a holder, and that slot is reading
+  -- 'Retire' and 'Reader's turn': a node that stands retired has a holder that is reading
   pub retiredHeld : (j n : ℕ) → standingAt (indexAfter S cs j) n ≡ standingRetired
       → (s : ℕ) × (s < slots) × (hasSlot (word (indexAfter S cs j .pool) n holdersWord) s ≡ true) × Reads (indexAfter S cs j) s
-  -- so no node is lost: with no write in hand and no slot reading, all nodes but one for each key held are free
+  -- so no node is lost: with no write in hand and no slot reading, every node is free but one for each key held
   pub nothingLost : (j : ℕ) → writeInHand (indexAfter S cs j) ≡ false → ((s : ℕ) → s < slots → reading (indexAfter S cs j) s ≡ false)
       → indexAfter S cs j .register .free + indexAfter S cs j .register .held ≡ S .size
-  -- a turn that answers more or done has made one store, the one that it answers
+  -- 'The writer's stores': a turn that answers more or done has made one store, and it is the one that it answers
   pub oneStore : (j : ℕ) (l : Link) (n : ℕ) → Gives S cs j writing (more l n) ⊎ Gives S cs j writing (done l n)
       → StoresOne (indexAfter S cs j) (indexAfter S cs (j + 1)) l n
   -- a write is done after at most seven stores: one that isn't done has made fewer
