@@ -10,7 +10,7 @@ fn line(label: &[u8], n: u64) {
     io::write_all(1, b"\n");
 }
 
-// a run of so many calls on so many nodes
+// Prints the line of a run of so many calls on so many nodes.
 pub fn run(nodes: u32, calls: u64, most: u32) {
     io::write_all(1, b"nodes\t");
     io::print_decimal(1, nodes as u64);
@@ -123,6 +123,7 @@ fn comparisons(counts: &[u64]) {
     line(b"differences", tally::get(counts, tally::DIFFERENCES));
 }
 
+// Prints every count.
 pub fn all(counts: &[u64]) {
     calls(counts);
     refusals(counts);
