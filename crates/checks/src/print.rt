@@ -82,7 +82,8 @@ fn steps(counts: &[u64]) {
     line(b"store detach", tally::get(counts, tally::STEPS + 5));
 }
 
-// a rotation's step: grow left, grow right, pass left, pass right, borrow left, borrow right
+// Prints the counts of a rotation's step, by purpose and side. The purposes are printed as grow (ForInsert), pass (RedSibling), borrow
+// (BlackSibling).
 fn rotation(label: &[u8], counts: &[u64], step: usize)
     requires { ⌜ step < 5 ⌝ }
 {

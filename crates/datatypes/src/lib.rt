@@ -79,7 +79,7 @@ pub struct Reader {
     pub node: u32,
 }
 
-// The register: root, free queue, counts, readers, awaited slots (a bit a slot), the write in hand.
+// The register: root, free queue, counts, readers, awaited slots (one bit for each slot), the write in hand.
 pub struct Register {
     pub root: u32,
     pub first: u32,

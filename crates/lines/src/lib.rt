@@ -294,7 +294,7 @@ fn fresh_on(input: &[u8], from: usize) -> Scanned
 }
 
 // Reads on in the line so far, to its end or the input's. By theorem line-read (specs, Cut) a whole line gives the command that document 01
-// makes of its bytes, however the input is parted.
+// makes of its bytes, however reads cut the input.
 pub fn scan(input: &[u8], from: usize, reading: Reading) -> Scanned
     requires { ⌜ from ≤ length (now input) ⌝ }
     ensures { λ r. ⌜ r ≡ cutFrom (now (input .entry)) from reading ⌝ }
