@@ -83,7 +83,7 @@ fn field_taken(f: Field, b: u8) -> Field
     }
 }
 
-// Answers a line of which no byte has been read.
+// A line that no byte has been read of.
 pub fn start() -> Reading
     ensures { λ r. ⌜ r ≡ Fresh ⌝ }
 {
@@ -293,8 +293,8 @@ fn fresh_on(input: &[u8], from: usize) -> Scanned
     letter_on(input, from + 1, b)
 }
 
-// Reads on in the line so far, to its end or the input's. By theorem line-read (specs, Cut) a whole line gives the command that document 01
-// makes of its bytes, however reads cut the input.
+// The line so far, read on. By theorem line-read (specs, Cut) a whole line gives the command that document 01 makes of its bytes,
+// however the input is parted.
 pub fn scan(input: &[u8], from: usize, reading: Reading) -> Scanned
     requires { ⌜ from ≤ length (now input) ⌝ }
     ensures { λ r. ⌜ r ≡ cutFrom (now (input .entry)) from reading ⌝ }
@@ -320,7 +320,7 @@ pub enum Said {
     No(u32),
 }
 
-// Answers what an acceptance says.
+// what each kind of answer says
 pub fn acceptance_said(a: Acceptance) -> Said
     ensures { λ r. ⌜ says r ≡ accepts a ⌝ }
 {
@@ -330,7 +330,6 @@ pub fn acceptance_said(a: Acceptance) -> Said
     }
 }
 
-// Answers what a writer's turn says.
 pub fn writer_said(a: WriterAnswer) -> Said
     ensures { λ r. ⌜ says r ≡ writerSays a ⌝ }
 {
@@ -342,7 +341,6 @@ pub fn writer_said(a: WriterAnswer) -> Said
     }
 }
 
-// Answers what a reader's turn says.
 pub fn reader_said(a: ReaderAnswer) -> Said
     ensures { λ r. ⌜ says r ≡ readerSays a ⌝ }
 {
@@ -354,7 +352,7 @@ pub fn reader_said(a: ReaderAnswer) -> Said
     }
 }
 
-// Answers a command's letter in its line.
+// a command's letter in its line
 pub fn letter_of(c: Command) -> u8
     ensures { λ r. ⌜ r ≡ letterOf c ⌝ }
 {
@@ -519,7 +517,7 @@ fn put_said(out: &mut [u8], at: usize, a: Said) -> usize
     }
 }
 
-// Writes the line of a call: its number, its letter and its answer. This and the next two ask for room enough for any line.
+// The lines of trace; each asks for room enough for any of them.
 pub fn write_line(out: &mut [u8], at: usize, number: u64, letter: u8, a: Said) -> usize
     requires { ⌜ at + room ≤ length (now out) ⌝ }
     ensures { λ r. ⌜ Put (now (out .entry)) at (lineOf number letter (says a)) (now (out .exit)) r ⌝ }
@@ -530,7 +528,6 @@ pub fn write_line(out: &mut [u8], at: usize, number: u64, letter: u8, a: Said) -
     put_said(out, third, a)
 }
 
-// Writes the line of an ill-formed command.
 pub fn write_bad(out: &mut [u8], at: usize, number: u64) -> usize
     requires { ⌜ at + room ≤ length (now out) ⌝ }
     ensures { λ r. ⌜ Put (now (out .entry)) at (badLine number) (now (out .exit)) r ⌝ }
@@ -551,7 +548,7 @@ fn put_three(out: &mut [u8], at: usize, a: u32, b: u32, c: u32, end: u8) -> usiz
     number_field(out, third, c as u64, end)
 }
 
-// Writes T's line of a node, if it is linked.
+// T's line of a node, if it is linked
 pub fn write_node(out: &mut [u8], at: usize, pool: &[u32], n: u32) -> usize
     requires { ⌜ at + room ≤ length (now out) ⌝ }
     ensures { λ r. ⌜ Put (now (out .entry)) at (nodeShown (now (pool .entry)) n) (now (out .exit)) r ⌝ }
