@@ -1,4 +1,5 @@
-// The least program that uses the ticket index: it sets one up, inserts, looks up, deletes, and handles a refusal.
+// The least program that uses the ticket index: it sets one up, inserts, looks up, deletes, and
+// handles a refusal.
 use datatypes::Acceptance;
 use datatypes::ReaderAnswer;
 use datatypes::Register;
@@ -24,7 +25,8 @@ fn say_line(text: &[u8]) {
     io::write_all(STDOUT_FILENO, b"\n");
 }
 
-// Writes the number of a refusal, and answers false. A refused call has changed neither pool nor register.
+// Writes the number of a refusal, and answers false. A refused call has changed neither pool nor
+// register.
 fn refused(number: u32) -> bool {
     say(b": refused by ", number);
     say_line(b"");
@@ -39,7 +41,8 @@ fn accepted(answer: Acceptance) -> bool {
     }
 }
 
-// Answers whether the write goes on after this turn. It also stops at wait, where lookups have to end first; none runs here.
+// Answers whether the write goes on after this turn. It stops at wait too, where lookups have to end
+// first; none runs here.
 fn writes_on(answer: WriterAnswer) -> bool {
     match answer {
         WriterAnswer::More(_, _) => true,
@@ -69,7 +72,8 @@ fn reads_on(answer: ReaderAnswer) -> bool {
     }
 }
 
-// Makes the writer's turns of an insert or a delete until it is done. Calls of readers may come between any two of them.
+// Makes the writer's turns of an insert or a delete until it is done. Calls of readers may come
+// between any two of them.
 fn carry_out(pool: &mut [u32], asked: Reply) -> Register {
     let mut reg = asked.register;
     let answer = asked.answer;
@@ -103,7 +107,8 @@ fn delete(pool: &mut [u32], reg: Register, key: u32) -> Register {
     carry_out(pool, asked)
 }
 
-// Begins a lookup in a slot and makes its turns until it answers. The writer's turns may come between any two of them.
+// Begins a lookup in a slot and makes its turns until it answers. The writer's turns may come
+// between any two of them.
 fn look_up(pool: &mut [u32], reg: Register, slot: u32, key: u32) -> Register {
     say(b"look up ", key);
     let asked = index::begin(pool, reg, slot, key);
