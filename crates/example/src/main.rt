@@ -41,8 +41,8 @@ fn accepted(answer: Acceptance) -> bool {
     }
 }
 
-// Answers whether the write goes on after this turn. It stops at wait too, where lookups have to end
-// first; none runs here.
+// Answers whether the write goes on after this turn. It stops at wait too, where lookups have to
+// end first; none runs here.
 fn writes_on(answer: WriterAnswer) -> bool {
     match answer {
         WriterAnswer::More(_, _) => true,
