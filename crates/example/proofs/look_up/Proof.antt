@@ -22,34 +22,34 @@ slice-aggregate-say : tie.Need-slice-aggregate-say Inv-loop μ-loop
 slice-aggregate-say c = search needs
 
 say-requires : tie.Need-say-requires Inv-loop μ-loop
-say-requires c κs = search needs
+say-requires c κs = tt
 
 begin-requires : tie.Need-begin-requires Inv-loop μ-loop
-begin-requires c κs = search needs
+begin-requires c κs = tt
 
 accepted-requires : tie.Need-accepted-requires Inv-loop μ-loop
-accepted-requires c κs = search needs
+accepted-requires c κs = tt
 
 same-length : tie.Need-same-length Inv-loop μ-loop
 same-length c = search needs
 
 returns : tie.Need-returns Inv-loop μ-loop
-returns c = search needs
+returns c = tt
 
 loop-holds : tie.Need-loop-holds Inv-loop μ-loop
 loop-holds c = search needs
 
 reader-turn-requires : tie.Need-reader-turn-requires Inv-loop μ-loop
-reader-turn-requires c κs = search needs
+reader-turn-requires c κs = tt
 
 reads-on-requires : tie.Need-reads-on-requires Inv-loop μ-loop
-reads-on-requires c κs = search needs
+reads-on-requires c κs = tt
 
 same-length-2 : tie.Need-same-length-2 Inv-loop μ-loop
 same-length-2 c = search needs
 
 returns-2 : tie.Need-returns-2 Inv-loop μ-loop
-returns-2 c = search needs
+returns-2 c = tt
 
 add-turns : tie.Need-add-turns Inv-loop μ-loop
 add-turns c = search needs
@@ -64,7 +64,7 @@ same-length-3 : tie.Need-same-length-3 Inv-loop μ-loop
 same-length-3 c = search needs
 
 returns-3 : tie.Need-returns-3 Inv-loop μ-loop
-returns-3 c = search needs
+returns-3 c = tt
 
 pub look-up-spec : {M : Type 1} → statement M
 look-up-spec =
