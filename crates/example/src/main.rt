@@ -13,23 +13,17 @@ const WORDS: usize = 16 * numbers::NODE_WORDS;
 // A proved loop has to end. No write and no lookup of this program takes so many turns.
 const MOST_TURNS: u32 = 64;
 
-// Writes a text and a number.
+// Writes a text, a number and the end of the line.
 fn say(text: &[u8], n: u32) {
     io::write_all(STDOUT_FILENO, text);
     io::print_decimal(STDOUT_FILENO, n as u64);
-}
-
-// Writes a text and ends the line.
-fn say_line(text: &[u8]) {
-    io::write_all(STDOUT_FILENO, text);
     io::write_all(STDOUT_FILENO, b"\n");
 }
 
 // Writes the number of a refusal, and answers false. A refused call has changed neither pool nor
 // register.
 fn refused(number: u32) -> bool {
-    say(b": refused by ", number);
-    say_line(b"");
+    say(b"  refused by ", number);
     false
 }
 
@@ -47,7 +41,7 @@ fn writes_on(answer: WriterAnswer) -> bool {
     match answer {
         WriterAnswer::More(_, _) => true,
         WriterAnswer::Done(_, _) => {
-            say_line(b": done");
+            io::write_all(STDOUT_FILENO, b"  done\n");
             false
         }
         WriterAnswer::Wait => false,
@@ -60,12 +54,11 @@ fn reads_on(answer: ReaderAnswer) -> bool {
     match answer {
         ReaderAnswer::Go => true,
         ReaderAnswer::Found(record) => {
-            say(b": found ", record);
-            say_line(b"");
+            say(b"  found ", record);
             false
         }
         ReaderAnswer::Absent => {
-            say_line(b": absent");
+            io::write_all(STDOUT_FILENO, b"  absent\n");
             false
         }
         ReaderAnswer::Refused(number) => refused(number),
@@ -130,10 +123,9 @@ fn look_up(pool: &mut [u32], reg: Register, slot: u32, key: u32) -> Register {
     reg
 }
 
-// Inserts three tickets, and a fourth whose key is held already.
+// Inserts two tickets, and a third whose key is held already.
 fn fill(pool: &mut [u32], reg: Register) -> Register {
-    let mut r = insert(pool, reg, 3, 30);
-    r = insert(pool, r, 1, 10);
+    let mut r = insert(pool, reg, 1, 10);
     r = insert(pool, r, 2, 20);
     insert(pool, r, 2, 21)
 }
