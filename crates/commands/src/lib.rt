@@ -1,4 +1,4 @@
-// The commands of the program trace, each run on the words lent.
+// The commands of the program trace: each is run on the words lent.
 use datatypes::ReaderReply;
 use datatypes::Register;
 use datatypes::Reply;
@@ -67,7 +67,7 @@ fn show(pool: &[u32], reg: Register) -> Called
     }
 }
 
-// a command's call on the pool lent
+// Makes a command's call on the pool lent.
 pub fn call(pool: &mut [u32], reg: Register, c: Command) -> Called
     ensures { λ r. ⌜ says (r .said) ≡ called (state (now (pool .entry)) reg) c .answer ⌝ }
     ensures { λ r. ⌜ state (now (pool .exit)) (r .register) ≡ called (state (now (pool .entry)) reg) c .after ⌝ }
@@ -92,7 +92,7 @@ pub struct Performed {
     pub lent: usize,
 }
 
-// how many words a command works on: those lent, and for P those that it asks for
+// Answers how many words a command works on: those lent, and for P those that it asks for.
 fn tried_words(lent: usize, c: Command) -> usize
     ensures { λ r. ⌜ r ≡ triedWords lent c ⌝ }
 {
@@ -106,7 +106,7 @@ fn tried_words(lent: usize, c: Command) -> usize
     lent
 }
 
-// how many stay lent: a refused P keeps the pool there was
+// Answers how many words stay lent: a refused P keeps the pool there was.
 fn kept_words(lent: usize, tried: usize, said: Said) -> usize
     ensures { λ r. ⌜ r ≡ keptWords lent tried (says said) ⌝ }
 {
@@ -116,7 +116,7 @@ fn kept_words(lent: usize, tried: usize, said: Said) -> usize
     tried
 }
 
-// a command on the first `lent` of the words, the pool; answer, register and every word are document 01's
+// Runs a command on the first `lent` of the words, the pool; answer, register and every word are document 01's.
 pub fn perform(words: &mut [u32], lent: usize, reg: Register, c: Command) -> Performed
     requires { ⌜ (lent ≤ poolLimit) × (length (now words) ≡ poolLimit) ⌝ }
     ensures { λ r. ⌜ says (r .said) ≡ performed (now (words .entry)) lent reg c .answer ⌝ }

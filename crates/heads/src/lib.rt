@@ -7,6 +7,7 @@ ghost use mathlib.Core.Path.{_≡_};
 ghost use Rattle.spec.specs.Register.{setLink};
 ghost use Rattle.heads.specs.Head.{headOf, withHead, Follows, missedBy};
 
+// Takes the head out of a register.
 pub fn head_of(reg: Register) -> Head
     ensures { λ r. ⌜ r ≡ headOf reg ⌝ }
 {
@@ -20,6 +21,7 @@ pub fn head_of(reg: Register) -> Head
     }
 }
 
+// Puts a head into a register.
 pub fn with_head(reg: Register, h: Head) -> Register
     ensures { λ r. ⌜ r ≡ withHead reg h ⌝ }
 {
@@ -33,7 +35,7 @@ pub fn with_head(reg: Register, h: Head) -> Register
     r
 }
 
-// the answer of a step that names a node where there is none
+// Makes the result of a step that names a node where there is none, or finds no free node: nothing is changed.
 pub fn missed(head: Head) -> StepResult
     ensures { λ r. ⌜ r ≡ missedBy head ⌝ }
 {
@@ -45,7 +47,7 @@ pub fn missed(head: Head) -> StepResult
     }
 }
 
-// stores a link
+// Stores node v in the link l: the root's in the head, any other in the pool.
 pub fn set_link(pool: &mut [u32], h: Head, l: Link, v: u32) -> Head
     ensures { λ r. ⌜ Follows (λ st. setLink st l v) (now (pool .entry)) h (now (pool .exit)) r ⌝ }
 {

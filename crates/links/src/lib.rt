@@ -4,6 +4,7 @@ use datatypes::Side;
 ghost use mathlib.Core.Path.{_≡_};
 ghost use Rattle.datatypes.specs.Side.{other, linkAt, owner, sideOf};
 
+// Answers the other side.
 pub fn other(s: Side) -> Side
     ensures { λ r. ⌜ r ≡ other s ⌝ }
 {
@@ -13,6 +14,7 @@ pub fn other(s: Side) -> Side
     }
 }
 
+// Answers node n's link on a side.
 pub fn link_at(s: Side, n: u32) -> Link
     ensures { λ r. ⌜ r ≡ linkAt s n ⌝ }
 {
@@ -22,6 +24,7 @@ pub fn link_at(s: Side, n: u32) -> Link
     }
 }
 
+// Answers the node whose link this is, 0 for the root.
 pub fn owner(l: Link) -> u32
     ensures { λ r. ⌜ r ≡ owner l ⌝ }
 {
@@ -32,6 +35,7 @@ pub fn owner(l: Link) -> u32
     }
 }
 
+// Answers the side that a link is on; the root counts as left.
 pub fn side_of(l: Link) -> Side
     ensures { λ r. ⌜ r ≡ sideOf l ⌝ }
 {
