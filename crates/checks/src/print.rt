@@ -82,8 +82,7 @@ fn steps(counts: &[u64]) {
     line(b"store detach", tally::get(counts, tally::STEPS + 5));
 }
 
-// Prints the counts of a rotation's step, by purpose and side. The purposes are printed as grow (ForInsert), pass (RedSibling), borrow
-// (BlackSibling).
+// Prints the counts of a rotation's step, by purpose (insert, red sibling, black sibling) and side.
 fn rotation(label: &[u8], counts: &[u64], step: usize)
     requires { ⌜ step < 5 ⌝ }
 {
@@ -100,7 +99,7 @@ fn rotation(label: &[u8], counts: &[u64], step: usize)
 fn rotations(counts: &[u64]) {
     io::write_all(
         1,
-        b"stores of rotations\tgrow L\tgrow R\tpass L\tpass R\tborrow L\tborrow R\n",
+        b"stores of rotations\tinsert L\tinsert R\tred sibling L\tred sibling R\tblack sibling L\tblack sibling R\n",
     );
     rotation(b"store diag lower", counts, 0);
     rotation(b"store diag raise", counts, 1);
