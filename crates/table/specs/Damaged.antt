@@ -6,7 +6,7 @@ use Rattle.datatypes.specs.declared.Link.the-variants.{Root, Left, Right}
 use Rattle.datatypes.specs.declared.Purpose.the-variants.{ForInsert, RedSibling, BlackSibling}
 use Rattle.datatypes.specs.declared.Step.the-variants.{Insert, DiagLower, DiagRaise, ZigLowerA, ZigLowerC, ZigRaise, Unlink, Adopt, Replace, Publish, Detach}
 use Rattle.spec.specs.Calls.{ok, go, absent, wait, more, done, refused}
-use Rattle.table.specs.Picture.{row, root_held_awaited_stores_, picture, drawn, _on_, key, left, right, colour, standing, holders, next, _of_:=_, root:=_, first:=_, last:=_, free:=_, held:=_, awaited:=_, count:=_, atRest, fills, reader_:=_, store_:=_, reads, idle, _but_}
+use Rattle.table.specs.Picture.{row, root_held_awaited_stores_, picture, drawn, none, _on_, key, left, right, colour, standing, holders, next, _of_:=_, root:=_, first:=_, last:=_, free:=_, held:=_, awaited:=_, count:=_, atRest, fills, reader_:=_, store_:=_, reads, idle, _but_}
 use Rattle.table.specs.Entry.{P, I, D, W, B, R, E, _⇒_, stands, leaves, Entry, entry}
 use Rattle.table.specs.Lent.{three, single, five, knot, lowered}
 
@@ -88,16 +88,10 @@ damaged =
     ∷ entry "12: ZigLowerC with an empty queue" (five but (count:= 1 ∷ store 0 := (ZigLowerC side.R ForInsert on Root) ∷ first:= 0 ∷ []))
     (W ⇒ refused 12
     ∷ [])
-    ∷ entry "12: an insert whose red grandparent comes below a red root, which has no parent" (five but (colour of 2 := 1 ∷ []))
-    (I 60 600 ⇒ refused 12 ∷ I 25 250 ⇒ refused 12
-    ∷ [])
-    ∷ entry "12: insert directly below a red root" (single but (colour of 1 := 1 ∷ []))
-    (I 5 50 ⇒ refused 12
-    ∷ [])
     ∷ entry "11 before 12 of the steps, in an insert" (single but (colour of 1 := 1 ∷ free:= 2 ∷ []))
     (I 5 50 ⇒ refused 11
     ∷ [])
-    ∷ entry "12: delete of a black node without a sibling; 11 comes before it" (three but (colour of 1 := 0 ∷ right of 2 := 0 ∷ []))
+    ∷ entry "12: delete of a black node without a sibling" (three but (colour of 1 := 0 ∷ right of 2 := 0 ∷ []))
     (D 10 ⇒ refused 12
     ∷ [])
     ∷ entry "11 before 12 of the steps, in a delete" (three but (colour of 1 := 0 ∷ right of 2 := 0 ∷ free:= 3 ∷ []))
@@ -110,50 +104,13 @@ damaged =
     (three but (count:= 1 ∷ store 0 := (Unlink on Left 2) ∷ colour of 1 := 0 ∷ right of 2 := 0 ∷ []))
     (W ⇒ refused 12 ∷ W ⇒ refused 12
     ∷ [])
-    ∷ entry "7 before wait; wait before 12; wait by the awaited slots alone, for any write" (three but (awaited:= 4 ∷ []))
-    (W ⇒ refused 7 ∷ I 25 250 ⇒ ok ∷ W ⇒ wait
-    ∷ leaves (count:= 1 ∷ store 0 := (Insert 25 250 on Left 3) ∷ [])
-    ∷ [])
-    ∷ entry "wait before the 12 of a step" (three but (count:= 1 ∷ store 0 := (Unlink on Right 3) ∷ awaited:= 128 ∷ []))
-    (W ⇒ wait
-    ∷ [])
-    ∷ entry "keys held at N stays there, and the free count at 0"
-    (three but (count:= 1 ∷ store 0 := (Insert 5 50 on Left 1) ∷ held:= 8 ∷ free:= 0 ∷ colour of 1 := 0 ∷ []))
+    ∷ entry "keys held goes from N − 1 to N" (three but (count:= 1 ∷ store 0 := (Insert 5 50 on Left 1) ∷ held:= 7 ∷ colour of 1 := 0 ∷ []))
     (W ⇒ done (Left 1) 4
-    ∷ leaves (left of 1 := 4 ∷ fills (row 4 5 50 1 0 0) ∷ first:= 5 ∷ atRest ∷ [])
+    ∷ leaves (left of 1 := 4 ∷ fills (row 4 5 50 1 0 0) ∷ first:= 5 ∷ free:= 4 ∷ held:= 8 ∷ atRest ∷ [])
     ∷ [])
-    ∷ entry "keys held at 0 stays there, and the free count at N" (three but (count:= 1 ∷ store 0 := (Unlink on Left 2) ∷ held:= 0 ∷ free:= 8 ∷ []))
+    ∷ entry "the free count goes from N − 1 to N" (three but (count:= 1 ∷ store 0 := (Unlink on Left 2) ∷ free:= 7 ∷ []))
     (W ⇒ done (Left 2) 0
-    ∷ leaves (standing of 1 := 0 ∷ left of 2 := 0 ∷ next of 8 := 1 ∷ last:= 1 ∷ atRest ∷ [])
-    ∷ [])
-    ∷ entry "keys held at 0 at a replace and a publish"
-    (five but (count:= 1 ∷ store 0 := (Publish 3 on Root) ∷ held:= 0 ∷ count:= 2 ∷ store 1 := (Detach 20 on Root) ∷ []))
-    (W ⇒ more Root 6 ∷ W ⇒ done (Left 4) 0
-    ∷ leaves (standing of 2 := 0 ∷ next of 2 := 3 ∷ standing of 3 := 0 ∷ left of 4 := 0 ∷ fills (row 6 30 300 0 1 4) ∷ next of 12 := 2 ∷ root:= 6 ∷ first:= 7
-    ∷ last:= 3 ∷ free:= 8 ∷ atRest ∷ [])
-    ∷ [])
-    ∷ entry "the free count at N when a reading ends" (three but (standing of 8 := 2 ∷ holders of 8 := 1 ∷ reader 0 := (reads 5 1) ∷ free:= 8 ∷ []))
-    (R 0 ⇒ absent
-    ∷ leaves (standing of 8 := 0 ∷ holders of 8 := 0 ∷ reader 0 := (idle 0 0) ∷ [])
-    ∷ [])
-    ∷ entry "a damaged queue with last 0: the freed node is linked from nowhere and is the last"
-    (three but (count:= 1 ∷ store 0 := (Unlink on Left 2) ∷ last:= 0 ∷ []))
-    (W ⇒ done (Left 2) 0
-    ∷ leaves (standing of 1 := 0 ∷ left of 2 := 0 ∷ last:= 1 ∷ free:= 6 ∷ held:= 2 ∷ atRest ∷ [])
-    ∷ [])
-    ∷ entry "a damaged queue whose last is a linked node: that node's next free is written"
-    (three but (count:= 1 ∷ store 0 := (Unlink on Left 2) ∷ last:= 3 ∷ []))
-    (W ⇒ done (Left 2) 0
-    ∷ leaves (standing of 1 := 0 ∷ left of 2 := 0 ∷ next of 3 := 1 ∷ last:= 1 ∷ free:= 6 ∷ held:= 2 ∷ atRest ∷ [])
-    ∷ [])
-    ∷ entry "an empty queue begins with the freed node, whatever its last"
-    (three but (count:= 1 ∷ store 0 := (Unlink on Left 2) ∷ first:= 0 ∷ last:= 3 ∷ []))
-    (W ⇒ done (Left 2) 0
-    ∷ leaves (standing of 1 := 0 ∷ left of 2 := 0 ∷ first:= 1 ∷ last:= 1 ∷ free:= 6 ∷ held:= 2 ∷ atRest ∷ [])
-    ∷ [])
-    ∷ entry "the freed node is the last itself" (three but (count:= 1 ∷ store 0 := (Unlink on Left 2) ∷ last:= 1 ∷ []))
-    (W ⇒ done (Left 2) 0
-    ∷ leaves (standing of 1 := 0 ∷ left of 2 := 0 ∷ free:= 6 ∷ held:= 2 ∷ atRest ∷ [])
+    ∷ leaves (standing of 1 := 0 ∷ left of 2 := 0 ∷ next of 8 := 1 ∷ last:= 1 ∷ free:= 8 ∷ held:= 2 ∷ atRest ∷ [])
     ∷ [])
     ∷ entry "taking the node whose next free is 0 empties the queue, whatever last and count"
     (three but (count:= 1 ∷ store 0 := (Insert 5 50 on Left 1) ∷ next of 4 := 0 ∷ colour of 1 := 0 ∷ []))
@@ -165,12 +122,6 @@ damaged =
     ∷ left of 4 := 8 ∷ []))
     (W ⇒ done (Left 1) 4
     ∷ leaves (left of 1 := 4 ∷ fills (row 4 5 50 1 0 0) ∷ first:= 7 ∷ free:= 4 ∷ held:= 4 ∷ atRest ∷ [])
-    ∷ [])
-    ∷ entry "a retired node without a holder is freed at any end; a node not retired keeps its holders"
-    (three but (reader 3 := (reads 5 0) ∷ standing of 8 := 2 ∷ holders of 1 := 255 ∷ holders of 5 := 8 ∷ standing of 7 := 2 ∷ holders of 7 := 4 ∷ []
-    ))
-    (E 3 ⇒ ok
-    ∷ leaves (standing of 8 := 0 ∷ free:= 6 ∷ reader 3 := (idle 0 0) ∷ [])
     ∷ [])
     ∷ entry "freed in rising number, bits of other slots kept"
     (three but (reader 3 := (reads 5 0) ∷ reader 0 := (reads 5 0) ∷ standing of 8 := 2 ∷ holders of 8 := 8 ∷ standing of 6 := 2 ∷ holders of 6 := 9
@@ -200,6 +151,12 @@ damaged =
     ∷ stands (picture (root 4 held 3 awaited 0 stores 0)
     [] (row 3 30 300 1 0 0 ∷ row 4 40 400 0 5 0 ∷ row 5 20 200 0 0 3 ∷ []) [] (6 ∷ 7 ∷ 8 ∷ 1 ∷ 2 ∷ []))
     ∷ [])
+    ∷ entry "decision 11: 12 for an insert whose red grandparent comes below a red root" (five but (colour of 2 := 1 ∷ []))
+    (I 60 600 ⇒ refused 12 ∷ I 25 250 ⇒ refused 12
+    ∷ [])
+    ∷ entry "decision 11: 12 for an insert directly below a red root" (single but (colour of 1 := 1 ∷ []))
+    (I 5 50 ⇒ refused 12
+    ∷ [])
     ∷ entry "decision 12: an insert under a red parent whose link its descent does not meet"
     (five but (count:= 1 ∷ store 0 := (Insert 60 600 on Left 3) ∷ []))
     (W ⇒ refused 12
@@ -211,15 +168,15 @@ damaged =
     ∷ entry "decision 12: a detach whose link its descent does not meet" (five but (count:= 1 ∷ store 0 := (Detach 5 on Right 2) ∷ []))
     (W ⇒ refused 12
     ∷ [])
-    ∷ entry "decision 12: an unlink whose link its descent does not meet: 12, but not with a red x or a red node"
+    ∷ entry "decision 12: an unlink whose link its descent does not meet"
     (five but (count:= 1 ∷ store 0 := (Unlink on Left 2) ∷ key of 2 := 5 ∷ []))
     (W ⇒ refused 12
     ∷ [])
-    ∷ entry "decision 12: such an unlink of a red node" (five but (count:= 1 ∷ store 0 := (Unlink on Left 4) ∷ key of 2 := 60 ∷ []))
+    ∷ entry "decision 12: such an unlink of a red node goes by no path" (five but (count:= 1 ∷ store 0 := (Unlink on Left 4) ∷ key of 2 := 60 ∷ []))
     (W ⇒ done (Left 4) 0
     ∷ leaves (standing of 3 := 0 ∷ left of 4 := 0 ∷ next of 12 := 3 ∷ last:= 3 ∷ free:= 8 ∷ held:= 4 ∷ atRest ∷ [])
     ∷ [])
-    ∷ entry "decision 12: such an unlink with a red x"
+    ∷ entry "decision 12: such an unlink with a red x goes by no path"
     (five but (count:= 1 ∷ store 0 := (Unlink on Right 2) ∷ left of 4 := 0 ∷ key of 2 := 60 ∷ []))
     (W ⇒ done (Right 2) 5
     ∷ leaves (right of 2 := 5 ∷ standing of 4 := 0 ∷ colour of 5 := 0 ∷ next of 12 := 4 ∷ last:= 4 ∷ free:= 8 ∷ held:= 4 ∷ atRest ∷ [])
@@ -247,6 +204,12 @@ damaged =
     (three but (count:= 1 ∷ store 0 := (Unlink on Root) ∷ []))
     (W ⇒ done Root 1
     ∷ leaves (colour of 1 := 0 ∷ standing of 2 := 0 ∷ next of 8 := 2 ∷ root:= 1 ∷ last:= 2 ∷ free:= 6 ∷ held:= 2 ∷ atRest ∷ [])
+    ∷ [])
+    ∷ entry "decision 14: the descent to a planned link goes right at an equal key"
+    (five but (count:= 1 ∷ store 0 := (Insert 60 600 on Right 5) ∷ key of 4 := 60 ∷ []))
+    (W ⇒ done (Right 5) 6
+    ∷ leaves (colour of 3 := 0 ∷ colour of 4 := 1 ∷ right of 5 := 6 ∷ colour of 5 := 0 ∷ fills (row 6 60 600 1 0 0) ∷ first:= 7 ∷ free:= 6 ∷ held:= 6 ∷ atRest
+    ∷ [])
     ∷ [])
     ∷ entry "decision 15: decided on the words lent: an aunt that the turn itself takes"
     (three but (colour of 3 := 0 ∷ first:= 3 ∷ standing of 3 := 0 ∷ next of 3 := 4 ∷ []))
@@ -278,6 +241,17 @@ damaged =
     (W ⇒ done Root 4
     ∷ leaves (standing of 2 := 0 ∷ colour of 4 := 0 ∷ next of 8 := 2 ∷ root:= 4 ∷ last:= 2 ∷ free:= 4 ∷ atRest ∷ [])
     ∷ [])
+    ∷ entry "decision 18: 7 before wait; wait by the awaited slots alone, for any write" (three but (awaited:= 4 ∷ []))
+    (W ⇒ refused 7 ∷ I 25 250 ⇒ ok ∷ W ⇒ wait
+    ∷ leaves (count:= 1 ∷ store 0 := (Insert 25 250 on Left 3) ∷ [])
+    ∷ [])
+    ∷ entry "decision 18: wait before the 12 of a step" (three but (count:= 1 ∷ store 0 := (Unlink on Right 3) ∷ awaited:= 128 ∷ []))
+    (W ⇒ wait
+    ∷ [])
+    ∷ entry "decision 19: more while a store is to come, though its step will name no node; the new node may be 0"
+    (three but (count:= 2 ∷ store 0 := (Unlink on Left 2) ∷ store 1 := (Unlink on Left 2) ∷ []))
+    (W ⇒ more (Left 2) 0 ∷ W ⇒ refused 12
+    ∷ [])
     ∷ entry "decision 20: the root ends black when the fix-up ends below it" (five but (colour of 2 := 1 ∷ []))
     (I 5 50 ⇒ ok ∷ W ⇒ done (Left 1) 6
     ∷ leaves (left of 1 := 6 ∷ colour of 2 := 0 ∷ fills (row 6 5 50 1 0 0) ∷ first:= 7 ∷ free:= 6 ∷ held:= 6 ∷ [])
@@ -290,6 +264,14 @@ damaged =
     ∷ leaves (right of 2 := 5 ∷ colour of 2 := 0 ∷ standing of 4 := 0 ∷ left of 5 := 7 ∷ right of 5 := 6 ∷ colour of 5 := 0 ∷ fills (row 6 60 600 1 0 0)
     ∷ fills (row 7 40 400 1 0 0) ∷ next of 12 := 4 ∷ first:= 8 ∷ last:= 4 ∷ free:= 6 ∷ held:= 6 ∷ [])
     ∷ [])
+    ∷ entry "decision 21: a retired node keeps its colour, red or black"
+    (five but (count:= 2 ∷ store 0 := (Unlink on Left 4) ∷ store 1 := (Unlink on Right 2) ∷ reader 0 := (reads 5 0) ∷ []))
+    (W ⇒ more (Left 4) 0
+    ∷ leaves (standing of 3 := 2 ∷ holders of 3 := 1 ∷ left of 4 := 0 ∷ held:= 4 ∷ count:= 1 ∷ store 0 := (Unlink on Right 2) ∷ store 1 := none ∷ [])
+    ∷ W ⇒ done (Right 2) 5
+    ∷ leaves (right of 2 := 5 ∷ standing of 3 := 2 ∷ holders of 3 := 1 ∷ left of 4 := 0 ∷ standing of 4 := 2 ∷ holders of 4 := 1 ∷ colour of 5 := 0 ∷ held:= 3
+    ∷ atRest ∷ [])
+    ∷ [])
     ∷ entry "decision 22: the same node twice is retired once" (knot but (count:= 1 ∷ store 0 := (ZigRaise side.L ForInsert on Root) ∷ []))
     (W ⇒ done Root 2
     ∷ leaves (standing of 1 := 0 ∷ next of 8 := 1 ∷ root:= 2 ∷ last:= 1 ∷ free:= 7 ∷ atRest ∷ [])
@@ -298,5 +280,50 @@ damaged =
     (five but (count:= 1 ∷ store 0 := (ZigRaise side.R BlackSibling on Root) ∷ []))
     (W ⇒ done Root 3
     ∷ leaves (standing of 2 := 0 ∷ next of 2 := 4 ∷ colour of 3 := 0 ∷ standing of 4 := 0 ∷ next of 12 := 2 ∷ root:= 3 ∷ last:= 4 ∷ free:= 9 ∷ atRest ∷ [])
+    ∷ [])
+    ∷ entry "decision 23: last 0: the freed node is linked from nowhere and is the last"
+    (three but (count:= 1 ∷ store 0 := (Unlink on Left 2) ∷ last:= 0 ∷ []))
+    (W ⇒ done (Left 2) 0
+    ∷ leaves (standing of 1 := 0 ∷ left of 2 := 0 ∷ last:= 1 ∷ free:= 6 ∷ held:= 2 ∷ atRest ∷ [])
+    ∷ [])
+    ∷ entry "decision 23: last is a linked node: its next free is written" (three but (count:= 1 ∷ store 0 := (Unlink on Left 2) ∷ last:= 3 ∷ []))
+    (W ⇒ done (Left 2) 0
+    ∷ leaves (standing of 1 := 0 ∷ left of 2 := 0 ∷ next of 3 := 1 ∷ last:= 1 ∷ free:= 6 ∷ held:= 2 ∷ atRest ∷ [])
+    ∷ [])
+    ∷ entry "decision 23: an empty queue begins with the freed node, whatever its last"
+    (three but (count:= 1 ∷ store 0 := (Unlink on Left 2) ∷ first:= 0 ∷ last:= 3 ∷ []))
+    (W ⇒ done (Left 2) 0
+    ∷ leaves (standing of 1 := 0 ∷ left of 2 := 0 ∷ first:= 1 ∷ last:= 1 ∷ free:= 6 ∷ held:= 2 ∷ atRest ∷ [])
+    ∷ [])
+    ∷ entry "decision 23: the freed node is the last itself" (three but (count:= 1 ∷ store 0 := (Unlink on Left 2) ∷ last:= 1 ∷ []))
+    (W ⇒ done (Left 2) 0
+    ∷ leaves (standing of 1 := 0 ∷ left of 2 := 0 ∷ free:= 6 ∷ held:= 2 ∷ atRest ∷ [])
+    ∷ [])
+    ∷ entry "decision 24: a retired node without a holder is freed at any end; a node not retired keeps its holders"
+    (three but (reader 3 := (reads 5 0) ∷ standing of 8 := 2 ∷ holders of 1 := 255 ∷ holders of 5 := 8 ∷ standing of 7 := 2 ∷ holders of 7 := 4 ∷ []
+    ))
+    (E 3 ⇒ ok
+    ∷ leaves (standing of 8 := 0 ∷ free:= 6 ∷ reader 3 := (idle 0 0) ∷ [])
+    ∷ [])
+    ∷ entry "decision 25: keys held at N stays there, and the free count at 0"
+    (three but (count:= 1 ∷ store 0 := (Insert 5 50 on Left 1) ∷ held:= 8 ∷ free:= 0 ∷ colour of 1 := 0 ∷ []))
+    (W ⇒ done (Left 1) 4
+    ∷ leaves (left of 1 := 4 ∷ fills (row 4 5 50 1 0 0) ∷ first:= 5 ∷ atRest ∷ [])
+    ∷ [])
+    ∷ entry "decision 25: keys held at 0 stays there, and the free count at N"
+    (three but (count:= 1 ∷ store 0 := (Unlink on Left 2) ∷ held:= 0 ∷ free:= 8 ∷ []))
+    (W ⇒ done (Left 2) 0
+    ∷ leaves (standing of 1 := 0 ∷ left of 2 := 0 ∷ next of 8 := 1 ∷ last:= 1 ∷ atRest ∷ [])
+    ∷ [])
+    ∷ entry "decision 25: keys held at 0 at a publish"
+    (five but (count:= 1 ∷ store 0 := (Publish 3 on Root) ∷ held:= 0 ∷ count:= 2 ∷ store 1 := (Detach 20 on Root) ∷ []))
+    (W ⇒ more Root 6 ∷ W ⇒ done (Left 4) 0
+    ∷ leaves (standing of 2 := 0 ∷ next of 2 := 3 ∷ standing of 3 := 0 ∷ left of 4 := 0 ∷ fills (row 6 30 300 0 1 4) ∷ next of 12 := 2 ∷ root:= 6 ∷ first:= 7
+    ∷ last:= 3 ∷ free:= 8 ∷ atRest ∷ [])
+    ∷ [])
+    ∷ entry "decision 25: the free count at N when a reading ends"
+    (three but (standing of 8 := 2 ∷ holders of 8 := 1 ∷ reader 0 := (reads 5 1) ∷ free:= 8 ∷ []))
+    (R 0 ⇒ absent
+    ∷ leaves (standing of 8 := 0 ∷ holders of 8 := 0 ∷ reader 0 := (idle 0 0) ∷ [])
     ∷ [])
     ∷ []

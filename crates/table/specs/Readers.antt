@@ -12,6 +12,11 @@ readers =
     (P ⇒ ok ∷ B 0 5 ⇒ ok ∷ R 0 ⇒ absent ∷ R 0 ⇒ refused 5
     ∷ stands (picture (root 0 held 0 awaited 0 stores 0) [] [] [] (1 ∷ 2 ∷ 3 ∷ 4 ∷ 5 ∷ 6 ∷ 7 ∷ 8 ∷ []))
     ∷ [])
+    ∷ entry "the only key comes and goes: every node is free again" (unset 8)
+    (P ⇒ ok ∷ I 5 50 ⇒ ok ∷ W ⇒ done Root 1 ∷ D 5 ⇒ ok ∷ W ⇒ done Root 0
+    ∷ stands (picture (root 0 held 0 awaited 0 stores 0) [] [] [] (2 ∷ 3 ∷ 4 ∷ 5 ∷ 6 ∷ 7 ∷ 8 ∷ 1 ∷ []))
+    ∷ still (row 1 5 50 0 0 0)
+    ∷ [])
     ∷ entry "lookups to the left, to the right, at the root, and absent on both sides" three
     (B 0 10 ⇒ ok ∷ R 0 ⇒ go
     ∷ stands (picture (root 2 held 3 awaited 0 stores 0)
