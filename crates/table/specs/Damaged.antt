@@ -264,6 +264,14 @@ damaged =
     ∷ leaves (right of 2 := 5 ∷ colour of 2 := 0 ∷ standing of 4 := 0 ∷ left of 5 := 7 ∷ right of 5 := 6 ∷ colour of 5 := 0 ∷ fills (row 6 60 600 1 0 0)
     ∷ fills (row 7 40 400 1 0 0) ∷ next of 12 := 4 ∷ first:= 8 ∷ last:= 4 ∷ free:= 6 ∷ held:= 6 ∷ [])
     ∷ [])
+    ∷ entry "decision 20: at the last store of a zig too" (five but (colour of 2 := 1 ∷ left of 4 := 0 ∷ []))
+    (I 45 450 ⇒ ok ∷ W ⇒ more (Left 5) 6 ∷ W ⇒ more (Right 6) 7 ∷ W ⇒ more (Left 6) 8
+    ∷ leaves (left of 5 := 6 ∷ fills (row 6 45 450 1 8 7) ∷ fills (row 7 50 500 1 0 0) ∷ fills (row 8 40 400 1 0 0) ∷ first:= 9 ∷ free:= 4 ∷ held:= 6 ∷ count:= 1
+    ∷ store 0 := (ZigRaise side.R ForInsert on Right 2) ∷ [])
+    ∷ W ⇒ done (Right 2) 6
+    ∷ leaves (right of 2 := 6 ∷ colour of 2 := 0 ∷ standing of 4 := 0 ∷ next of 4 := 5 ∷ left of 5 := 6 ∷ standing of 5 := 0 ∷ fills (row 6 45 450 0 8 7)
+    ∷ fills (row 7 50 500 1 0 0) ∷ fills (row 8 40 400 1 0 0) ∷ next of 12 := 4 ∷ first:= 9 ∷ last:= 5 ∷ free:= 6 ∷ held:= 6 ∷ [])
+    ∷ [])
     ∷ entry "decision 21: a retired node keeps its colour, red or black"
     (five but (count:= 2 ∷ store 0 := (Unlink on Left 4) ∷ store 1 := (Unlink on Right 2) ∷ reader 0 := (reads 5 0) ∷ []))
     (W ⇒ more (Left 4) 0
