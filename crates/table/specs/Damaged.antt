@@ -323,6 +323,9 @@ damaged =
     (W ⇒ done (Left 2) 0
     ∷ leaves (standing of 1 := 0 ∷ left of 2 := 0 ∷ next of 8 := 1 ∷ last:= 1 ∷ atRest ∷ [])
     ∷ [])
+    ∷ entry "decision 25: a delete does not test keys held" (three but (held:= 0 ∷ []))
+    (D 20 ⇒ ok
+    ∷ [])
     ∷ entry "decision 25: keys held at 0 at a publish"
     (five but (count:= 1 ∷ store 0 := (Publish 3 on Root) ∷ held:= 0 ∷ count:= 2 ∷ store 1 := (Detach 20 on Root) ∷ []))
     (W ⇒ more Root 6 ∷ W ⇒ done (Left 4) 0
