@@ -11,14 +11,14 @@ ghost use Rattle.spec.specs.Register.{state, withWrite};
 ghost use Rattle.laws.specs.Tests.{lentNumber};
 ghost use Rattle.spec.specs.Calls.{ok, refused, accepts, placeOf, writeInHand, insert, delete};
 
-// the planned stores are the write in hand
+// Answers accepted, with the planned stores as the write in hand.
 fn accepted(reg: Register, write: Write) -> Reply
     ensures { λ r. ⌜ (accepts (r .answer) ≡ ok) × (r .register ≡ withWrite reg write) ⌝ }
 {
     replies::accepted(register::with_write(reg, write))
 }
 
-// an insert at the empty link l, after the tests of the search
+// Tests and plans an insert at the empty link l, after the tests of the search.
 pub fn insert_at(pool: &[u32], reg: Register, k: u32, v: u32, l: Link) -> Reply
     requires { ⌜ (lentNumber (state (now pool) reg) ≡ 0) × (writeInHand (state (now pool) reg) ≡ false) × (placeOf (state (now pool) reg) k ≡ Empty l) ⌝ }
     ensures { λ r. ⌜ accepts (r .answer) ≡ insert (state (now (pool .entry)) reg) k v .answer ⌝ }
@@ -39,7 +39,7 @@ pub fn insert_at(pool: &[u32], reg: Register, k: u32, v: u32, l: Link) -> Reply
     accepted(reg, write)
 }
 
-// a delete of node n, which the link l holds, after the tests of the search
+// Tests and plans a delete of node n, which the link l holds, after the tests of the search.
 pub fn delete_at(pool: &[u32], reg: Register, k: u32, l: Link, n: u32) -> Reply
     requires { ⌜ (lentNumber (state (now pool) reg) ≡ 0) × (writeInHand (state (now pool) reg) ≡ false) × (placeOf (state (now pool) reg) k ≡ Held l n) ⌝ }
     ensures { λ r. ⌜ accepts (r .answer) ≡ delete (state (now (pool .entry)) reg) k .answer ⌝ }

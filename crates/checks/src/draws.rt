@@ -41,7 +41,7 @@ fn high(x: u32, n: u32) -> u32 {
     if n == 0 { 0 } else { x / 65_536 % n }
 }
 
-// the draw after those of a call
+// Answers the draw after those of a call.
 pub fn after_call(x: u32) -> u32 {
     next(next(next(x)))
 }
@@ -115,7 +115,7 @@ fn kind_of(c: u32, m: Mood) -> u32 {
     reader_kind(c, bound(m.busy, 38, 52))
 }
 
-// a run's call number i from a draw, on so many nodes
+// Draws a run's call number i, on so many nodes.
 pub fn draw_call(x: u32, i: u64, nodes: u32) -> Call {
     let first = next(x);
     let second = next(first);

@@ -74,6 +74,7 @@ fn set_hand_word(model: &mut [u32], f: u32, v: u32) {
     set_word(model, HAND + f as usize, v);
 }
 
+// Clears the model: no ticket, no lookup, no write in hand.
 pub fn clear(model: &mut [u32]) {
     let mut i: usize = 0;
     while i < model.len() {
@@ -82,15 +83,17 @@ pub fn clear(model: &mut [u32]) {
     }
 }
 
-// the plain list: how many tickets, whether one is there, its record
+// Answers how many tickets the plain list has.
 pub fn held(model: &[u32]) -> u32 {
     hand_word(model, HELD)
 }
 
+// Answers whether the plain list has a ticket.
 pub fn listed(model: &[u32], t: u32) -> bool {
     word(model, t as usize * 2) == 1
 }
 
+// Answers the record of a ticket in the plain list.
 pub fn list_record(model: &[u32], t: u32) -> u32 {
     word(model, t as usize * 2 + 1)
 }
@@ -112,11 +115,12 @@ fn take_out(model: &mut [u32], t: u32) {
     }
 }
 
-// lookups
+// Answers whether a slot is reading.
 pub fn reading(model: &[u32], s: u32) -> bool {
     slot_word(model, s, READING) == 1
 }
 
+// Begins a slot's lookup of a ticket.
 pub fn begin_lookup(model: &mut [u32], s: u32, t: u32) {
     set_slot_word(model, s, READING, 1);
     set_slot_word(model, s, WANTED, t);
@@ -124,6 +128,7 @@ pub fn begin_lookup(model: &mut [u32], s: u32, t: u32) {
     set_slot_word(model, s, SEEN, 0);
 }
 
+// Ends a slot's lookup; it is no longer awaited.
 pub fn end_lookup(model: &mut [u32], s: u32) {
     set_slot_word(model, s, READING, 0);
     set_slot_word(model, s, AWAITED, 0);
@@ -168,7 +173,7 @@ fn observe_slot(model: &mut [u32], s: u32) -> bool {
     true
 }
 
-// A moment of all lookups; false if one has no room for a record.
+// Notes a moment of all lookups; answers false if one has no room for a record.
 pub fn observe(model: &mut [u32]) -> bool {
     let mut ok = true;
     let mut s: u32 = 0;
@@ -179,7 +184,7 @@ pub fn observe(model: &mut [u32]) -> bool {
     ok
 }
 
-// whether the list had a slot's ticket with this record, or lacked it, at one of the lookup's moments
+// Answers whether the list had a slot's ticket with this record at one of the lookup's moments.
 pub fn was_listed(model: &[u32], s: u32, v: u32) -> bool {
     let seen = slot_word(model, s, SEEN);
     let mut i: u32 = 0;
@@ -192,22 +197,24 @@ pub fn was_listed(model: &[u32], s: u32, v: u32) -> bool {
     false
 }
 
+// Answers whether the list lacked a slot's ticket at one of the lookup's moments.
 pub fn was_lacking(model: &[u32], s: u32) -> bool {
     slot_word(model, s, LACKED) == 1
 }
 
-// whether the list now has a slot's ticket with this record, or lacks it
+// Answers whether the list has a slot's ticket with this record now.
 pub fn is_listed(model: &[u32], s: u32, v: u32) -> bool {
     let t = slot_word(model, s, WANTED);
     listed(model, t) & (list_record(model, t) == v)
 }
 
+// Answers whether the list lacks a slot's ticket now.
 pub fn is_lacking(model: &[u32], s: u32) -> bool {
     let t = slot_word(model, s, WANTED);
     listed(model, t) == false
 }
 
-// the awaited slots, a bit each
+// Answers the awaited slots, a bit each.
 pub fn awaited(model: &[u32]) -> u32 {
     let mut bits: u32 = 0;
     let mut s: u32 = 0;
@@ -227,15 +234,17 @@ fn await_readers(model: &mut [u32]) {
     }
 }
 
-// the write in hand
+// Answers whether the write in hand is an insert or a delete, or that there is none.
 pub fn kind_in_hand(model: &[u32]) -> u32 {
     hand_word(model, KIND)
 }
 
+// Answers the form of the delete in hand.
 pub fn form_in_hand(model: &[u32]) -> u32 {
     hand_word(model, FORM)
 }
 
+// Takes a write in hand.
 pub fn take_in_hand(model: &mut [u32], kind: u32, t: u32, v: u32) {
     set_hand_word(model, KIND, kind);
     set_hand_word(model, TICKET, t);
@@ -243,12 +252,13 @@ pub fn take_in_hand(model: &mut [u32], kind: u32, t: u32, v: u32) {
     set_hand_word(model, MADE, 0);
 }
 
+// Notes the form of the write in hand and how many stores it takes.
 pub fn plan_stores(model: &mut [u32], form: u32, stores: u32) {
     set_hand_word(model, FORM, form);
     set_hand_word(model, STORES, stores);
 }
 
-// whether the next store is the write's last
+// Answers whether the next store is the write's last.
 pub fn last_is_next(model: &[u32]) -> bool {
     let made = hand_word(model, MADE);
     (made < 8) & (hand_word(model, STORES) == made % 8 + 1)
@@ -286,6 +296,7 @@ fn await_at(model: &mut [u32], number: u32) {
     }
 }
 
+// Notes a store of the write in hand: at the list store the list changes, at a publish the reading slots are awaited.
 pub fn store_made(model: &mut [u32]) {
     let number = hand_word(model, MADE) % 8 + 1;
     set_hand_word(model, MADE, number);
@@ -293,6 +304,7 @@ pub fn store_made(model: &mut [u32]) {
     await_at(model, number);
 }
 
+// Lets go of the write in hand.
 pub fn finish_write(model: &mut [u32]) {
     set_hand_word(model, KIND, NONE);
 }

@@ -10,7 +10,7 @@ fn line(label: &[u8], n: u64) {
     io::write_all(1, b"\n");
 }
 
-// a run of so many calls on so many nodes
+// Prints the line of a run of so many calls on so many nodes.
 pub fn run(nodes: u32, calls: u64, most: u32) {
     io::write_all(1, b"nodes\t");
     io::print_decimal(1, nodes as u64);
@@ -82,7 +82,7 @@ fn steps(counts: &[u64]) {
     line(b"store detach", tally::get(counts, tally::STEPS + 5));
 }
 
-// a rotation's step: grow left, grow right, pass left, pass right, borrow left, borrow right
+// Prints the counts of a rotation's step, by purpose (insert, red sibling, black sibling) and side.
 fn rotation(label: &[u8], counts: &[u64], step: usize)
     requires { ⌜ step < 5 ⌝ }
 {
@@ -99,7 +99,7 @@ fn rotation(label: &[u8], counts: &[u64], step: usize)
 fn rotations(counts: &[u64]) {
     io::write_all(
         1,
-        b"stores of rotations\tgrow L\tgrow R\tpass L\tpass R\tborrow L\tborrow R\n",
+        b"stores of rotations\tinsert L\tinsert R\tred sibling L\tred sibling R\tblack sibling L\tblack sibling R\n",
     );
     rotation(b"store diag lower", counts, 0);
     rotation(b"store diag raise", counts, 1);
@@ -123,6 +123,7 @@ fn comparisons(counts: &[u64]) {
     line(b"differences", tally::get(counts, tally::DIFFERENCES));
 }
 
+// Prints every count.
 pub fn all(counts: &[u64]) {
     calls(counts);
     refusals(counts);

@@ -53,10 +53,12 @@ pub const STEPS: usize = 60;
 
 pub const ROTATIONS: usize = 68;
 
+// Answers the count of a row.
 pub fn get(counts: &[u64], row: usize) -> u64 {
     if row < counts.len() { counts[row] } else { 0 }
 }
 
+// Adds n to the count of a row.
 pub fn add(counts: &mut [u64], row: usize, n: u64) {
     if row < counts.len() {
         if counts[row] <= MOST - n {
@@ -65,11 +67,12 @@ pub fn add(counts: &mut [u64], row: usize, n: u64) {
     }
 }
 
+// Adds one to the count of a row.
 pub fn one(counts: &mut [u64], row: usize) {
     add(counts, row, 1);
 }
 
-// a comparison: what differs is counted
+// Notes a comparison: what differs is counted.
 pub fn same(counts: &mut [u64], ok: bool) {
     if !ok {
         one(counts, DIFFERENCES);

@@ -27,6 +27,7 @@ fn word(pool: &[u32], n: u32, f: usize) -> u32 {
     if at < pool.len() { pool[at] } else { 0 }
 }
 
+// Answers how many nodes the pool has.
 pub fn nodes(pool: &[u32]) -> u32 {
     if pool.len() < numbers::POOL_WORDS {
         (pool.len() / numbers::NODE_WORDS) as u32
@@ -35,7 +36,7 @@ pub fn nodes(pool: &[u32]) -> u32 {
     }
 }
 
-// how many nodes stand free
+// Answers how many nodes stand free.
 pub fn free_nodes(pool: &[u32]) -> u32 {
     let capacity = nodes(pool);
     let mut free: u32 = 0;

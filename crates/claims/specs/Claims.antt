@@ -1,71 +1,195 @@
--- The claims of demand 3 once more, for a pool just set up, each over a small definition of its own that ties it to the calls and to the
--- plain list: what a call answers, what the plain list has after so many calls, what stands free. The must-fail edits of this crate change
--- one of these definitions, and then the theorem no longer gives the claim.
+-- What the promise (crate theorem) excludes, each by a run that is computed (Computed): 01's useless indexes ('What pins the work', 2), and
+-- claims that come near to those of demand 3 and are false. An index is excluded if what a clause says of one of its calls is false.
 use Prim.Native.Nat.{ℕ, _+_, _<_, _≤_}
-use mathlib.Core.Path.{_≡_}
-use mathlib.Core.Bool.{false}
+use mathlib.Core.Path.{_≡_, sym, ap, _∙_}
+use mathlib.Core.Bool.{true, false, false≢true}
 use mathlib.Core.List.{List}
-use mathlib.Core.Option.{none, some}
-use lib.ListN.{length}
+use mathlib.Core.Option.{Option, none, some}
+use mathlib.Core.Logic.{_≢_, _⊎_, inl, inr, ⊎-map, ⊎-elim, _↔_}
+use native.Mathlib.Omega.{arith}
+use native.Mathlib.Decide.{ℕ-discrete}
+use lib.ListN.{length, getD}
+use Rattle.datatypes.specs.declared.Side.the-variants.{L, R}
+use Rattle.datatypes.specs.declared.Link.{Link}
+use Rattle.datatypes.specs.declared.Link.the-variants.{Root, Left}
+use Rattle.datatypes.specs.declared.Register.{Register}
+use Rattle.base.specs.Lists.{_∈_, Distinct, length-within, numbersFrom, numbers-in, numbers-distinct, getD-same}
 use Rattle.sequential.specs.Tree.{leaf}
 use Rattle.sequential.specs.Delete.{changedBy}
-use Rattle.spec.specs.Numbers.{leastNodes, mostNodes}
-use Rattle.spec.specs.Pool.{word, nodes, standingWord, standingFree}
-use Rattle.spec.specs.Register.{State}
-use Rattle.spec.specs.Calls.{Answer, absent, found, Call, turning, call, writeInHand}
-use Rattle.spec.specs.PlainList.{Ticket, recordFor, acceptedWrites}
-use Rattle.promise.specs.Run.{justSetUp, callAt, indexAfter, plainAfter, ticketsAfter, Lookup}
-use Rattle.promise.specs.Demands.{Going, answerOf, Reaches, Stands}
+use Rattle.spec.specs.Numbers.{leastNodes, mostNodes, slots}
+use Rattle.spec.specs.Pool.{word, child, nodes, keyWord, standingFree, standingLinked, standingRetired}
+use Rattle.spec.specs.Register.{State, state, noReader, nodeAt, hasSlot, isRoot}
+use Rattle.spec.specs.Calls.{Answer, go, absent, found, refused, Call, inserting, call, writeInHand}
+use Rattle.spec.specs.PlainList.{recordFor, acceptedWrites}
+use Rattle.promise.specs.Run.{justSetUp, Reads, indexAfter, plainAfter, ticketsAfter, Reading}
+use Rattle.promise.specs.Demands.{AtOneMoment, turnAt, Going, ends, goes, answerOf, Leads, arrived, onward, Reaches, Stands, FreeRight}
+use Rattle.promise.specs.Demands.{standingAt, StoresOne, PromiseFrom}
+use Rattle.readers.specs.Reach.{leads-there}
 use Rattle.theorem.specs.Theorem.{promise}
+use Rattle.claims.specs.Computed.{start, lookup, rotation, before, threeKeys, computed}
 
--- what a call answers
-abbrev pub answerTo : State → Call → Answer
-answerTo st c = call st c .answer
+promised : (cs : List Call) → PromiseFrom start cs
+promised = promise 8 (omega arith) (omega arith)
 
--- the index after t calls on a pool of N nodes just set up, and the plain list's tickets
-abbrev pub at : ℕ → List Call → ℕ → State
-at N cs t = indexAfter (justSetUp N) cs t
+-- Useless indexes, as 01 orders them. One that waits with no awaited slot reading: its first insert's turn, call 1 of `lookup`, would answer wait,
+-- and `waits` would name a slot that is reading.
+pub waits-for-none : ¬ ((s : ℕ) × (s < slots) × (hasSlot (indexAfter start lookup 1 .register .awaited) s ≡ true) × Reads (indexAfter start lookup 1) s)
+waits-for-none (s, a, b, e) =
+    let none-reads = ap (λ xs. getD xs s noReader .reading) (computed .readers1) ∙ ap (λ x. x .reading) (getD-same noReader slots s) in
+    false≢true (sym none-reads ∙ e)
 
-abbrev pub listed : ℕ → List Call → ℕ → List Ticket
-listed N cs t = ticketsAfter (justSetUp N) cs t
+-- One that makes all stores in a write's first turn: the first turn of the insert of 2 (`rotation`) would answer done with some link l and node n,
+-- and leave the sequential tree (`atRest`), its nodes linked (`linked`). `oneStore` would say that this is one store.
+linked-before : (m : ℕ) → standingAt before m ≡ standingLinked → (m ≡ 1) ⊎ (m ≡ 2)
+linked-before m e = leads (before .register .root) (promised rotation .demand2 .linked 5 m .0 e) .0 (computed .root)
+  where
+    p : List ℕ
+    p = before .pool
 
--- a node stands free
-abbrev pub Free : State → ℕ → Type 0
-Free st m = word (st .pool) m standingWord ≡ standingFree
+    leads : (a : ℕ) → Leads (before .pool) a m → (a ≡ 1 → (m ≡ 1) ⊎ (m ≡ 2)) × (a ≡ 2 → m ≡ 2)
+    leads a (arrived _ d) = (inl, λ e. e)
+    leads a (onward _ _ L d l) = (λ e. inr (leads (child p L a) l .1 (rw e (computed .left1))), λ e. absurd (leads-there p _ m l (rw e (computed .left2))))
+    leads a (onward _ _ R d l) = (λ e. absurd (leads-there p _ m l (rw e (computed .right1))), λ e. absurd (leads-there p _ m l (rw e (computed .right2))))
 
--- the calls before t have been made
-abbrev pub AtMoment : ℕ → ℕ → ℕ → Type 0
-AtMoment i j t = (i < t) × (t ≤ j + 1)
+one-linked : standingAt before 1 ≡ standingLinked
+one-linked = promised rotation .demand2 .linked 5 1 .1 (rw (computed .root) (arrived 1 (omega arith)))
 
+module _ (after : State) (l : Link) (n : ℕ) (linked : (m : ℕ) → (standingAt after m ≡ standingLinked) ↔ Leads (after .pool) (after .register .root) m)
+    (tree : Stands (after .pool) (after .register .root) threeKeys) (one : StoresOne before after l n) where
+  abbrev q : List ℕ
+  q = after .pool
+
+  abbrev top : ℕ
+  top = after .register .root
+
+  abbrev right : ℕ
+  right = child q R top
+
+  -- node 1 keeps key 3, node 2 key 1
+  old-key : (m : ℕ) → standingAt before m ≡ standingLinked → ((m ≡ 1) × (word q m keyWord ≡ 3)) ⊎ (word q m keyWord ≡ 1)
+  old-key m e = ⊎-map (λ i. (i, one .tickets m e .0 ∙ rw i (computed .key1))) (λ i. one .tickets m e .0 ∙ rw i (computed .key2)) (linked-before m e)
+
+  -- so the top, with key 2, is the one node that comes,
+  top-new : standingAt before top ≢ standingLinked
+  top-new e = let k = tree .2 in ⊎-elim (λ x. let y = x .1 in omega arith) (λ y. omega arith) (old-key top e)
+
+  top-is : top ≡ n
+  top-is = one .comes top top-new (linked top .1 (arrived top (let a = tree .0 in omega arith)))
+
+  -- its right child, with key 3, is node 1,
+  right-linked : standingAt after right ≡ standingLinked
+  right-linked = linked right .1 (onward top right R (let a = tree .0 in omega arith) (arrived right (let a = tree .6 .0 in omega arith)))
+
+  right-is : right ≡ 1
+  right-is = elim (ℕ-discrete (standingAt before right) standingLinked) [
+    | yes e ↦ (let k = tree .6 .2 in ⊎-elim (λ x. x .0) (λ y. absurd (omega arith)) (old-key right e))
+    | no d ↦
+        (let same = ap (λ m. word q m keyWord) (one .comes right d right-linked ∙ sym top-is) in
+        let j = tree .2 in
+        let k = tree .6 .2 in
+        absurd (omega arith))
+  ]
+
+  -- and both the root and node 1's left link have changed
+  root-stored : Root ≢ l → ⊥
+  unfolding nodeAt
+  root-stored d = let i : top ≡ 1 = one .others Root d tt ∙ computed .root in top-new (rw i one-linked)
+
+  left-stored : Left 1 ≢ l → ⊥
+  unfolding nodeAt
+  left-stored d =
+      let was : child q L 1 ≡ 2 = one .others (Left 1) d one-linked ∙ computed .left1 in
+      let is : child q L 1 ≡ 0 = rw (← right-is) (tree .6 .5) in
+      omega arith
+
+pub all-at-once : (after : State) (l : Link) (n : ℕ) → ((m : ℕ) → (standingAt after m ≡ standingLinked) ↔ Leads (after .pool) (after .register .root) m)
+    → Stands (after .pool) (after .register .root) (changedBy leaf (acceptedWrites (plainAfter start rotation 5))) → ¬ (StoresOne before after l n)
+all-at-once after l n linked stands one =
+    let tree : Stands (after .pool) (after .register .root) threeKeys = rw (computed .tree) at stands in
+    root-stored after l n linked tree one (λ e. left-stored after l n linked tree one (λ f. false≢true (ap isRoot (f ∙ sym e))))
+
+-- One that does nothing: a turn of a write in hand makes a store (`goesOn`), and no store (`oneStore`) leaves the index as it was.
+pub does-nothing : (st : State) (l : Link) (n : ℕ) → ¬ (StoresOne st st l n)
+does-nothing st l n h = h .moved (h .holds)
+
+-- An invented free count: with the same pool, no other count than the right one is right.
+pub invented-count : (st : State) (r : Register) → FreeRight st → FreeRight (state (st .pool) r) → r .free ≡ st .register .free
+invented-count st r h k =
+    let a = length-within (h .queue) (k .queue) (h .once) (λ n i. k .standing n .1 (h .standing n .0 i)) in
+    let b = length-within (k .queue) (h .queue) (k .once) (λ n i. h .standing n .1 (k .standing n .0 i)) in
+    let c = h .counted in
+    let d = k .counted in
+    omega arith
+
+-- Lookups always absent: slot 0's turn, call 3 of `lookup`, would answer absent, and `whenAbsent` would name a moment of its lookup, which call 2
+-- began, without the key.
+none-some : (v : ℕ) → ¬ (_≡_ {A = Option ℕ} none (some v))
+none-some v e = let z : _≡_ {A = ℕ} 0 1 = cc in omega arith
+
+pub always-absent : ¬ (AtOneMoment start lookup 3 2 3 none)
+always-absent (t, a, b, e) = elim (ℕ-discrete t 3) [
+  | yes i ↦ none-some 30 (sym e ∙ rw i (computed .listed3))
+  | no d ↦ (let i : t ≡ 4 = omega arith in none-some 30 (sym e ∙ rw i (computed .listed4)))
+]
+
+-- Always 11: an insert on an index just set up is accepted.
+pub always-11 : call (start .index) (inserting 3 30) .answer ≢ refused 11
+always-11 e = let f = computed .accepted in let z : _≡_ {A = ℕ} 0 1 = cc in omega arith
+
+-- Claims near to those of demand 3 that are false. A list that changes one call early: `everyKey` with the tickets of the next moment. After the
+-- insert of 3, before its turn, going from the root would find it.
+pub list-one-call-early : ¬ ((cs : List Call) (j k : ℕ) → Going (indexAfter start cs j) k 0 (answerOf (recordFor k (ticketsAfter start cs (j + 1)))))
+list-one-call-early h =
+    let g : Going (indexAfter start lookup 1) 3 0 (found 30) = rw (computed .listed2) at (h lookup 1 3) in
+    let e = ended (indexAfter start lookup 1) 3 0 (found 30) (computed .turn1) g in
+    let z : _≡_ {A = ℕ} 0 1 = cc in
+    omega arith
+  where
+    ended : (st : State) (k m : ℕ) (a : Answer) → turnAt st k m .answer ≡ absent → Going st k m a → absent ≡ a
+    ended st k m a e (ends _ _ f) = sym e ∙ f
+    ended st k m a e (goes _ _ f g) = absurd (let i : _≡_ {A = Answer} absent go = sym e ∙ f in let z : _≡_ {A = ℕ} 0 1 = cc in omega arith)
+
+-- Retired counted as free, in `notFree`: a node that a reader could reach doesn't stand retired. Slot 0 stands at node 1, which is retired.
+pub retired-reached : ¬ ((cs : List Call) (s k i j t m u : ℕ) → Reading start cs s k i j → i < t → Reaches (indexAfter start cs t) s m → t ≤ u → u ≤ j
+    → standingAt (indexAfter start cs u) m ≢ standingRetired)
+retired-reached h =
+    let st = indexAfter start lookup 6 in
+    let r = promised lookup .demand3 .lookups .inLookup 0 6 (omega arith) (computed .reads6) in
+    let leads : Leads (st .pool) 1 1 = arrived 1 (omega arith) in
+    let reaches : Reaches st 0 1 = record { slot = omega arith; reads = computed .reads6; leads = rw (computed .origin6) leads } in
+    h lookup 0 (r .0) (r .1) 6 6 1 6 (r .2) (r .2 .later) reaches (omega arith) (omega arith) (computed .retired6)
+
+-- and in `FreeRight`: the free count is the number of nodes that stand free or retired. There all eight do, and the count is seven.
+pub record RetiredCounted (st : State) : Type 0 where
+  pub listed : List ℕ
+  pub once : Distinct listed
+  pub standing : (n : ℕ) → (n ∈ listed) ↔ ((1 ≤ n) × (n ≤ nodes (st .pool)) × ((standingAt st n ≡ standingFree) ⊎ (standingAt st n ≡ standingRetired)))
+  pub counted : st .register .free ≡ length listed
+
+pub retired-counted : ¬ (RetiredCounted (indexAfter start lookup 6))
+retired-counted h =
+    let all = length-within (numbersFrom 8 1) (h .listed) (numbers-distinct 8 1) in-list in
+    let seven = computed .free6 in
+    let counted = h .counted in
+    omega arith
+  where
+    in-list : (n : ℕ) → n ∈ numbersFrom 8 1 → n ∈ h .listed
+    in-list n i =
+        let d = promised lookup .demand2 in
+        let size = d .size 6 in
+        let a = numbers-in 8 1 n .0 i in
+        let b = a .1 in
+        h .standing n .1 (
+          a .0,
+          omega arith,
+          ⊎-elim (λ e. absurd (leads-there _ _ n (d .linked 6 n .0 e) (computed .root6))) (λ x. x) (d .standing 6 n (a .0) (omega arith)),
+        )
+
+-- With no write in hand the tree is the sequential one of the writes accepted, from `leaf` on; the pool keeps its N nodes.
 module _ (N : ℕ) (low : leastNodes ≤ N) (high : N ≤ mostNodes) (cs : List Call) where
-  -- after every call the index holds exactly the plain list's tickets
-  pub holds-right : (j k : ℕ) → Going (at N cs j) k 0 (answerOf (recordFor k (listed N cs j)))
-  holds-right j k = promise N low high cs .demand3 .holds .everyKey j k
-
-  pub count-right : (j : ℕ) → at N cs j .register .held ≡ length (listed N cs j)
-  count-right j = promise N low high cs .demand3 .holds .keysHeld j
-
-  -- every lookup that answers absent gives what the plain list gives at one of its moments
-  pub absent-right : (s k i j : ℕ) → Lookup (justSetUp N) cs s k i j → callAt cs j ≡ some (turning s) → answerTo (at N cs j) (turning s) ≡ absent
-      → (t : ℕ) × AtMoment i j t × (recordFor k (listed N cs t) ≡ none)
-  absent-right s k i j l c a =
-      let h = promise N low high cs .demand3 .lookups .whenAbsent s k i j l (c, a) in
-      (h .0, (h .1, h .2), h .3)
-
-  -- and every one that answers found
-  pub found-right : (s k i j v : ℕ) → Lookup (justSetUp N) cs s k i j → callAt cs j ≡ some (turning s) → answerTo (at N cs j) (turning s) ≡ found v
-      → (t : ℕ) × AtMoment i j t × (recordFor k (listed N cs t) ≡ some v)
-  found-right s k i j v l c a =
-      let h = promise N low high cs .demand3 .lookups .whenFound s k i j v l (c, a) in
-      (h .0, (h .1, h .2), h .3)
-
-  -- a node that a reader could reach doesn't stand free until its lookup ends
-  pub kept-right : (s k i j t m u : ℕ) → Lookup (justSetUp N) cs s k i j → i < t → Reaches (at N cs t) s m → t ≤ u → u ≤ j → ¬ (Free (at N cs u) m)
-  kept-right s k i j t m u l a r b c = promise N low high cs .demand3 .kept .notFree s k i j t m u l a r b c
-
-  -- with no write in hand the tree is the sequential one of the writes accepted, from `leaf` on; the pool keeps its N nodes
-  pub rest-right : (j : ℕ) → writeInHand (at N cs j) ≡ false → Stands (at N cs j .pool) (at N cs j .register .root) (changedBy leaf (acceptedWrites (plainAfter (justSetUp N) cs j)))
+  pub rest-right : (j : ℕ) → writeInHand (indexAfter (justSetUp N) cs j) ≡ false
+      → Stands (indexAfter (justSetUp N) cs j .pool) (indexAfter (justSetUp N) cs j .register .root) (changedBy leaf (acceptedWrites (plainAfter (justSetUp N) cs j)))
   rest-right j e = promise N low high cs .demand2 .atRest j e
 
-  pub size-right : (j : ℕ) → nodes (at N cs j .pool) ≡ N
+  pub size-right : (j : ℕ) → nodes (indexAfter (justSetUp N) cs j .pool) ≡ N
   size-right j = promise N low high cs .demand2 .size j

@@ -1,1 +1,1 @@
-// No code: the promise's claims once more, in small words of their own.
+// No code: what the promise excludes, by runs that are computed.

@@ -1,4 +1,4 @@
-// The commands of the program trace, each run on the words lent.
+// The commands of the program trace: each is run on the words lent.
 use answer_lines::Said;
 use command_fields::Command;
 use datatypes::ReaderReply;
@@ -68,7 +68,7 @@ fn show(pool: &[u32], reg: Register) -> Called
     }
 }
 
-// a command's call on the pool lent
+// Makes a command's call on the pool lent.
 pub fn call(pool: &mut [u32], reg: Register, c: Command) -> Called
     ensures { λ r. ⌜ says (r .said) ≡ called (state (now (pool .entry)) reg) c .answer ⌝ }
     ensures { λ r. ⌜ state (now (pool .exit)) (r .register) ≡ called (state (now (pool .entry)) reg) c .after ⌝ }
@@ -93,7 +93,7 @@ pub struct Performed {
     pub lent: usize,
 }
 
-// a command on the first `lent` of the words, the pool; answer, register and every word are document 01's
+// Runs a command on the first `lent` of the words, the pool; answer, register and every word are document 01's.
 pub fn perform(words: &mut [u32], lent: usize, reg: Register, c: Command) -> Performed
     requires { ⌜ (lent ≤ poolLimit) × (length (now words) ≡ poolLimit) ⌝ }
     ensures { λ r. ⌜ says (r .said) ≡ performed (now (words .entry)) lent reg c .answer ⌝ }

@@ -96,6 +96,7 @@ fn read(reply: ReaderReply) -> Made {
     }
 }
 
+// Sets up the index.
 pub fn set_up(pool: &mut [u32]) -> Made {
     accepted(index::set_up(pool, fresh::fresh_register(0)))
 }
@@ -126,6 +127,7 @@ fn reader_turn(pool: &mut [u32], reg: Register, s: u32) -> Made {
     read(index::reader_turn(pool, reg, s))
 }
 
+// Makes a drawn call.
 pub fn call_index(pool: &mut [u32], reg: Register, call: Call) -> Made {
     if call.kind == draws::WRITER_TURN {
         return writer_turn(pool, reg);
@@ -136,7 +138,7 @@ pub fn call_index(pool: &mut [u32], reg: Register, call: Call) -> Made {
     asked(pool, reg, call)
 }
 
-// the step of the store in hand
+// Answers the step of the store in hand.
 pub fn step_in_hand(reg: Register) -> Step {
     let hand = reg.write;
     let first = hand.stores[0];

@@ -26,6 +26,7 @@ fn slot_foretold(model: &[u32], s: u32) -> u32 {
     5
 }
 
+// Compares the answer of a begin, and begins the lookup in the model.
 pub fn begin(model: &mut [u32], counts: &mut [u64], call: Call, number: u32) {
     let foretold = begin_foretold(model, call.slot);
     writing::answered(counts, number, foretold);
@@ -82,12 +83,14 @@ fn turn_number(number: u32) -> u32 {
     }
 }
 
+// Compares the answer of a reader's turn; found and absent are held against the lookup's moments.
 pub fn reader_turn(model: &mut [u32], counts: &mut [u64], s: u32, number: u32, record: u32) {
     let foretold = slot_foretold(model, s);
     writing::answered(counts, turn_number(number), foretold);
     follow_turn(model, counts, s, number, record);
 }
 
+// Compares the answer of a give up, and ends the lookup in the model.
 pub fn give_up(model: &mut [u32], counts: &mut [u64], s: u32, number: u32) {
     let foretold = slot_foretold(model, s);
     writing::answered(counts, number, foretold);

@@ -15,13 +15,14 @@ fn count_refusal(counts: &mut [u64], number: u32) {
     }
 }
 
-// an answer beside the one foretold
+// Compares an answer with the one foretold.
 pub fn answered(counts: &mut [u64], number: u32, foretold: u32) {
     count_refusal(counts, number);
     tally::same(counts, number == foretold);
     tally::one(counts, tally::ANSWERS);
 }
 
+// Compares the answer of set up.
 pub fn set_up(counts: &mut [u64], number: u32) {
     answered(counts, number, calls::ACCEPTED);
     tally::one(counts, tally::CALLS);
@@ -65,7 +66,7 @@ fn begin_insert(tree: &mut [u32], model: &mut [u32], counts: &mut [u64], call: C
     tally::one(counts, tally::ACCEPTED + 1);
 }
 
-// free: the free nodes before the call
+// Compares the answer of an insert, and makes an accepted one in the reference tree. `free`: the free nodes before the call.
 pub fn insert(
     nodes: u32,
     tree: &mut [u32],
@@ -104,6 +105,7 @@ fn begin_delete(tree: &mut [u32], model: &mut [u32], counts: &mut [u64], key: u3
     tally::one(counts, tally::ACCEPTED + 2);
 }
 
+// Compares the answer of a delete, and makes an accepted one in the reference tree. `free`: the free nodes before the call.
 pub fn delete(
     tree: &mut [u32],
     model: &mut [u32],
@@ -158,7 +160,7 @@ fn rotation_row(step: usize, side: Side, purpose: Purpose) -> usize
     tally::ROTATIONS + step * 6 + purpose_column(purpose) + side_column(side)
 }
 
-// the row of a store
+// Answers the row of a store.
 pub fn step_row(step: Step) -> usize {
     match step {
         Step::Vacant => tally::STEPS + 6,
@@ -226,6 +228,7 @@ fn count_step(counts: &mut [u64], number: u32, row: usize) {
     }
 }
 
+// Compares the answer of a writer's turn; after the last one the trees are walked together.
 pub fn writer_turn(
     pool: &[u32],
     root: u32,

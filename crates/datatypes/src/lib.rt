@@ -20,9 +20,9 @@ pub enum Form {
 }
 
 // What a rotation is for, and so its colours.
-// Grow: an insert's; copies red, the risen node black.
-// Pass: a delete's with a red sibling; colours as in Grow, and the work goes on under the copy.
-// Borrow: a delete's last; copies and the outer child black, the risen node takes the top's colour.
+// ForInsert: an insert's only rotation; copies red, the risen node black.
+// RedSibling: a delete's first, under a red sibling; colours as in ForInsert, and the work goes on under the copy.
+// BlackSibling: a delete's last; copies and the outer child black, the risen node takes the top's colour.
 pub enum Purpose {
     ForInsert,
     RedSibling,
@@ -79,7 +79,7 @@ pub struct Reader {
     pub node: u32,
 }
 
-// The register: root, free queue, counts, readers, awaited slots (a bit a slot), the write in hand.
+// The register: root, free queue, counts, readers, awaited slots (one bit for each slot), the write in hand.
 pub struct Register {
     pub root: u32,
     pub first: u32,
@@ -156,17 +156,19 @@ pub enum ReaderAnswer {
     Refused(u32),
 }
 
-// What the calls give back: the answer and the register.
+// What set up, insert, delete, begin and give up give back: the answer and the register.
 pub struct Reply {
     pub answer: Acceptance,
     pub register: Register,
 }
 
+// What a writer's turn gives back.
 pub struct WriterReply {
     pub answer: WriterAnswer,
     pub register: Register,
 }
 
+// What a reader's turn gives back.
 pub struct ReaderReply {
     pub answer: ReaderAnswer,
     pub register: Register,

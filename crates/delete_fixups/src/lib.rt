@@ -13,6 +13,7 @@ ghost use Rattle.spec.specs.Register.{state, nodeAt};
 ghost use Rattle.spec.specs.Plan.{twoChildren, onlyChild, fixupAfterRemoval, paintEnd, paintDeleteFixup};
 ghost use Rattle.paths.specs.Upward.{mostLinks, upward};
 
+// Tests whether node b has two children.
 pub fn two_children(pool: &[u32], b: u32) -> bool
     ensures { λ r. ⌜ r ≡ twoChildren (now (pool .entry)) b ⌝ }
 {
@@ -21,7 +22,7 @@ pub fn two_children(pool: &[u32], b: u32) -> bool
     (left != 0) & (right != 0)
 }
 
-// the child of a node that has at most one, or 0
+// Answers the child of a node that has at most one, or 0.
 pub fn only_child(pool: &[u32], b: u32) -> u32
     ensures { λ r. ⌜ r ≡ onlyChild (now (pool .entry)) b ⌝ }
 {
@@ -30,7 +31,7 @@ pub fn only_child(pool: &[u32], b: u32) -> u32
     counts::choose(left == 0, right, left)
 }
 
-// The fix-up after the colour of node n is lost at the end of a path of that depth, where x came.
+// Finds where the fix-up ends after the colour of node n is lost at the end of a path of that depth, where x came.
 pub fn fixup_after_removal(pool: &[u32], n: u32, x: u32, path: &[u64], depth: u32) -> Fixup
     requires { ⌜ (depth ≤ length (now path)) × (depth ≤ mostLinks) ⌝ }
     ensures { λ r. ⌜ r ≡ fixupAfterRemoval (now (pool .entry)) n x (upward (now (path .entry)) depth) ⌝ }
@@ -68,7 +69,7 @@ fn paint_end(pool: &mut [u32], e: Ending, n: u32)
     }
 }
 
-// The colours of a fix-up along a path of that depth, where x came. Of the register only the root is read.
+// Paints the colours of a fix-up along a path of that depth, where x came. Of the register only the root is read.
 pub fn paint_delete_fixup(pool: &mut [u32], root: u32, fix: Fixup, x: u32, path: &[u64], depth: u32)
     requires { ⌜ depth ≤ length (now path) ⌝ }
     ensures { λ _. ⌜ ((reg : Register) → reg .root ≡ root → now (pool .exit) ≡ paintDeleteFixup (state (now (pool .entry)) reg) fix x (upward (now (path .entry)) depth) .pool) ⌝ }

@@ -15,13 +15,14 @@ ghost use Rattle.spec.specs.Plan.{fixupResult, insertFixup, paintInsertFixup, r
 ghost use Rattle.spec.specs.Turn.{nodesFound};
 ghost use Rattle.paths.specs.Upward.{mostLinks, upward};
 
+// Makes a fix-up that passed so many levels and ended so.
 pub fn fixup_result(levels: u32, ending: Ending) -> Fixup
     ensures { λ r. ⌜ r ≡ fixupResult levels ending ⌝ }
 {
     Fixup { levels, ending }
 }
 
-// whether a fix-up ended at a node that is not there
+// Tests whether a fix-up ended at a node that is not there.
 pub fn missing(e: Ending) -> bool
     ensures { λ r. ⌜ r ≡ missing e ⌝ }
 {
@@ -34,7 +35,7 @@ pub fn missing(e: Ending) -> bool
     }
 }
 
-// whether a fix-up found every node that it names
+// Tests whether a fix-up found every node that it names.
 pub fn nodes_found(fix: Fixup) -> bool
     ensures { λ r. ⌜ r ≡ nodesFound fix ⌝ }
 {
@@ -43,7 +44,7 @@ pub fn nodes_found(fix: Fixup) -> bool
     !gone
 }
 
-// The insert fix-up from a path's link at that depth, with so many levels passed.
+// Goes up from a path's link at that depth, with so many levels passed, and finds where the insert fix-up ends.
 pub fn insert_fixup(pool: &[u32], path: &[u64], depth: u32, levels: u32) -> Fixup
     requires { ⌜ (depth ≤ length (now path)) × (levels + depth ≤ mostLinks) ⌝ }
     ensures { λ r. ⌜ r ≡ insertFixup (now (pool .entry)) levels (upward (now (path .entry)) depth) ⌝ }
@@ -90,7 +91,7 @@ fn paint_level(pool: &mut [u32], parent: u32, aunt: u32, grandparent: u32)
     pool::set_word(pool, grandparent, pool::COLOUR, pool::RED);
 }
 
-// The colours of so many levels from a path's link at that depth.
+// Paints so many levels up from a path's link at that depth: parent and aunt black, grandparent red.
 pub fn paint_insert_fixup(pool: &mut [u32], path: &[u64], depth: u32, levels: u32)
     requires { ⌜ depth ≤ length (now path) ⌝ }
     ensures { λ _. ⌜ now (pool .exit) ≡ paintInsertFixup levels (upward (now (path .entry)) depth) (now (pool .entry)) ⌝ }
@@ -110,7 +111,7 @@ pub fn paint_insert_fixup(pool: &mut [u32], path: &[u64], depth: u32, levels: u3
     }
 }
 
-// whether a child of w is red
+// Tests whether a child of w is red.
 pub fn red_child(pool: &[u32], w: u32) -> bool
     ensures { λ r. ⌜ r ≡ redChild (now (pool .entry)) w ⌝ }
 {
@@ -153,7 +154,7 @@ fn red_sibling(pool: &[u32], l: Link, z: Side, w: u32) -> Ending
     Ending::Rotate(first)
 }
 
-// The delete fix-up from a path's link at that depth, where x came, with so many levels passed.
+// Goes up from a path's link at that depth, where x came, with so many levels passed, and finds where the delete fix-up ends.
 pub fn delete_fixup(pool: &[u32], path: &[u64], depth: u32, levels: u32, x: u32) -> Fixup
     requires { ⌜ (depth ≤ length (now path)) × (levels + depth ≤ mostLinks) ⌝ }
     ensures { λ r. ⌜ r ≡ deleteFixup (now (pool .entry)) levels x (upward (now (path .entry)) depth) ⌝ }
@@ -192,7 +193,7 @@ pub fn delete_fixup(pool: &[u32], path: &[u64], depth: u32, levels: u32, x: u32)
     }
 }
 
-// The colours of so many levels from a path's link at that depth: each sibling red.
+// Paints so many levels up from a path's link at that depth: each sibling red.
 pub fn paint_delete_levels(pool: &mut [u32], path: &[u64], depth: u32, levels: u32)
     requires { ⌜ depth ≤ length (now path) ⌝ }
     ensures { λ _. ⌜ now (pool .exit) ≡ paintDeleteLevels levels (upward (now (path .entry)) depth) (now (pool .entry)) ⌝ }

@@ -10,6 +10,7 @@ ghost use lib.Dec.{eqb};
 ghost use Rattle.spec.specs.Register.{setLink};
 ghost use Rattle.heads.specs.Head.{headOf, withHead, awaiting, Follows, missedBy};
 
+// Takes the head out of a register.
 pub fn head_of(reg: Register) -> Head
     ensures { λ r. ⌜ r ≡ headOf reg ⌝ }
 {
@@ -23,6 +24,7 @@ pub fn head_of(reg: Register) -> Head
     }
 }
 
+// Puts a head into a register.
 pub fn with_head(reg: Register, h: Head) -> Register
     ensures { λ r. ⌜ r ≡ withHead reg h ⌝ }
 {
@@ -36,7 +38,7 @@ pub fn with_head(reg: Register, h: Head) -> Register
     r
 }
 
-// the answer of a step that names a node where there is none
+// Makes the result of a step that names a node where there is none, or finds no free node: nothing is changed.
 pub fn missed(head: Head) -> StepResult
     ensures { λ r. ⌜ r ≡ missedBy head ⌝ }
 {
@@ -48,7 +50,7 @@ pub fn missed(head: Head) -> StepResult
     }
 }
 
-// stores a link
+// Stores node v in the link l: the root's in the head, any other in the pool.
 pub fn set_link(pool: &mut [u32], h: Head, l: Link, v: u32) -> Head
     ensures { λ r. ⌜ Follows (λ st. setLink st l v) (now (pool .entry)) h (now (pool .exit)) r ⌝ }
 {
@@ -69,7 +71,7 @@ pub fn set_link(pool: &mut [u32], h: Head, l: Link, v: u32) -> Head
     }
 }
 
-// One key less is held, and all reading slots are awaited.
+// Counts one key less, and awaits all reading slots.
 pub fn await_readers(h: Head, reading: u32) -> Head
     ensures { λ r. ⌜ r ≡ awaiting h reading ⌝ }
 {
@@ -79,7 +81,7 @@ pub fn await_readers(h: Head, reading: u32) -> Head
     r
 }
 
-// whether some slot is awaited; a turn then waits
+// Tests whether some slot is awaited; a turn then waits.
 pub fn some_awaited(awaited: u32) -> bool
     ensures { λ r. ⌜ r ≡ not (eqb awaited 0) ⌝ }
 {

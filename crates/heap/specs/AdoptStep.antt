@@ -37,7 +37,7 @@ form-count fs B C l x y i =
 
 module _ (st : State) (G : Tree) (d : Double) (h : At st (d .way) (doubleTop d [])) (plan : DoublePlan (colours (st .pool)) G d []) where
   open Double d using (way as fs, B, C, left as l, right as y)
-  open DoublePlan plan using (sound as good)
+  open DoublePlan plan using (left-there, sound as good)
 
   abbrev f : ℕ → Colour
   f = colours (st .pool)
@@ -74,7 +74,7 @@ module _ (st : State) (G : Tree) (d : Double) (h : At st (d .way) (doubleTop d [
       rw adopt-is record {
         tree = plug fs (adopted d);
         gone = [];
-        shift = rw (rep-num (st .pool) n l (top .near)) (by-adopt fs B C l y (ordered-bare f _ (doubleTree d []) (good .proper .ordered)) (good .once));
+        shift = rw (rep-num (st .pool) n l (top .near)) (by-adopt fs B C l y left-there (ordered-bare f _ (doubleTree d []) (good .proper .ordered)) (good .once));
         phase = rw e (replace-0 d site plan);
         parts = copied st st _ (Left (C .num)) n [] unchanged refl;
         size = raised .size;

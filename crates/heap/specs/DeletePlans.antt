@@ -169,7 +169,7 @@ module _ (st : State) (d : Double) (gs : List Frame) (along : Along L gs) (there
   goal = delete-other f2 fs gs B C l y into along there-left ∙ rw (way-append f2 gs (hole R (standIn B C) l ∷ fs))
 
   double-plan : DoublePlan f2 (SeqDelete.delete (erase f2 T2) (B .key)) d gs
-  double-plan = record { along = along; sound = h .sound; proper = changed-proper (erase f2 T2) (deletion (B .key)) (h .sound .proper); deletes = refl; goal = goal }
+  double-plan = record { along = along; left-there = there-left; sound = h .sound; proper = changed-proper (erase f2 T2) (deletion (B .key)) (h .sound .proper); deletes = refl; goal = goal }
 
   ending : fixupAfterRemoval (st .pool) (C .num) (child (st .pool) R (C .num)) (links old) .ending ≡ removalEnding (f2 (C .num)) f2 (colourOf (erase f2 y)) old
   ending = removal-ending (st .pool) (C .num) (child (st .pool) R (C .num)) (colourOf (erase f2 y)) old is-red sides fixup-finds

@@ -38,7 +38,7 @@ shift-same (by-zig-C fs s A B C m n a x y r h i z k d) =
 shift-same (by-zig-raise fs s A B C m n a x y r h i z k d) =
     let e = zig-ord fs s A B C m n a x y r h in
     same-lift fs (zig₂ s A B C m n a x y r) (zig₃ s A B C m n a x y r) (zig-raise-find s A B C m n a x y r (e .0) (e .1))
-shift-same (by-adopt fs B C l y h i) =
+shift-same (by-adopt fs B C l y a h i) =
     same-lift fs (form₀ L B C l y) (form₁ L B C l y) (adopt-find L B C l y (form-order L B C l y (ordered-within fs (form₀ L B C l y) h) .0))
 shift-same (by-detach fs gs B C n l y a h i z) =
     same-lift fs (third₁ L B C n l y gs) (third₂ L B C n l y gs) (detach-find L B C n l y gs (third-order L B C n l y gs (ordered-within fs (third₀ L B C n l y gs) h) .right))
@@ -59,7 +59,7 @@ shift-thin P (by-zig-raise fs s A B C m n a x y r h i z k d) g q =
     let e = zig-ord fs s A B C m n a x y r h in
     thin-lift fs (zig₂ s A B C m n a x y r) (zig₃ s A B C m n a x y r) q (zig-raise-path s A B C m n a x y r (e .0) (e .1) P (g (A .num) (inl refl)) (g (C .num) (inr (inl refl))) q)
 shift-thin P (by-unlink fs s B x h i) g q = thin-lift fs (at s B x nil) x q (unlink-path s B x P (g (B .num) (inl refl)) q)
-shift-thin P (by-adopt fs B C l y h i) g q = thin-lift fs (form₀ L B C l y) (form₁ L B C l y) q (adopt-path L B C l y P q)
+shift-thin P (by-adopt fs B C l y a h i) g q = thin-lift fs (form₀ L B C l y) (form₁ L B C l y) q (adopt-path L B C l y P q)
 shift-thin P (by-replace fs B C l y h i) g q =
     thin-lift fs (form₁ L B C l y) (form₂ L B C l y) q (replace-path L B C l y (form-order L B C l y (ordered-within fs (form₀ L B C l y) h) .1) P (g (B .num) (inl refl)) q)
 shift-thin P (by-detach fs gs B C n l y a h i z) g q = thin-lift fs (third₁ L B C n l y gs) (third₂ L B C n l y gs) q (detach-path L B C n l y gs P (g (C .num) (inl refl)) q)

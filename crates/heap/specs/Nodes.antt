@@ -40,7 +40,7 @@ shift-nodes (by-zig-A fs s A B C m a x y r h j z) i = simp (occ-plug, occ-at) (o
 shift-nodes (by-zig-C fs s A B C m n a x y r h j z k d) i = simp (occ-plug, occ-at) (omega arith)
 shift-nodes (by-zig-raise fs s A B C m n a x y r h j z k d) i = simp (occ-plug, occ-at) (omega arith)
 shift-nodes (by-unlink fs s B x h j) i = simp (occ-plug, occ-at) (omega arith)
-shift-nodes (by-adopt fs B C l y h j) i = simp (occ-plug, occ-at) (omega arith)
+shift-nodes (by-adopt fs B C l y a h j) i = simp (occ-plug, occ-at) (omega arith)
 shift-nodes (by-replace fs B C l y h j) i = simp (occ-plug, occ-at) (omega arith)
 shift-nodes (by-publish fs gs B C n l y a h j z) i = simp (occ-plug, occ-at) (omega arith)
 shift-nodes (by-detach fs gs B C n l y a h j z) i = simp (occ-plug, occ-at) (omega arith)
@@ -65,7 +65,7 @@ shift-left (by-zig-raise fs s A B C m n a x y r h j z k d) i q =
     let o1 = j i in
     omega arith
 shift-left (by-unlink fs s B x h j) i q = let a = occ-plug fs (at s B x nil) i in let b = occ-at s B x nil i in let c = occ-plug fs x i in let o = j i in omega arith
-shift-left (by-adopt fs B C l y h j) i q = absurd (omega arith)
+shift-left (by-adopt fs B C l y a h j) i q = absurd (omega arith)
 shift-left (by-replace fs B C l y h j) i q = let a = form-count fs B C l nil y i in let b = occ-plug fs (at L C l y) i in let c = occ-at L C l y i in let o = j i in omega arith
 shift-left (by-publish fs gs B C n l y a h j z) i q =
     let a = third-count fs gs B C l y i in

@@ -22,7 +22,7 @@ use Rattle.sequential.specs.Tree.{Colour, red, black, Tree, mk, colourOf}
 use Rattle.sequential.specs.Insert as SeqInsert
 use Rattle.sequential.specs.Delete.{blackOuter, afterRemoval, delete}
 use Rattle.tree.specs.Sorted.{NotLeaf}
-use Rattle.tree.specs.Linked.{Node, Linked, nil, at, nodes}
+use Rattle.tree.specs.Linked.{Node, Linked, nil, at, NotNil, nodes}
 use Rattle.tree.specs.LinkedOrder.{bare}
 use Rattle.tree.specs.Zipper.{Frame, plug, Into, Along}
 use Rattle.tree.specs.Erase.{erase, eraseWay}
@@ -157,6 +157,7 @@ module _ (f : ℕ → Colour) (G : Tree) where
   -- delete with two children, up to its list store
   pub record DoublePlan (d : Double) (down : List Frame) : Type 0 where
     pub along : Along L down
+    pub left-there : NotNil (d .left)
     pub sound : SoundBy f (doubleTree d down)
     pub proper : Proper G
     pub deletes : G ≡ delete (erase f (doubleTree d down)) (d .B .key)

@@ -23,7 +23,7 @@ use Rattle.spec.specs.Register.{State, linkNode, readingSlots}
 use Rattle.spec.specs.Turn.{Made, movedStore, movedWrite, profile, isListed, countedBy}
 use Rattle.sequential.specs.Tree.{Tree}
 use Rattle.sequential.specs.Proper.{Ordered}
-use Rattle.tree.specs.Linked.{Node, copy, Linked, nil, cell, at, nodes}
+use Rattle.tree.specs.Linked.{Node, copy, Linked, nil, cell, at, NotNil, nodes}
 use Rattle.tree.specs.LinkedOrder.{bare}
 use Rattle.tree.specs.Zipper.{Frame, hole, plug, Into, Along}
 use Rattle.tree.specs.Occurs.{occ, one-other, one-case, Turnover}
@@ -58,7 +58,7 @@ pub data Shift : Linked → Linked → Link → ℕ → List ℕ → List ℕ �
   by-unlink : (fs : List Frame) (s : Side) (B : Node) (x : Linked) → Ordered (bare (plug fs (at s B x nil)))
       → Once (plug fs (at s B x nil))
       → Shift (plug fs (at s B x nil)) (plug fs x) (linkTo fs) (numOf x) [] (B .num ∷ []) true false
-  by-adopt : (fs : List Frame) (B C : Node) (l y : Linked) → Ordered (bare (plug fs (form₀ L B C l y)))
+  by-adopt : (fs : List Frame) (B C : Node) (l y : Linked) → NotNil l → Ordered (bare (plug fs (form₀ L B C l y)))
       → Once (plug fs (form₀ L B C l y))
       → Shift (plug fs (form₀ L B C l y)) (plug fs (form₁ L B C l y)) (Left (C .num)) (numOf l) [] [] false false
   by-replace : (fs : List Frame) (B C : Node) (l y : Linked) → Ordered (bare (plug fs (form₀ L B C l y)))

@@ -1,5 +1,7 @@
-// The calls of the ticket index. Each one's promise: answer, register and every pool word are what the definition of document 01's call
-// (crate spec, Calls) makes of what was lent; a refused call leaves both as they were.
+// The seven calls of the ticket index. A call takes the pool as lent words and the register by value; its reply has the answer and the
+// register to use from then on. No call has a precondition, and every call returns.
+// Each one's promise: answer, register and every pool word are what the definition of document 01's call (crate spec, Calls) makes of what
+// was lent; a refused call leaves both as they were. Above each call: what it needs, answers, refuses and leaves.
 use datatypes::Head;
 use datatypes::Link;
 use datatypes::Place;
@@ -11,6 +13,11 @@ ghost use mathlib.Core.Path.{_≡_};
 ghost use Rattle.spec.specs.Register.{state};
 ghost use Rattle.spec.specs.Calls.{accepts, writerSays, readerSays, setUp, insert, delete, writerTurn, begin, readerTurn, giveUp};
 
+// Set up: makes the lent words a fresh pool, every node free, and answers its register.
+// Needs: nothing of the words but their number. The register that goes in is not read; fresh::fresh_register(0) makes one.
+// Answers: Accepted.
+// Refuses: 1, the length is not 8 × N words with N from 8 to 1,023.
+// Leaves: every word written and a fresh register, whatever stood there before; refused, both as they were.
 pub fn set_up(pool: &mut [u32], reg: Register) -> Reply
     ensures { λ r. ⌜ accepts (r .answer) ≡ setUp (state (now (pool .entry)) reg) .answer ⌝ }
     ensures { λ r. ⌜ state (now (pool .exit)) (r .register) ≡ setUp (state (now (pool .entry)) reg) .after ⌝ }
@@ -23,6 +30,12 @@ pub fn set_up(pool: &mut [u32], reg: Register) -> Reply
     replies::accepted(register)
 }
 
+// Insert: takes the key k with its record v in hand as a write, with its stores planned. The writer's turns make the stores.
+// Needs: nothing; key and record are any 32-bit numbers.
+// Answers: Accepted. Then writer_turn is to be called until it answers Done.
+// Refuses, tested in this order: 1 length; 2 a word or field out of range; 6 a write is in hand; 12 a path of over 64 nodes; 8 the key is
+// held; 10 keys held are N − 4 or more; 11 fewer than 3 free nodes; 12 a step names a node where there is none.
+// Leaves: the pool as it was, and in the register the write in hand; refused, both as they were.
 pub fn insert(pool: &[u32], reg: Register, k: u32, v: u32) -> Reply
     ensures { λ r. ⌜ accepts (r .answer) ≡ insert (state (now (pool .entry)) reg) k v .answer ⌝ }
     ensures { λ r. ⌜ state (now (pool .entry)) (r .register) ≡ insert (state (now (pool .entry)) reg) k v .after ⌝ }
@@ -43,6 +56,12 @@ pub fn insert(pool: &[u32], reg: Register, k: u32, v: u32) -> Reply
     }
 }
 
+// Delete: takes the delete of the key k in hand as a write, with its stores planned. The writer's turns make the stores.
+// Needs: nothing.
+// Answers: Accepted. Then writer_turn is to be called until it answers Done.
+// Refuses, tested in this order: 1 length; 2 a word or field out of range; 6 a write is in hand; 12 a path of over 64 nodes; 9 the key is
+// not held; 11 fewer than 4 free nodes; 12 a step names a node where there is none, or the successor's path is over 64 nodes.
+// Leaves: the pool as it was, and in the register the write in hand; refused, both as they were.
 pub fn delete(pool: &[u32], reg: Register, k: u32) -> Reply
     ensures { λ r. ⌜ accepts (r .answer) ≡ delete (state (now (pool .entry)) reg) k .answer ⌝ }
     ensures { λ r. ⌜ state (now (pool .entry)) (r .register) ≡ delete (state (now (pool .entry)) reg) k .after ⌝ }
@@ -63,6 +82,13 @@ pub fn delete(pool: &[u32], reg: Register, k: u32) -> Reply
     }
 }
 
+// Writer's turn: makes the next store of the write in hand, one link, and the colour work up to the store after it.
+// Needs: nothing; with no write in hand it is refused.
+// Answers: More or Done with the link stored and the node that it holds now (Done: the write is finished); or Wait, with nothing changed,
+// while an awaited slot reads: these slots need their turns, or a give up, before the next store.
+// Refuses, tested in this order: 1 length; 2 a word or field out of range; 7 no write is in hand; and, if it doesn't wait, 12 a step names
+// a node where there is none, or takes one from an empty queue.
+// Leaves: the store made, a node taken or let go where the step says so, the write with one store fewer; refused, both as they were.
 pub fn writer_turn(pool: &mut [u32], reg: Register) -> WriterReply
     ensures { λ r. ⌜ writerSays (r .answer) ≡ writerTurn (state (now (pool .entry)) reg) .answer ⌝ }
     ensures { λ r. ⌜ state (now (pool .exit)) (r .register) ≡ writerTurn (state (now (pool .entry)) reg) .after ⌝ }
@@ -81,6 +107,11 @@ pub fn writer_turn(pool: &mut [u32], reg: Register) -> WriterReply
     turns::make_first(pool, reg)
 }
 
+// Begin: starts a lookup of the key k in the slot s. It loads no node yet.
+// Needs: one caller for each slot. Nothing tests this.
+// Answers: Accepted. Then reader_turn is to be called until it answers Found or Absent; give_up ends the lookup before.
+// Refuses, tested in this order: 1 length; 2 a word or field out of range; 3 the slot is above 7; 4 the slot is reading.
+// Leaves: the pool as it was, and in the register the slot's reader record; refused, both as they were.
 pub fn begin(pool: &[u32], mut reg: Register, s: u32, k: u32) -> Reply
     ensures { λ r. ⌜ accepts (r .answer) ≡ begin (state (now (pool .entry)) reg) s k .answer ⌝ }
     ensures { λ r. ⌜ state (now (pool .entry)) (r .register) ≡ begin (state (now (pool .entry)) reg) s k .after ⌝ }
@@ -95,6 +126,12 @@ pub fn begin(pool: &[u32], mut reg: Register, s: u32, k: u32) -> Reply
     replies::accepted(reg)
 }
 
+// Reader's turn: loads one node more for the lookup of the slot s, first the root, then a child; or ends the lookup.
+// Needs: nothing; a slot that isn't reading is refused.
+// Answers: Go, the lookup goes on; Found with the record; or Absent. Found and Absent are right at one moment since the slot's begin.
+// Refuses, tested in this order: 1 length; 2 a word or field out of range; 3 the slot is above 7; 5 the slot is not reading.
+// Leaves: after Go only the slot's node changed; after Found and Absent the slot is no longer reading, awaited or a holder, and a retired
+// node without a holder is freed; refused, both as they were.
 pub fn reader_turn(pool: &mut [u32], mut reg: Register, s: u32) -> ReaderReply
     ensures { λ r. ⌜ readerSays (r .answer) ≡ readerTurn (state (now (pool .entry)) reg) s .answer ⌝ }
     ensures { λ r. ⌜ state (now (pool .exit)) (r .register) ≡ readerTurn (state (now (pool .entry)) reg) s .after ⌝ }
@@ -127,6 +164,11 @@ pub fn reader_turn(pool: &mut [u32], mut reg: Register, s: u32) -> ReaderReply
     replies::answers_reader(answer, reg)
 }
 
+// Give up: ends the lookup of the slot s without an answer.
+// Needs: nothing; a slot that isn't reading is refused.
+// Answers: Accepted.
+// Refuses, tested in this order: 1 length; 2 a word or field out of range; 3 the slot is above 7; 5 the slot is not reading.
+// Leaves: the slot no longer reading, awaited or a holder; a retired node without a holder is freed; refused, both as they were.
 pub fn give_up(pool: &mut [u32], mut reg: Register, s: u32) -> Reply
     ensures { λ r. ⌜ accepts (r .answer) ≡ giveUp (state (now (pool .entry)) reg) s .answer ⌝ }
     ensures { λ r. ⌜ state (now (pool .exit)) (r .register) ≡ giveUp (state (now (pool .entry)) reg) s .after ⌝ }

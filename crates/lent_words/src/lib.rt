@@ -5,7 +5,7 @@ ghost use mathlib.Core.Path.{_≡_};
 ghost use Rattle.answer_lines.specs.Text.{says};
 ghost use Rattle.lent_words.specs.Lent.{triedWords, keptWords};
 
-// how many words a command works on: those lent, and for P those that it asks for
+// Answers how many words a command works on: those lent, and for P those that it asks for.
 pub fn tried_words(lent: usize, c: Command) -> usize
     ensures { λ r. ⌜ r ≡ triedWords lent c ⌝ }
 {
@@ -19,7 +19,7 @@ pub fn tried_words(lent: usize, c: Command) -> usize
     lent
 }
 
-// how many stay lent: a refused P keeps the pool there was
+// Answers how many words stay lent: a refused P keeps the pool there was.
 pub fn kept_words(lent: usize, tried: usize, said: Said) -> usize
     ensures { λ r. ⌜ r ≡ keptWords lent tried (says said) ⌝ }
 {

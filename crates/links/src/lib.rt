@@ -7,6 +7,7 @@ ghost use mathlib.Core.Bool.{cond};
 ghost use Rattle.datatypes.specs.declared.Form.the-variants.{Diag, Zig};
 ghost use Rattle.datatypes.specs.Side.{other, sameSide, linkAt, owner, sideOf};
 
+// Answers the other side.
 pub fn other(s: Side) -> Side
     ensures { λ r. ⌜ r ≡ other s ⌝ }
 {
@@ -16,6 +17,7 @@ pub fn other(s: Side) -> Side
     }
 }
 
+// Answers node n's link on a side.
 pub fn link_at(s: Side, n: u32) -> Link
     ensures { λ r. ⌜ r ≡ linkAt s n ⌝ }
 {
@@ -25,6 +27,7 @@ pub fn link_at(s: Side, n: u32) -> Link
     }
 }
 
+// Answers the node whose link this is, 0 for the root.
 pub fn owner(l: Link) -> u32
     ensures { λ r. ⌜ r ≡ owner l ⌝ }
 {
@@ -35,6 +38,7 @@ pub fn owner(l: Link) -> u32
     }
 }
 
+// Answers the side that a link is on; the root counts as left.
 pub fn side_of(l: Link) -> Side
     ensures { λ r. ⌜ r ≡ sideOf l ⌝ }
 {
@@ -45,7 +49,7 @@ pub fn side_of(l: Link) -> Side
     }
 }
 
-// a diag on the outer side, a zig on the inner one
+// Answers a diag on the outer side, a zig on the inner one.
 pub fn form_of(x: Side, y: Side) -> Form
     ensures { λ r. ⌜ r ≡ cond (sameSide x y) Diag Zig ⌝ }
 {
@@ -61,7 +65,7 @@ pub fn form_of(x: Side, y: Side) -> Form
     }
 }
 
-// a diag for a red outer child, a zig for the inner one alone
+// Answers a diag where the outer child is red, a zig otherwise.
 pub fn form_if(outer: bool) -> Form
     ensures { λ r. ⌜ r ≡ cond outer Diag Zig ⌝ }
 {

@@ -15,7 +15,7 @@ pub struct Looked {
     pub node: u32,
 }
 
-// a loaded 0 answers absent, else go
+// Answers absent for a loaded 0, else go.
 fn load(node: u32) -> Looked
     ensures { λ r. ⌜ (readerSays (r .answer) ≡ loadAnswer node) × (r .node ≡ node) ⌝ }
 {
@@ -31,7 +31,7 @@ fn load(node: u32) -> Looked
     }
 }
 
-// the turn of a reader of the key k that is at node n, in an index with this root
+// Makes the turn of a reader of the key k that is at node n, in an index with this root.
 pub fn look(pool: &[u32], root: u32, k: u32, n: u32) -> Looked
     ensures { λ r. ⌜ (readerSays (r .answer) ≡ lookAnswer (now (pool .entry)) root k n) × (r .node ≡ lookNode (now (pool .entry)) root k n) ⌝ }
 {
@@ -49,7 +49,7 @@ pub fn look(pool: &[u32], root: u32, k: u32, n: u32) -> Looked
     load(search::child_towards(pool, k, n))
 }
 
-// The head after slot s loaded node n: the reading ends at 0.
+// Ends slot s's reading if the node loaded for it is 0; answers the head.
 pub fn leave(pool: &mut [u32], h: Head, s: u32, n: u32) -> Head
     requires { ⌜ (length (now pool) < poolLimit) × (s < slots) ⌝ }
     ensures { λ r. ⌜ Leaves s n (now (pool .entry)) h (now (pool .exit)) r ⌝ }
@@ -60,7 +60,7 @@ pub fn leave(pool: &mut [u32], h: Head, s: u32, n: u32) -> Head
     h
 }
 
-// the record of slot's reader x after it loaded node n; all 0 if its reading ended there
+// Answers the record of a slot's reader x after it loaded node n; all 0 if its reading ended there.
 pub fn reader_at(x: Reader, n: u32) -> Reader
     ensures { λ r. ⌜ r ≡ readerAt x n ⌝ }
 {

@@ -24,7 +24,7 @@ ghost use Rattle.spec.specs.Plan.{store, rotationStores, endingStores, missing,
 ghost use Rattle.paths.specs.Upward.{mostLinks, upward};
 ghost use Rattle.plans.specs.Pushed.{pushed, pushAll};
 
-// what a write plans: whether all its steps find their nodes, and its stores as the write in hand
+// What a write plans: whether all its steps find their nodes, and its stores as the write in hand.
 pub struct Planned {
     pub possible: bool,
     pub write: Write,
@@ -76,7 +76,7 @@ fn push_rotation(w: Write, t: Rotation) -> Write
     }
 }
 
-// The fix-up after an insert of the key k at the link l.
+// Finds where the fix-up after an insert of the key k at the link l ends.
 pub fn fixup_after_insert(pool: &[u32], root: u32, k: u32, l: Link) -> Fixup
     ensures { λ r. ⌜ r ≡ cond (isRed (now (pool .entry)) (owner l)) (insertFixup (now (pool .entry)) 0 (pathTo (now (pool .entry)) root k l)) (fixupResult 0 Balanced) ⌝ }
 {
@@ -119,7 +119,7 @@ fn plan(w: Write, e: Ending) -> Planned
     }
 }
 
-// Insert of the key k with its record v at the empty link l.
+// Plans the insert of the key k with its record v at the empty link l.
 pub fn insert_plan(pool: &[u32], reg: Register, k: u32, v: u32, l: Link) -> Planned
     ensures { λ r. ⌜ r .possible ≡ insertPlan (state (now (pool .entry)) reg) k v l .possible ⌝ }
     ensures { λ r. ⌜ r .write ≡ writeOf (insertPlan (state (now (pool .entry)) reg) k v l .stores) ⌝ }
@@ -129,7 +129,7 @@ pub fn insert_plan(pool: &[u32], reg: Register, k: u32, v: u32, l: Link) -> Plan
     plan(one_store(l, Step::Insert(k, v)), ending)
 }
 
-// Delete of node b, which has at most one child, at the end of a path of that depth.
+// Plans the delete of node b, which has at most one child, at the end of a path of that depth.
 fn unlink_plan(pool: &[u32], reg: Register, l: Link, b: u32, path: &[u64], depth: u32) -> Planned
     requires { ⌜ (depth ≤ length (now path)) × (depth ≤ mostLinks) ⌝ }
     ensures { λ r. ⌜ r .possible ≡ unlinkPlan (state (now (pool .entry)) reg) l b (upward (now (path .entry)) depth) .possible ⌝ }
@@ -141,7 +141,7 @@ fn unlink_plan(pool: &[u32], reg: Register, l: Link, b: u32, path: &[u64], depth
     plan(one_store(l, Step::Unlink), ending)
 }
 
-// Delete of node b, which has two children; the path of that depth leads to the next key's node.
+// Plans the delete of node b, which has two children; the path of that depth leads to the next key's node.
 fn successor_plan(pool: &[u32], reg: Register, l: Link, b: u32, path: &[u64], depth: u32) -> Planned
     requires { ⌜ (depth ≤ length (now path)) × (depth ≤ mostLinks) ⌝ }
     ensures { λ r. ⌜ r .possible ≡ successorPlan (state (now (pool .entry)) reg) l b (upward (now (path .entry)) depth) .possible ⌝ }
@@ -170,7 +170,7 @@ fn successor_plan(pool: &[u32], reg: Register, l: Link, b: u32, path: &[u64], de
     plan(two_stores(l, Step::Publish(n), Step::Detach(key)), ending)
 }
 
-// Delete of node b, which the link l holds.
+// Plans the delete of node b, which the link l holds.
 pub fn delete_plan(pool: &[u32], reg: Register, l: Link, b: u32) -> Planned
     ensures { λ r. ⌜ r .possible ≡ deletePlan (state (now (pool .entry)) reg) l b .possible ⌝ }
     ensures { λ r. ⌜ r .write ≡ writeOf (deletePlan (state (now (pool .entry)) reg) l b .stores) ⌝ }

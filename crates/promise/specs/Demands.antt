@@ -3,7 +3,7 @@
 -- `base` (Lists: `_∈_`, Distinct). S is where the run starts: in 01's demands a pool of N nodes just set up (`Promise`, at the end).
 use Prim.Native.Nat.{ℕ, _+_, _<_, _≤_}
 use mathlib.Core.Path.{_≡_}
-use mathlib.Core.Logic.{_≢_, _↔_}
+use mathlib.Core.Logic.{_≢_, _⊎_, _↔_}
 use mathlib.Core.Bool.{Bool, true, false, cond}
 use mathlib.Core.List.{List}
 use mathlib.Core.Option.{Option, none, some}
@@ -12,13 +12,15 @@ use lib.ListN.{length}
 use Rattle.datatypes.specs.declared.Side.{Side}
 use Rattle.datatypes.specs.declared.Side.the-variants.{L, R}
 use Rattle.datatypes.specs.declared.Link.{Link}
+use Rattle.datatypes.specs.declared.Link.the-variants.{Root, Left, Right}
 use Rattle.datatypes.specs.declared.Step.{Step}
 use Rattle.sequential.specs.Tree.{Colour, red, black, Tree, leaf, node}
 use Rattle.sequential.specs.Delete.{changedBy}
 use Rattle.base.specs.Lists.{_∈_, Distinct}
 use Rattle.spec.specs.Numbers.{slots, mostStores}
-use Rattle.spec.specs.Pool.{word, child, nodes, keyWord, recordAt, colourWord, standingWord, standingFree, blackColour, redColour}
-use Rattle.spec.specs.Register.{State, state, withReader, readerOf, storeOf, hasSlot, readingAt}
+use Rattle.spec.specs.Pool.{word, child, nodes, keyWord, recordAt, colourWord, standingWord, holdersWord}
+use Rattle.spec.specs.Pool.{standingFree, standingLinked, standingRetired, blackColour, redColour}
+use Rattle.spec.specs.Register.{State, state, withReader, readerOf, storeOf, linkNode, hasSlot, readingAt}
 use Rattle.spec.specs.Turn.{profile}
 use Rattle.spec.specs.Calls.{Answer, go, absent, found, more, done, wait, refused, Outcome, Call, writing, call, reading, writeInHand, readerStep}
 use Rattle.spec.specs.PlainList.{carriedOut, noticeOf, recordFor, acceptedWrites}
@@ -85,11 +87,15 @@ pub record Takes (st : State) (c : Call) (m : ℕ) : Type 0 where
   pub step : takesOne (storeOf (st .register) 0 .step) ≡ true
   pub first : st .register .first ≡ m
 
+-- the standing of node n
+abbrev pub standingAt : State → ℕ → ℕ
+standingAt st n = word (st .pool) n standingWord
+
 -- A node m that a reading slot reached at a moment of its lookup (after t calls) doesn't stand free and is not taken by any call, from that
 -- moment until the lookup ends: not at a moment u, and not by call u.
 pub record NodesKept (S : Start) (cs : List Call) : Type 0 where
   pub notFree : (s k i j t m u : ℕ) → Reading S cs s k i j → i < t → Reaches (indexAfter S cs t) s m → t ≤ u → u ≤ j
-      → word (indexAfter S cs u .pool) m standingWord ≢ standingFree
+      → standingAt (indexAfter S cs u) m ≢ standingFree
   pub notTaken : (s k i j t m u : ℕ) (c : Call) → Reading S cs s k i j → i < t → Reaches (indexAfter S cs t) s m → t ≤ u → u < j → callAt cs u ≡ some c
       → ¬ (Takes (indexAfter S cs u) c m)
 
@@ -119,15 +125,48 @@ pub record FreeRight (st : State) : Type 0 where
   pub queue : List ℕ
   pub queued : Queue st queue
   pub once : Distinct queue
-  pub standing : (n : ℕ) → (n ∈ queue) ↔ ((1 ≤ n) × (n ≤ nodes (st .pool)) × (word (st .pool) n standingWord ≡ standingFree))
+  pub standing : (n : ℕ) → (n ∈ queue) ↔ ((1 ≤ n) × (n ≤ nodes (st .pool)) × (standingAt st n ≡ standingFree))
   pub counted : st .register .free ≡ length queue
 
+-- a link of the tree: the root, or a link of a node that stands linked
+abbrev pub TreeLink : List ℕ → Link → Type 0
+TreeLink p Root = Unit {0}
+TreeLink p (Left n) = word p n standingWord ≡ standingLinked
+TreeLink p (Right n) = word p n standingWord ≡ standingLinked
+
+-- 'The writer's stores': a turn makes one store of a link, here l := n, and a copy is taken and filled in the turn that makes it reachable.
+pub record StoresOne (before after : State) (l : Link) (n : ℕ) : Type 0 where
+  -- l is a link of the tree; it holds n now and held another node, or none, before
+  pub own : TreeLink (before .pool) l
+  pub moved : linkNode before l ≢ n
+  pub holds : linkNode after l ≡ n
+  -- every other link of the tree holds what it held, and every node of the tree keeps its ticket
+  pub others : (m : Link) → m ≢ l → TreeLink (before .pool) m → linkNode after m ≡ linkNode before m
+  pub tickets : (m : ℕ) → standingAt before m ≡ standingLinked
+      → (word (after .pool) m keyWord ≡ word (before .pool) m keyWord) × (recordAt (after .pool) m ≡ recordAt (before .pool) m)
+  -- no other node than n comes to stand linked
+  pub comes : (m : ℕ) → standingAt before m ≢ standingLinked → standingAt after m ≡ standingLinked → m ≡ n
+
 pub record Demand2 (S : Start) (cs : List Call) : Type 0 where
-  -- That a turn makes one store and no more is the definition `writerTurn` itself, to which the call is proved equal. Besides,
   -- whenever no write is in hand the tree is the sequential tree of the writes accepted, in order, on the start's (`leaf` when just set up)
   pub atRest : (j : ℕ) → writeInHand (indexAfter S cs j) ≡ false
       → Stands (indexAfter S cs j .pool) (indexAfter S cs j .register .root) (changedBy (S .tree) (acceptedWrites (plainAfter S cs j)))
+  -- 'Pool and register', standing: the nodes that stand linked are those that links lead to from the root. So at rest they are that tree's.
+  pub linked : (j n : ℕ) → (standingAt (indexAfter S cs j) n ≡ standingLinked) ↔ Leads (indexAfter S cs j .pool) (indexAfter S cs j .register .root) n
   pub free : (j : ℕ) → FreeRight (indexAfter S cs j)
+  -- each node from 1 to N stands linked, free or retired
+  pub standing : (j n : ℕ) → 1 ≤ n → n ≤ S .size
+      → (standingAt (indexAfter S cs j) n ≡ standingLinked)
+      ⊎ ((standingAt (indexAfter S cs j) n ≡ standingFree) ⊎ (standingAt (indexAfter S cs j) n ≡ standingRetired))
+  -- 'Retire' and 'Reader's turn': a node that stands retired has a holder that is reading
+  pub retiredHeld : (j n : ℕ) → standingAt (indexAfter S cs j) n ≡ standingRetired
+      → (s : ℕ) × (s < slots) × (hasSlot (word (indexAfter S cs j .pool) n holdersWord) s ≡ true) × Reads (indexAfter S cs j) s
+  -- so no node is lost: with no write in hand and no slot reading, every node is free but one for each key held
+  pub nothingLost : (j : ℕ) → writeInHand (indexAfter S cs j) ≡ false → ((s : ℕ) → s < slots → reading (indexAfter S cs j) s ≡ false)
+      → indexAfter S cs j .register .free + indexAfter S cs j .register .held ≡ S .size
+  -- 'The writer's stores': a turn that answers more or done has made one store, and it is the one that it answers
+  pub oneStore : (j : ℕ) (l : Link) (n : ℕ) → Gives S cs j writing (more l n) ⊎ Gives S cs j writing (done l n)
+      → StoresOne (indexAfter S cs j) (indexAfter S cs (j + 1)) l n
   -- a write is done after at most seven stores: one that isn't done has made fewer
   pub soon : (j : ℕ) (l : Link) (n : ℕ) → Gives S cs j writing (more l n) → plainAfter S cs (j + 1) .made < mostStores
   -- a turn answers wait only while an awaited slot is reading

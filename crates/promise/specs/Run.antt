@@ -7,8 +7,9 @@ use mathlib.Core.Bool.{true}
 use mathlib.Core.List.{List, [], _∷_}
 use mathlib.Core.Option.{Option, none, some}
 use Rattle.sequential.specs.Tree.{Tree, leaf}
+use Rattle.spec.specs.Pool.{nodes}
 use Rattle.spec.specs.Register.{State, fresh}
-use Rattle.spec.specs.Calls.{Answer, ok, absent, found, Call, beginning, turning, givingUp, call, reading}
+use Rattle.spec.specs.Calls.{Answer, ok, absent, found, Call, beginning, turning, givingUp, call, reading, setUp}
 use Rattle.spec.specs.PlainList.{Ticket, Plain, noneAccepted, noticeOf, feed}
 
 -- Where a run starts: N, pool and register, the sequential tree that stands there, and the plain list's tickets. 01's own start is `justSetUp N`.
@@ -21,6 +22,10 @@ pub record Start : Type 0 where
 -- a pool of N nodes just set up: no ticket, the tree `leaf`
 abbrev pub justSetUp : ℕ → Start
 justSetUp N = record { size = N; index = fresh N; tree = leaf; tickets = [] }
+
+-- the start that set up leaves of a pool and register; on a pool of N nodes it is `justSetUp N` (crate theorem: `set-up`)
+abbrev pub afterSetUp : State → Start
+afterSetUp st = record { size = nodes (st .pool); index = setUp st .after; tree = leaf; tickets = [] }
 
 -- Pool and register as the calls leave them, and the plain list, which is fed of each call only its arguments, whether it was refused,
 -- and of a writer's turn whether it answered wait.

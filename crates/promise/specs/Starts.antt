@@ -8,12 +8,12 @@ use lib.ListN.{length}
 use Rattle.sequential.specs.Tree.{find}
 use Rattle.sequential.specs.Proper.{Proper}
 use Rattle.spec.specs.Numbers.{nodeWords, leastNodes, mostNodes, slots}
-use Rattle.spec.specs.Pool.{word, standingWord, standingLinked, standingRetired}
+use Rattle.spec.specs.Pool.{standingLinked, standingRetired}
 use Rattle.spec.specs.Register.{noWrite}
 use Rattle.spec.specs.Calls.{outOfRange, reading}
 use Rattle.spec.specs.PlainList.{recordFor, Unique}
 use Rattle.promise.specs.Run.{Start}
-use Rattle.promise.specs.Demands.{Leads, Stands, FreeRight}
+use Rattle.promise.specs.Demands.{Leads, standingAt, Stands, FreeRight}
 
 pub record SoundStart (S : Start) : Type 0 where
   -- tests 1 and 2 pass: N is from the least to the largest, the length N times a node's words, no word or field is outside its range
@@ -29,9 +29,9 @@ pub record SoundStart (S : Start) : Type 0 where
   -- the root's tree is the start's, red-black with rising keys; the nodes that stand linked are its nodes
   pub stands : Stands (S .index .pool) (S .index .register .root) (S .tree)
   pub proper : Proper (S .tree)
-  pub linked : (n : ℕ) → (word (S .index .pool) n standingWord ≡ standingLinked) ↔ Leads (S .index .pool) (S .index .register .root) n
+  pub linked : (n : ℕ) → (standingAt (S .index) n ≡ standingLinked) ↔ Leads (S .index .pool) (S .index .register .root) n
   -- all others stand free and are queued
-  pub unretired : (n : ℕ) → word (S .index .pool) n standingWord ≢ standingRetired
+  pub unretired : (n : ℕ) → standingAt (S .index) n ≢ standingRetired
   pub free : FreeRight (S .index)
   -- the plain list has the tree's tickets, one for a key; keys held is their number
   pub told : (k : ℕ) → recordFor k (S .tickets) ≡ find (S .tree) k

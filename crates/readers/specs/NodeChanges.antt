@@ -33,7 +33,7 @@ ranked st l w h n = elim (ℕ-discrete (word (st .pool) n standingWord) 0) [
 ]
 
 -- the three cases of a standing
-three : {A : Type 0} (a : ℕ) → a ≤ standingRetired → (a ≡ standingFree → A) → (a ≡ standingLinked → A) → (a ≡ standingRetired → A) → A
+pub three : {A : Type 0} (a : ℕ) → a ≤ standingRetired → (a ≡ standingFree → A) → (a ≡ standingLinked → A) → (a ≡ standingRetired → A) → A
 three a h f g k = elim (ℕ-discrete a standingFree) [
   | yes e ↦ f e
   | no c ↦ elim (ℕ-discrete a standingLinked) [ yes e ↦ g e | no d ↦ k (omega arith) ]

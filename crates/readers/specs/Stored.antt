@@ -23,6 +23,7 @@ use Rattle.base.specs.Lists.{_∈_}
 use Rattle.spec.specs.FreeQueue.{InPool}
 use Rattle.laws.specs.Words.{length-setWord, word-same, word-other}
 use Rattle.laws.specs.Queue.{link-low, key-link, record-link}
+use Rattle.promise.specs.Demands.{TreeLink}
 use Rattle.readers.specs.Words.{Whole, whole-kept, stands-node, fill-length, fill-other, fill-standing}
 use Rattle.readers.specs.QueueExact.{field-exact}
 use Rattle.readers.specs.Owned.{Slots, Owned, own-word, own-take}
@@ -39,12 +40,6 @@ abbrev pub rootAfter : Link → ℕ → ℕ → ℕ
 rootAfter Root v r = v
 rootAfter (Left d) v r = r
 rootAfter (Right d) v r = r
-
--- the link is the root, or a linked node's
-abbrev pub OwnerLinked : List ℕ → Link → Type 0
-OwnerLinked p Root = Unit {0}
-OwnerLinked p (Left d) = HasStanding p d standingLinked
-OwnerLinked p (Right d) = HasStanding p d standingLinked
 
 -- The link l := v, with the nodes `came` taken.
 pub record Stored (st mid : State) (came : List ℕ) (l : Link) (v : ℕ) : Type 0 where
@@ -108,7 +103,7 @@ side-stored st q d s v l same keep hd h =
       owned = own-word st q d (linkWord s) v (omega arith) h;
     }
 
-pub link-stored : (st : State) (q : List ℕ) (l : Link) (v : ℕ) → Whole (st .pool) → OwnerLinked (st .pool) l → Owned st q → Stored st (setLink st l v) [] l v
+pub link-stored : (st : State) (q : List ℕ) (l : Link) (v : ℕ) → Whole (st .pool) → TreeLink (st .pool) l → Owned st q → Stored st (setLink st l v) [] l v
 unfolding setLink withRoot
 link-stored st q Root v w o h = record {
   size = refl;
@@ -128,7 +123,7 @@ link-stored st q (Left d) v w o h = side-stored st q d L v (Left d) (λ n z. ref
 link-stored st q (Right d) v w o h = side-stored st q d R v (Right d) (λ n z. refl) refl (stands-node (st .pool) d standingWord w (omega arith) (omega arith)) h
 
 -- and with the first free node taken and filled before
-pub taking-stored : (st : State) (n : ℕ) (q : List ℕ) (k w : ℕ) (s : Side) (x y c : ℕ) (l : Link) (v : ℕ) → Whole (st .pool) → OwnerLinked (st .pool) l → Owned st (n ∷ q)
+pub taking-stored : (st : State) (n : ℕ) (q : List ℕ) (k w : ℕ) (s : Side) (x y c : ℕ) (l : Link) (v : ℕ) → Whole (st .pool) → TreeLink (st .pool) l → Owned st (n ∷ q)
     → Stored st (setLink (takeNode st k w s x y c) l v) (n ∷ []) l v
 unfolding takeNode takeFree withQueue
 taking-stored st n q k w s x y c l v whole o h =
@@ -166,8 +161,8 @@ taking-stored st n q k w s x y c l v whole o h =
     apart d a b (inl e) = let z = subst (λ m. HasStanding (st .pool) m standingLinked) e a in absurd (omega arith)
     apart d a b (inr i) = i
 
-    owner : (l : Link) → OwnerLinked (st .pool) l → ((m : ℕ) → ¬ (m ∈ (n ∷ [])) → word (takeNode st k w s x y c .pool) m standingWord ≡ word (st .pool) m standingWord)
-        → HasStanding (st .pool) n standingFree → OwnerLinked (takeNode st k w s x y c .pool) l
+    owner : (l : Link) → TreeLink (st .pool) l → ((m : ℕ) → ¬ (m ∈ (n ∷ [])) → word (takeNode st k w s x y c .pool) m standingWord ≡ word (st .pool) m standingWord)
+        → HasStanding (st .pool) n standingFree → TreeLink (takeNode st k w s x y c .pool) l
     owner Root o f z = tt
     owner (Left d) o f z = f d (apart d o z) ∙ o
     owner (Right d) o f z = f d (apart d o z) ∙ o

@@ -1,28 +1,29 @@
 -- A turn of the writer as readers meet it: one link stored, perhaps a node that came, perhaps nodes that went and are retired. What
 -- becomes of each node, which nodes are linked afterwards, and the words that lookups go by.
 use Prim.Native.Nat.{ℕ, _+_, _≤_}
-use mathlib.Core.Path.{_≡_, refl, sym, _∙_, subst}
+use mathlib.Core.Path.{_≡_, refl, sym, ap, _∙_, subst}
 use mathlib.Core.Bool.{true, false, cond}
 use mathlib.Core.List.{List, [], _∷_}
 use mathlib.Core.Logic.{_≢_, _⊎_, inl, inr, ⊎-elim, _↔_}
 use native.Mathlib.Omega.{arith}
 use native.Mathlib.Decide.{ℕ-discrete}
 use lib.ListN.{length}
-use borrow.Author.Tests.{ne-eqb}
+use borrow.Author.Tests.{eq-eqb, ne-eqb}
 use Rattle.datatypes.specs.declared.Side.{Side}
 use Rattle.datatypes.specs.declared.Side.the-variants.{L, R}
 use Rattle.datatypes.specs.declared.Link.{Link}
 use Rattle.datatypes.specs.declared.Link.the-variants.{Root, Left, Right}
 use Rattle.datatypes.specs.declared.Write.{Write}
-use Rattle.datatypes.specs.Side.{owner}
+use Rattle.datatypes.specs.Side.{linkAt, owner, owner-at}
 use Rattle.spec.specs.Pool.{word, child, linkWord, keyWord, recordAt, recordWord, standingWord, holdersWord, standingFree, standingLinked, standingRetired}
-use Rattle.spec.specs.Register.{State, state, withWrite}
+use Rattle.spec.specs.Register.{State, state, nodeAt, linkNode, withWrite}
 use Rattle.spec.specs.Free.{retire, retireTwo}
 use Rattle.base.specs.Lists.{_∈_}
 use Rattle.spec.specs.FreeQueue.{InPool}
 use Rattle.laws.specs.Queue.{link-low}
 use Rattle.laws.specs.Words.{word-none}
 use Rattle.promise.specs.Run.{Reads}
+use Rattle.promise.specs.Demands.{TreeLink, StoresOne}
 use Rattle.heap.specs.Rep.{alike-refl, upToColour}
 use Rattle.heap.specs.Fill.{Quiet, retire-quiet, retireTwo-quiet}
 use Rattle.readers.specs.Words.{Whole, whole-kept, stands-node}
@@ -30,7 +31,7 @@ use Rattle.readers.specs.Owned.{readingIn, Owned, own-retire}
 use Rattle.readers.specs.Reach.{HasStanding, NodeChange, comes, leaves, goes}
 use Rattle.readers.specs.NodeChanges.{ranked, change-same, Retires, stays, out, off, retire-other, retire-retires, retire-gone, retire-free}
 use Rattle.readers.specs.NodeChanges.{retireTwo-free, retireTwo-retires, retireTwo-owned, retireTwo-gone, retireTwo-other}
-use Rattle.readers.specs.Stored.{hitsLink, rootAfter, OwnerLinked, Stored, own-fields}
+use Rattle.readers.specs.Stored.{hitsLink, rootAfter, Stored, own-fields}
 
 -- whether a number is in a list
 pub in-dec : (n : ℕ) (l : List ℕ) → Dec (n ∈ l)
@@ -57,15 +58,23 @@ pub record Turn (st after : State) (came gone : List ℕ) (l : Link) (v : ℕ) :
   pub queue : List ℕ
   pub owned : Owned after queue
 
--- a link of a node that is not the link's owner is not the one stored
-pub not-hit : (l : Link) (n : ℕ) (z : Side) → owner l ≢ n → hitsLink l n z ≡ false
-not-hit Root n z d = refl
-not-hit (Left m) n L d = ne-eqb m n d
-not-hit (Left m) n R d = refl
-not-hit (Right m) n L d = refl
-not-hit (Right m) n R d = ne-eqb m n d
+-- another link is not the one stored, so no link of a node that is not its owner
+other-link : (l : Link) (n : ℕ) (z : Side) → linkAt z n ≢ l → hitsLink l n z ≡ false
+other-link Root n z d = refl
+other-link (Left m) n L d = ne-eqb m n (λ e. d (ap Left (sym e)))
+other-link (Left m) n R d = refl
+other-link (Right m) n L d = refl
+other-link (Right m) n R d = ne-eqb m n (λ e. d (ap Right (sym e)))
 
-pub owner-linked : (p : List ℕ) (l : Link) (n : ℕ) → n ≢ 0 → OwnerLinked p l → ¬ (HasStanding p n standingLinked) → owner l ≢ n
+other-root : (l : Link) (v r : ℕ) → Root ≢ l → rootAfter l v r ≡ r
+other-root Root v r d = absurd (d refl)
+other-root (Left n) v r d = refl
+other-root (Right n) v r d = refl
+
+not-hit : (l : Link) (n : ℕ) (z : Side) → owner l ≢ n → hitsLink l n z ≡ false
+not-hit l n z d = other-link l n z (λ e. d (ap owner (sym e) ∙ owner-at z n))
+
+pub owner-linked : (p : List ℕ) (l : Link) (n : ℕ) → n ≢ 0 → TreeLink p l → ¬ (HasStanding p n standingLinked) → owner l ≢ n
 owner-linked p Root n z o d e = z (sym e)
 owner-linked p (Left m) n z o d e = d (subst (λ i. HasStanding p i standingLinked) e o)
 owner-linked p (Right m) n z o d e = d (subst (λ i. HasStanding p i standingLinked) e o)
@@ -75,7 +84,7 @@ linked-stays : {st mid : State} {came : List ℕ} {l : Link} {v : ℕ} → Store
 linked-stays s n e i = let z = s .new n i .0 in absurd (omega arith)
 
 -- What was stored, then the nodes of `gone` retired.
-module _ (st mid after : State) (q came gone : List ℕ) (l : Link) (v : ℕ) (w : Whole (st .pool)) (o : OwnerLinked (st .pool) l) (h : Owned st q) (s : Stored st mid came l v)
+module _ (st mid after : State) (q came gone : List ℕ) (l : Link) (v : ℕ) (w : Whole (st .pool)) (o : TreeLink (st .pool) l) (h : Owned st q) (s : Stored st mid came l v)
     (quiet : Quiet mid after) (each : (n : ℕ) → Retires (mid .pool) (after .pool) (Reads mid) n)
     (was-linked : (n : ℕ) → n ∈ gone → HasStanding (st .pool) n standingLinked × (owner l ≢ n) × (word (after .pool) n standingWord ≢ standingLinked))
     (kept : (n : ℕ) → ¬ (n ∈ gone) → word (after .pool) n standingWord ≡ word (mid .pool) n standingWord)
@@ -138,7 +147,7 @@ module _ (st mid after : State) (q came gone : List ℕ) (l : Link) (v : ℕ) (w
     owned = owned;
   }
 
-module _ (st mid : State) (q came : List ℕ) (l : Link) (v : ℕ) (w : Whole (st .pool)) (o : OwnerLinked (st .pool) l) (h : Owned st q) (s : Stored st mid came l v) where
+module _ (st mid : State) (q came : List ℕ) (l : Link) (v : ℕ) (w : Whole (st .pool)) (o : TreeLink (st .pool) l) (h : Owned st q) (s : Stored st mid came l v) where
   linked-mid : (n : ℕ) → HasStanding (st .pool) n standingLinked → HasStanding (mid .pool) n standingLinked
   linked-mid n e = s .standing n (linked-stays s n e) ∙ e
 
@@ -204,3 +213,30 @@ turn-write st a came gone l v x t = record {
   queue = t .queue;
   owned = own-fields (a .pool) (a .register) (withWrite (a .register) x) (t .queue) refl refl refl refl (t .owned .awaited) (t .owned);
 }
+
+-- Such a turn makes one store (promise: StoresOne), if it changes the link, and the node that comes, if any, is its new node.
+module _ (st after : State) (came gone : List ℕ) (l : Link) (v : ℕ) (t : Turn st after came gone l v) where
+  not-came : (n : ℕ) → HasStanding (st .pool) n standingLinked → ¬ (n ∈ came)
+  not-came n e i = let z = t .new n i in absurd (omega arith)
+
+  link-holds : (m : Link) → m ≡ l → TreeLink (st .pool) m → linkNode after m ≡ v
+  unfolding nodeAt
+  link-holds Root e o = t .root ∙ rw (← e)
+  link-holds (Left n) e o = t .links n L (not-came n o) ∙ rw (← e, eq-eqb n n refl)
+  link-holds (Right n) e o = t .links n R (not-came n o) ∙ rw (← e, eq-eqb n n refl)
+
+  link-stays : (m : Link) → m ≢ l → TreeLink (st .pool) m → linkNode after m ≡ linkNode st m
+  unfolding nodeAt
+  link-stays Root d o = t .root ∙ other-root l v (st .register .root) d
+  link-stays (Left n) d o = t .links n L (not-came n o) ∙ rw (other-link l n L d)
+  link-stays (Right n) d o = t .links n R (not-came n o) ∙ rw (other-link l n R d)
+
+  pub turn-stores : TreeLink (st .pool) l → linkNode st l ≢ v → ((n : ℕ) → n ∈ came → n ≡ v) → StoresOne st after l v
+  turn-stores o d f = record {
+    own = o;
+    moved = d;
+    holds = link-holds l refl o;
+    others = link-stays;
+    tickets = λ n e. (t .keys n (not-came n e), t .records n (not-came n e));
+    comes = λ n d e. ⊎-elim (λ i. absurd (d i)) (f n) (t .linked n .0 e .0);
+  }

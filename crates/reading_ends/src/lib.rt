@@ -16,7 +16,7 @@ ghost use Rattle.spec.specs.Free.{release, endReading};
 // a node's standing stands so many words before the node's end
 const STANDING_BACK: usize = numbers::NODE_WORDS - pool::STANDING_PLACE;
 
-// A number that is at least the standing of each of two nodes from n on; of four; of eight.
+// Answers a number that is at least the standing of each of two nodes from n on; the next two: of four, and of eight.
 fn two_standings(pool: &[u32], n: usize) -> u32
     requires { ⌜ (1 ≤ n) × ((n + 1) * nodeWords ≤ length (now pool)) ⌝ }
     ensures { λ r. ⌜ Bounded (now (pool .entry)) n (n + 2) r ⌝ }
@@ -69,7 +69,7 @@ fn next_retired(pool: &[u32], from: usize, capacity: usize) -> usize
     scan_retired(pool, n, capacity)
 }
 
-// a retired node loses slot s, and is freed if it is then without a holder
+// Takes slot s from a retired node's holders, and frees the node if it is then without a holder.
 fn release(pool: &mut [u32], h: Head, s: u32, n: u32) -> Head
     requires { ⌜ (length (now pool) < poolLimit) × (s < wordBits) × (eqb (word (now pool) n standingWord) standingRetired ≡ true) ⌝ }
     ensures { λ r. ⌜ Follows (λ st. release s st n) (now (pool .entry)) h (now (pool .exit)) r ⌝ }
@@ -82,7 +82,7 @@ fn release(pool: &mut [u32], h: Head, s: u32, n: u32) -> Head
     h
 }
 
-// The reading of slot s ends: its bit leaves the awaited slots, and every retired node, in rising number, is released.
+// Ends the reading of slot s: its bit leaves the awaited slots, and every retired node, in rising number, is released.
 pub fn end_reading(pool: &mut [u32], h: Head, s: u32) -> Head
     requires { ⌜ (length (now pool) < poolLimit) × (s < slots) ⌝ }
     ensures { λ r. ⌜ ((q : Register) → at (now (pool .exit)) r (withReader q s noReader) ≡ endReading (at (now (pool .entry)) h q) s) ⌝ }

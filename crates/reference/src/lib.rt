@@ -69,42 +69,52 @@ fn count(tree: &mut [u32], h: u32) {
     }
 }
 
+// Answers the root's node.
 pub fn root(tree: &[u32]) -> u32 {
     field(tree, HEAD, ROOT)
 }
 
+// Answers how many keys are held.
 pub fn held(tree: &[u32]) -> u32 {
     field(tree, HEAD, HELD)
 }
 
+// Answers how many single rotations the last write made.
 pub fn single_rotations(tree: &[u32]) -> u32 {
     field(tree, HEAD, SINGLES)
 }
 
+// Answers how many double rotations the last write made.
 pub fn double_rotations(tree: &[u32]) -> u32 {
     field(tree, HEAD, DOUBLES)
 }
 
+// Answers how many loops ran out.
 pub fn overruns(tree: &[u32]) -> u32 {
     field(tree, HEAD, OVERRUNS)
 }
 
+// Answers a node's key.
 pub fn key(tree: &[u32], n: u32) -> u32 {
     field(tree, KEY, n)
 }
 
+// Answers a node's record.
 pub fn record(tree: &[u32], n: u32) -> u32 {
     field(tree, RECORD, n)
 }
 
+// Answers a node's left child.
 pub fn left(tree: &[u32], n: u32) -> u32 {
     field(tree, LEFT, n)
 }
 
+// Answers a node's right child.
 pub fn right(tree: &[u32], n: u32) -> u32 {
     field(tree, RIGHT, n)
 }
 
+// Answers a node's colour.
 pub fn colour(tree: &[u32], n: u32) -> u32 {
     field(tree, COLOUR, n)
 }
@@ -194,7 +204,7 @@ fn clear_words(tree: &mut [u32]) {
     }
 }
 
-// the empty tree
+// Makes the tree empty.
 pub fn clear(tree: &mut [u32]) {
     clear_words(tree);
     let mut n: u32 = 1;
@@ -205,7 +215,7 @@ pub fn clear(tree: &mut [u32]) {
     set_field(tree, HEAD, FREE, 1);
 }
 
-// the node that holds a key, or nil
+// Answers the node that holds a key, or nil.
 pub fn find(tree: &mut [u32], k: u32) -> u32 {
     let mut node = root(tree);
     let mut turns: u32 = 0;
@@ -347,7 +357,7 @@ fn begin_write(tree: &mut [u32]) {
     set_field(tree, HEAD, DOUBLES, 0);
 }
 
-// puts in a key that is not held
+// Inserts a key that is not held.
 pub fn insert(tree: &mut [u32], k: u32, v: u32) {
     begin_write(tree);
     let above = last_on_path(tree, k);
@@ -497,7 +507,7 @@ fn move_up(tree: &mut [u32], z: u32) {
     }
 }
 
-// takes out a key that is held
+// Deletes a key that is held.
 pub fn delete(tree: &mut [u32], k: u32) {
     begin_write(tree);
     let z = find(tree, k);
@@ -517,7 +527,7 @@ pub fn delete(tree: &mut [u32], k: u32) {
     move_up(tree, z);
 }
 
-// The forms of a delete: 1 at most one child, 2 two children and the right one without a left child, 3 any other.
+// Answers the form of a delete: 1 at most one child, 2 two children and the right one without a left child, 3 any other.
 pub fn delete_form(tree: &mut [u32], k: u32) -> u32 {
     let z = find(tree, k);
     if (left(tree, z) == NIL) | (right(tree, z) == NIL) {

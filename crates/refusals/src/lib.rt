@@ -7,7 +7,7 @@ ghost use Rattle.laws.specs.Tests.{lentNumber};
 ghost use Rattle.refusals.specs.Slots.{slotIndex, slotNumber};
 ghost use Prim.Native.Nat.{_<_};
 
-// Tests 1 and 2. The register goes first: nothing of it is kept over the pass through the pool.
+// Makes tests 1 and 2 of what was lent. The register is tested first: nothing of it is kept over the pass through the pool.
 pub fn lent_refusal(pool: &[u32], reg: Register) -> u32
     ensures { λ r. ⌜ r ≡ lentNumber (state (now (pool .entry)) reg) ⌝ }
 {
@@ -21,7 +21,7 @@ pub fn lent_refusal(pool: &[u32], reg: Register) -> u32
     0
 }
 
-// where slot s's record stands; of a slot too high, the first
+// Answers where slot s's record stands; of a slot too high, the first.
 pub fn slot_index(s: u32) -> usize
     ensures { λ r. ⌜ (r ≡ slotIndex s) × (r < slots) ⌝ }
 {
@@ -32,7 +32,7 @@ pub fn slot_index(s: u32) -> usize
     }
 }
 
-// The tests of a call that names slot s, from the number of tests 1 and 2 and the call's own cause with its number.
+// Makes the tests of a call that names slot s, from the number of tests 1 and 2 and the call's own cause with its number.
 pub fn slot_refusal(lent: u32, s: u32, cause: bool, number: u32) -> u32
     ensures { λ r. ⌜ r ≡ slotNumber lent s cause number ⌝ }
 {

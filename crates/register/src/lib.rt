@@ -13,7 +13,7 @@ ghost use Rattle.spec.specs.Register.{noReader, begunReader, movedReader, vacan
 ghost use Rattle.spec.specs.Register.{readingSlots, nodeNumber, linkInRange, stepInRange, isRoot, isVacant, storeInRange, readerInRange, registerInRange};
 ghost use Rattle.base.specs.Walk.{allIn};
 
-// A reader record: of a slot that doesn't read; as begin makes it; after a turn that loaded node n.
+// Makes the record of a slot that isn't reading.
 pub fn no_reader() -> Reader
     ensures { λ r. ⌜ r ≡ noReader ⌝ }
 {
@@ -24,6 +24,7 @@ pub fn no_reader() -> Reader
     }
 }
 
+// Makes the record of a slot that begins to read the key k.
 pub fn begun_reader(k: u32) -> Reader
     ensures { λ r. ⌜ r ≡ begunReader k ⌝ }
 {
@@ -34,6 +35,7 @@ pub fn begun_reader(k: u32) -> Reader
     }
 }
 
+// Makes the record of a slot after a turn that loaded node n.
 pub fn moved_reader(x: Reader, n: u32) -> Reader
     ensures { λ r. ⌜ r ≡ movedReader x n ⌝ }
 {
@@ -44,7 +46,7 @@ pub fn moved_reader(x: Reader, n: u32) -> Reader
     }
 }
 
-// no store, and a write without any
+// Makes the store that stands for no store.
 pub fn vacant() -> Store
     ensures { λ r. ⌜ r ≡ vacant ⌝ }
 {
@@ -54,6 +56,7 @@ pub fn vacant() -> Store
     }
 }
 
+// Makes a write with no store to come: none is in hand.
 pub fn no_write() -> Write
     ensures { λ r. ⌜ r ≡ noWrite ⌝ }
 {
@@ -64,6 +67,7 @@ pub fn no_write() -> Write
     }
 }
 
+// Puts a write in hand into a register.
 pub fn with_write(reg: Register, w: Write) -> Register
     ensures { λ r. ⌜ r ≡ withWrite reg w ⌝ }
 {
@@ -72,7 +76,7 @@ pub fn with_write(reg: Register, w: Write) -> Register
     r
 }
 
-// whether slot s is in a mask, and the mask with it and without it
+// Answers whether slot s is in a mask.
 pub fn has_slot(m: u32, s: u32) -> bool
     requires { ⌜ s < wordBits ⌝ }
     ensures { λ r. ⌜ r ≡ hasSlot m s ⌝ }
@@ -80,6 +84,7 @@ pub fn has_slot(m: u32, s: u32) -> bool
     (m >> s) % 2 == 1
 }
 
+// Answers a mask with slot s too.
 pub fn put_slot(m: u32, s: u32) -> u32
     requires { ⌜ s < wordBits ⌝ }
     ensures { λ r. ⌜ r ≡ putSlot m s ⌝ }
@@ -87,6 +92,7 @@ pub fn put_slot(m: u32, s: u32) -> u32
     if has_slot(m, s) { m } else { m + (1 << s) }
 }
 
+// Answers a mask without slot s.
 pub fn drop_slot(m: u32, s: u32) -> u32
     requires { ⌜ s < wordBits ⌝ }
     ensures { λ r. ⌜ r ≡ dropSlot m s ⌝ }
@@ -94,7 +100,7 @@ pub fn drop_slot(m: u32, s: u32) -> u32
     if has_slot(m, s) { m - (1 << s) } else { m }
 }
 
-// the mask with slot s too, if it reads
+// Answers a mask with slot s too, if it reads.
 fn add_slot(m: u32, s: u32, reading: bool) -> u32
     requires { ⌜ s < wordBits ⌝ }
     ensures { λ r. ⌜ r ≡ cond reading (putSlot m s) m ⌝ }
@@ -102,7 +108,7 @@ fn add_slot(m: u32, s: u32, reading: bool) -> u32
     if reading { put_slot(m, s) } else { m }
 }
 
-// all reading slots
+// Answers the mask of all reading slots.
 pub fn reading_slots(reg: Register) -> u32
     ensures { λ r. ⌜ r ≡ readingSlots reg ⌝ }
 {
@@ -180,7 +186,7 @@ fn is_vacant(s: Step) -> bool
     }
 }
 
-// a store that is to come, or a vacant one
+// Tests a store that is to come, or a vacant one.
 fn store_in_range(x: Store, coming: bool, capacity: u32) -> bool
     ensures { λ r. ⌜ r ≡ cond coming (linkInRange capacity (x .link) && stepInRange capacity (x .step)) (isRoot (x .link) && isVacant (x .step)) ⌝ }
 {
@@ -222,7 +228,7 @@ fn stores_in_range(w: Write, capacity: u32) -> bool
     true
 }
 
-// every field of the register in its range
+// Tests whether every field of the register is in its range.
 pub fn register_in_range(reg: Register, capacity: u32) -> bool
     ensures { λ r. ⌜ r ≡ registerInRange capacity reg ⌝ }
 {

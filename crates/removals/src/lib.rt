@@ -1,4 +1,6 @@
-// The stores of a writer's turn that take a node out of the tree: unlink, replace, detach.
+// The stores of a writer's turn that take a node out of the tree: unlink, replace, detach. Each function tries one store: it tests that the
+// nodes are there before it changes anything. In the drawings small letters are subtrees, and a subtree drawn twice is one, held by two
+// links.
 use datatypes::Fixup;
 use datatypes::Head;
 use datatypes::Link;
@@ -15,7 +17,7 @@ ghost use Rattle.spec.specs.Turn.{oneLess, painted};
 ghost use Rattle.heads.specs.Head.{Follows, FollowsReading, TriesReading};
 ghost use Rattle.paths.specs.Upward.{upward};
 
-// The colours of a fix-up along a path of that depth, where x came; then n is retired.
+// Paints the colours of a fix-up along a path of that depth, where x came; then retires n.
 fn colour_and_retire(
     pool: &mut [u32],
     h: Head,
@@ -33,7 +35,7 @@ fn colour_and_retire(
     queue::retire(pool, h, reading, n)
 }
 
-// The link l is stored with v, and a key less is held.
+// Stores v in the link l; one key less is held.
 fn store_one_less(pool: &mut [u32], h: Head, l: Link, v: u32) -> Head
     ensures { λ r. ⌜ Follows (λ st. oneLess (setLink st l v)) (now (pool .entry)) h (now (pool .exit)) r ⌝ }
 {
@@ -42,7 +44,14 @@ fn store_one_less(pool: &mut [u32], h: Head, l: Link, v: u32) -> Head
     r
 }
 
-// B's link from above := its only child, or 0.
+// Delete of B, at most one child: stores that child x, or 0, in B's link from above; makes the colour work and retires B. This is the
+// write's list store.
+//
+//        D             D
+//        |             |
+//        B      =>     x
+//       /
+//      x
 pub fn unlink(pool: &mut [u32], h: Head, reading: u32, l: Link) -> StepResult
     requires { ⌜ length (now pool) < poolLimit ⌝ }
     ensures { λ r. ⌜ TriesReading reading l Unlink (now (pool .entry)) h (now (pool .exit)) r ⌝ }
@@ -67,7 +76,7 @@ pub fn unlink(pool: &mut [u32], h: Head, reading: u32, l: Link) -> StepResult
     }
 }
 
-// B's link from above := C, which takes B's colour.
+// Stores C in B's link from above and gives C its colour, B's.
 fn store_successor(pool: &mut [u32], h: Head, l: Link, n: u32, colour: u32) -> Head
     ensures { λ r. ⌜ Follows (λ st. painted (oneLess (setLink st l n)) n colour) (now (pool .entry)) h (now (pool .exit)) r ⌝ }
 {
@@ -76,7 +85,16 @@ fn store_successor(pool: &mut [u32], h: Head, l: Link, n: u32, colour: u32) -> H
     r
 }
 
-// B's link from above := C, its right child, which has no left child but B's.
+// Delete of B, right child C without left child, last store: stores C in B's link from above, gives C B's colour, makes the colour work and
+// retires B. This is the write's list store.
+//
+//        D               D
+//        |               |
+//        B               C            B retired: its children are l and C
+//       / \     =>      / \
+//      l   C           l   y
+//         / \
+//        l   y
 pub fn replace(pool: &mut [u32], h: Head, reading: u32, l: Link) -> StepResult
     requires { ⌜ length (now pool) < poolLimit ⌝ }
     ensures { λ r. ⌜ TriesReading reading l Replace (now (pool .entry)) h (now (pool .exit)) r ⌝ }
@@ -104,7 +122,18 @@ pub fn replace(pool: &mut [u32], h: Head, reading: u32, l: Link) -> StepResult
     }
 }
 
-// F's left := C's right, where C is found by the key from the link l.
+// Delete of B, other, last store, after the awaited slots have ended: stores C's right child in F's left link, makes the colour work and
+// retires C. C is found again from the link l, which holds C' now, by B's key.
+//
+//        C'              C'
+//       / \             / \
+//      l   ..          l   ..
+//         /      =>       /
+//        F               F
+//       /               /
+//      C               y              C retired: its right child is y
+//       \
+//        y
 pub fn detach(pool: &mut [u32], h: Head, reading: u32, l: Link, key: u32) -> StepResult
     requires { ⌜ length (now pool) < poolLimit ⌝ }
     ensures { λ r. ⌜ TriesReading reading l (Detach key) (now (pool .entry)) h (now (pool .exit)) r ⌝ }

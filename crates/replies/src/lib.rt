@@ -9,6 +9,7 @@ use datatypes::WriterReply;
 ghost use mathlib.Core.Path.{_≡_};
 ghost use Rattle.spec.specs.Calls.{ok, wait, refused, accepts, writerSays, readerSays};
 
+// Makes the reply of an accepted call.
 pub fn accepted(register: Register) -> Reply
     ensures { λ r. ⌜ (accepts (r .answer) ≡ ok) × (r .register ≡ register) ⌝ }
 {
@@ -18,6 +19,7 @@ pub fn accepted(register: Register) -> Reply
     }
 }
 
+// Makes the reply of a refused call.
 pub fn refused(number: u32, register: Register) -> Reply
     ensures { λ r. ⌜ (accepts (r .answer) ≡ refused number) × (r .register ≡ register) ⌝ }
 {
@@ -27,7 +29,7 @@ pub fn refused(number: u32, register: Register) -> Reply
     }
 }
 
-// the writer's that make no store
+// Makes the reply of a refused writer's turn.
 pub fn refuses_writer(number: u32, register: Register) -> WriterReply
     ensures { λ r. ⌜ (writerSays (r .answer) ≡ refused number) × (r .register ≡ register) ⌝ }
 {
@@ -37,6 +39,7 @@ pub fn refuses_writer(number: u32, register: Register) -> WriterReply
     }
 }
 
+// Makes the reply of a writer's turn that waits.
 pub fn waits(register: Register) -> WriterReply
     ensures { λ r. ⌜ (writerSays (r .answer) ≡ wait) × (r .register ≡ register) ⌝ }
 {
@@ -46,13 +49,14 @@ pub fn waits(register: Register) -> WriterReply
     }
 }
 
-// a reader's
+// Makes the reply of a reader's turn.
 pub fn answers_reader(answer: ReaderAnswer, register: Register) -> ReaderReply
     ensures { λ r. ⌜ (readerSays (r .answer) ≡ readerSays answer) × (r .register ≡ register) ⌝ }
 {
     ReaderReply { answer, register }
 }
 
+// Makes the reply of a refused reader's turn.
 pub fn refuses_reader(number: u32, register: Register) -> ReaderReply
     ensures { λ r. ⌜ (readerSays (r .answer) ≡ refused number) × (r .register ≡ register) ⌝ }
 {

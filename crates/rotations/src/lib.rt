@@ -1,5 +1,7 @@
 // The stores of a rotation: diag and zig, left and right alike. Each function tries one store: it tests that the nodes are there, and
 // the free node that it takes, before it changes anything.
+// The drawings have the rising child on the left; l is the link from above, which holds the top C. Small letters are subtrees, and a
+// subtree drawn twice is one, held by two links. docs/PICTURES.md draws whole runs, with a reader.
 use datatypes::Head;
 use datatypes::Link;
 use datatypes::Purpose;
@@ -16,7 +18,7 @@ ghost use Rattle.spec.specs.Turn.{painted, copyNode, copyColour, risenColour, u
 ghost use Rattle.datatypes.specs.declared.Register.{Register};
 ghost use Rattle.heads.specs.Head.{Follows, Tries, TriesReading};
 
-// A copy of node n is taken, with x on the side s and y on the other side.
+// Takes a copy of node n, with x on the side s and y on the other side.
 pub fn take_copy(pool: &mut [u32], h: Head, n: u32, s: Side, x: u32, y: u32, colour: u32) -> Head
     ensures { λ r. ⌜ Follows (λ st. copyNode st n s x y colour) (now (pool .entry)) h (now (pool .exit)) r ⌝ }
 {
@@ -25,6 +27,7 @@ pub fn take_copy(pool: &mut [u32], h: Head, n: u32, s: Side, x: u32, y: u32, col
     queue::take_node(pool, h, k, v, s, x, y, colour)
 }
 
+// Answers the colour of the rotation's copies.
 fn copy_colour(purpose: Purpose) -> u32
     ensures { λ r. ⌜ r ≡ copyColour purpose ⌝ }
 {
@@ -35,7 +38,7 @@ fn copy_colour(purpose: Purpose) -> u32
     }
 }
 
-// the risen node's colour, c being the top
+// Answers the risen node's colour, c being the top.
 fn risen_colour(pool: &[u32], purpose: Purpose, c: u32) -> u32
     ensures { λ r. ⌜ ((q : Register) → r ≡ risenColour purpose (state (now (pool .entry)) q) c) ⌝ }
 {
@@ -46,7 +49,15 @@ fn risen_colour(pool: &[u32], purpose: Purpose, c: u32) -> u32
     }
 }
 
-// C' takes B's inner child on B's side; B's inner link := C'.
+// Diag, first store: takes C', a copy of the top, which has B's inner child x on B's side, and stores it in B's inner link.
+//
+//        C               C
+//       / \             / \
+//      B   r           B   r
+//     / \       =>    / \
+//    o   x           o   C'
+//                       / \
+//                      x   r
 pub fn diag_lower(pool: &mut [u32], h: Head, l: Link, s: Side, purpose: Purpose) -> StepResult
     ensures { λ r. ⌜ Tries l (DiagLower s purpose) (now (pool .entry)) h (now (pool .exit)) r ⌝ }
 {
@@ -72,7 +83,17 @@ pub fn diag_lower(pool: &mut [u32], h: Head, l: Link, s: Side, purpose: Purpose)
     }
 }
 
-// A' takes B's child on A's side; B's link on that side := A'.
+// Zig, first store: takes A', a copy of A, which has B's child x on A's inner side, and stores it in B's link on A's side.
+//
+//        C               C
+//       / \             / \
+//      A   r           A   r
+//     / \       =>    / \
+//    a   B           a   B
+//       / \             / \
+//      x   y           A'  y
+//                     / \
+//                    a   x
 pub fn zig_lower_a(pool: &mut [u32], h: Head, l: Link, s: Side, purpose: Purpose) -> StepResult
     ensures { λ r. ⌜ Tries l (ZigLowerA s purpose) (now (pool .entry)) h (now (pool .exit)) r ⌝ }
 {
@@ -97,7 +118,17 @@ pub fn zig_lower_a(pool: &mut [u32], h: Head, l: Link, s: Side, purpose: Purpose
     }
 }
 
-// C' takes B's child on the other side; B's link on that side := C'.
+// Zig, second store: takes C', a copy of the top, which has B's other child y on A's side, and stores it in B's link on the other side.
+//
+//        C               C
+//       / \             / \
+//      A   r           A   r
+//     / \       =>    / \
+//    a   B           a   B
+//       / \             / \
+//      A'  y           A'  C'
+//     / \             / \  / \
+//    a   x           a  x y   r
 pub fn zig_lower_c(pool: &mut [u32], h: Head, l: Link, s: Side, purpose: Purpose) -> StepResult
     ensures { λ r. ⌜ Tries l (ZigLowerC s purpose) (now (pool .entry)) h (now (pool .exit)) r ⌝ }
 {
@@ -123,7 +154,7 @@ pub fn zig_lower_c(pool: &mut [u32], h: Head, l: Link, s: Side, purpose: Purpose
     }
 }
 
-// The link from above := B, which takes its colour.
+// Stores B in the link from above and gives B its colour.
 fn raise(pool: &mut [u32], h: Head, l: Link, b: u32, colour: u32) -> Head
     ensures { λ r. ⌜ Follows (λ st. painted (setLink st l b) b colour) (now (pool .entry)) h (now (pool .exit)) r ⌝ }
 {
@@ -132,7 +163,8 @@ fn raise(pool: &mut [u32], h: Head, l: Link, b: u32, colour: u32) -> Head
     r
 }
 
-// Under the copy that a red sibling's diag leaves, with the black sibling on the side s: without a red child it turns red, the copy black.
+// Ends the work under the copy that a red sibling's diag leaves, with the black sibling w on the side s: if w has no red child, w turns red
+// and the copy black. Otherwise a rotation is still to come.
 fn under_copy(pool: &mut [u32], s: Side, copy: u32)
     ensures { λ _. ⌜ ((q : Register) → now (pool .exit) ≡ underCopy (state (now (pool .entry)) q) s copy .pool) ⌝ }
 {
@@ -144,7 +176,7 @@ fn under_copy(pool: &mut [u32], s: Side, copy: u32)
     pool::set_word(pool, copy, pool::COLOUR, pool::BLACK);
 }
 
-// the colour work after a diag's last store, B being risen
+// Makes the colour work after a diag's last store, B being risen.
 fn end_diag(pool: &mut [u32], root: u32, purpose: Purpose, s: Side, b: u32)
     ensures { λ _. ⌜ ((q : Register) → q .root ≡ root → now (pool .exit) ≡ endDiag purpose (state (now (pool .entry)) q) s b .pool) ⌝ }
 {
@@ -161,7 +193,7 @@ fn end_diag(pool: &mut [u32], root: u32, purpose: Purpose, s: Side, b: u32)
     }
 }
 
-// whether the nodes that this colour work names are there
+// Tests whether the nodes that this colour work names are there.
 fn end_diag_finds(pool: &[u32], purpose: Purpose, s: Side, b: u32) -> bool
     ensures { λ r. ⌜ ((q : Register) → r ≡ endDiagFinds purpose (state (now (pool .entry)) q) s b) ⌝ }
 {
@@ -172,7 +204,17 @@ fn end_diag_finds(pool: &[u32], purpose: Purpose, s: Side, b: u32) -> bool
     }
 }
 
-// The link from above := B; C retired.
+// Diag, last store: stores B in the link from above and retires C, whose links stay for the readers that stand there.
+//
+//        D               D
+//        |               |
+//        C               B            C retired: its children are B and r
+//       / \             / \
+//      B   r     =>    o   C'
+//     / \                 / \
+//    o   C'              x   r
+//       / \
+//      x   r
 pub fn diag_raise(
     pool: &mut [u32],
     h: Head,
@@ -204,7 +246,7 @@ pub fn diag_raise(
     }
 }
 
-// the colour work after a zig's last store
+// Makes the colour work after a zig's last store.
 fn end_zig(pool: &mut [u32], root: u32, purpose: Purpose)
     ensures { λ _. ⌜ ((q : Register) → q .root ≡ root → now (pool .exit) ≡ endZig purpose (state (now (pool .entry)) q) .pool) ⌝ }
 {
@@ -215,7 +257,19 @@ fn end_zig(pool: &mut [u32], root: u32, purpose: Purpose)
     }
 }
 
-// The link from above := B; A and C retired.
+// Zig, last store: stores B in the link from above and retires A and C, whose links stay for the readers that stand there.
+//
+//        D               D
+//        |               |
+//        C               B            A retired: its children are a and B
+//       / \            /   \          C retired: its children are A and r
+//      A   r     =>   A'    C'
+//     / \            / \   / \
+//    a   B          a   x y   r
+//       / \
+//      A'  C'
+//     / \  / \
+//    a  x y   r
 pub fn zig_raise(
     pool: &mut [u32],
     h: Head,

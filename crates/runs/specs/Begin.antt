@@ -1,13 +1,12 @@
 -- An index just set up is a sound start: every node stands free and is queued in order, the tree is empty.
 use Prim.Native.Nat.{ℕ, zero, suc, _+_, _-_, _*_, _<_, _≤_}
 use mathlib.Core.Path.{_≡_, refl, sym, ap, _∙_, subst}
-use mathlib.Core.List.{List, [], _∷_}
-use mathlib.Core.Logic.{_⊎_, inl, inr, ⊎-elim, _↔_}
+use mathlib.Core.List.{List}
 use native.Mathlib.Omega.{arith}
 use native.Mathlib.Decide.{ℕ-discrete, decLe, decLt}
 use borrow.Author.Tests.{ne-eqb, lt-ltb, le-ltb}
 use lib.ListN.{length, getD, replicate}
-use Rattle.base.specs.Lists.{_∈_, Distinct, getD-past, getD-same}
+use Rattle.base.specs.Lists.{numbersFrom, numbers-length, numbers-in, numbers-distinct, getD-past, getD-same}
 use Rattle.spec.specs.Numbers.{nodeWords, leastNodes, mostNodes, slots}
 use Rattle.spec.specs.Pool.{place, word, nextWord, standingWord, freshPool}
 use Rattle.spec.specs.Register.{noReader, fresh, freshRegister}
@@ -26,30 +25,9 @@ use Rattle.ranges.specs.Calls.{Ranged, ranged-in}
 use Rattle.promise.specs.Starts.{SoundStart}
 use Rattle.runs.specs.Starts.{exact-right}
 
--- k numbers from n on
-abbrev run : ℕ → ℕ → List ℕ
-run zero n = []
-run (suc k) n = n ∷ run k (n + 1)
-
-run-length : (k n : ℕ) → length (run k n) ≡ k
-run-length zero n = refl
-run-length (suc k) n = ap suc (run-length k (n + 1))
-
-run-in : (k n m : ℕ) → (m ∈ run k n) ↔ ((n ≤ m) × (m < n + k))
-run-in zero n m = (λ i. absurd i, λ h. (let a = h .0 in let b = h .1 in absurd (omega arith)))
-run-in (suc k) n m =
-    let r = run-in k (n + 1) m in (
-      λ i. ⊎-elim (λ e. (omega arith, omega arith)) (λ j. (let a = r .0 j in (omega arith, omega arith))) i,
-      λ h. elim (ℕ-discrete m n) [ yes e ↦ inl e | no d ↦ inr (r .1 (omega arith, omega arith)) ],
-    )
-
-run-distinct : (k n : ℕ) → Distinct (run k n)
-run-distinct zero n = tt
-run-distinct (suc k) n = (λ i. (let a = run-in k (n + 1) n .0 i in omega arith), run-distinct k (n + 1))
-
-run-last : (k n : ℕ) → lastOf (run (suc k) n) ≡ n + k
-run-last zero n = omega arith
-run-last (suc k) n = run-last k (n + 1) ∙ omega arith
+numbers-last : (k n : ℕ) → lastOf (numbersFrom (suc k) n) ≡ n + k
+numbers-last zero n = omega arith
+numbers-last (suc k) n = numbers-last k (n + 1) ∙ omega arith
 
 module _ (N : ℕ) (lo : leastNodes ≤ N) where
   abbrev pub p : List ℕ
@@ -84,26 +62,26 @@ module _ (N : ℕ) (lo : leastNodes ≤ N) where
   word-last : word p N nextWord ≡ 0
   word-last = node-word N nextWord (omega arith) (omega arith) (omega arith) ∙ rw (le-ltb (suc (N - 1)) N (omega arith))
 
-  chain-run : (k n : ℕ) → 1 ≤ n → n + k ≡ N → Chain p n (run (suc k) n)
-  chain-run zero n a e = (refl, node-in p n a (let z = size in omega arith), (let i : n ≡ N = omega arith in rw i word-last))
-  chain-run (suc k) n a e = (refl, node-in p n a (let z = size in omega arith), rw (word-next n a (omega arith)) (chain-run k (n + 1) (omega arith) (omega arith)))
+  chain-numbers : (k n : ℕ) → 1 ≤ n → n + k ≡ N → Chain p n (numbersFrom (suc k) n)
+  chain-numbers zero n a e = (refl, node-in p n a (let z = size in omega arith), (let i : n ≡ N = omega arith in rw i word-last))
+  chain-numbers (suc k) n a e = (refl, node-in p n a (let z = size in omega arith), rw (word-next n a (omega arith)) (chain-numbers k (n + 1) (omega arith) (omega arith)))
 
-  exact : QueueExact (fresh N) (run N 1)
+  exact : QueueExact (fresh N) (numbersFrom N 1)
   unfolding fresh freshRegister
   exact =
       let z = size in
       let i : suc (N - 1) ≡ N = omega arith in
       record {
         queued = record {
-          chain = subst (λ m. Chain p 1 (run m 1)) i (chain-run (N - 1) 1 (omega arith) (omega arith));
-          last = sym (subst (λ m. lastOf (run m 1) ≡ N) i (run-last (N - 1) 1 ∙ omega arith));
+          chain = subst (λ m. Chain p 1 (numbersFrom m 1)) i (chain-numbers (N - 1) 1 (omega arith) (omega arith));
+          last = sym (subst (λ m. lastOf (numbersFrom m 1) ≡ N) i (numbers-last (N - 1) 1 ∙ omega arith));
         };
-        once = run-distinct N 1;
+        once = numbers-distinct N 1;
         standing = λ n. (
-          λ j. (let a = run-in N 1 n .0 j in (node-in p n (a .0) (let b = a .1 in omega arith), word-low n standingWord (omega arith))),
-          λ a. run-in N 1 n .1 (a .0 .low, (let b = node-high p n (a .0) in omega arith)),
+          λ j. (let a = numbers-in N 1 n .0 j in (node-in p n (a .0) (let b = a .1 in omega arith), word-low n standingWord (omega arith))),
+          λ a. numbers-in N 1 n .1 (a .0 .low, (let b = node-high p n (a .0) in omega arith)),
         );
-        counted = sym (run-length N 1);
+        counted = sym (numbers-length N 1);
       }
 
   quiet : (s : ℕ) → getD (replicate slots noReader) s noReader ≡ noReader
@@ -164,7 +142,7 @@ module _ (N : ℕ) (lo : leastNodes ≤ N) where
     proper = proper-leaf;
     linked = λ n. (λ e. (let a = word-low n standingWord (omega arith) in absurd (omega arith)), λ l. absurd (unreached n l));
     unretired = λ n e. (let a = word-low n standingWord (omega arith) in omega arith);
-    free = exact-right (fresh N) (run N 1) exact;
+    free = exact-right (fresh N) (numbersFrom N 1) exact;
     told = λ k. refl;
     once = tt;
     held = refl;

@@ -29,7 +29,7 @@ use Rattle.readers.specs.Turns.{Turn}
 use Rattle.readers.specs.CallCase as CallCase
 use Rattle.readers.specs.CallCase.{CallCase, call-case, refuses, plansInsert, plansDelete, waits, stores, begins, loads, misses, finds}
 use Rattle.readers.specs.Safe.{Safe}
-use Rattle.runs.specs.Writer.{Writer, afterStore}
+use Rattle.runs.specs.Writer.{Writer, firstMade, afterStore}
 use Rattle.runs.specs.Sound.{Sound, Starts}
 use Rattle.runs.specs.Follow.{BeginsBy}
 use Rattle.runs.specs.Answers.{slotOf, kindOf, toldOf}
@@ -112,7 +112,7 @@ module _ (W : State → Plain → Linked → Type 0) (writer : Writer W) where
   held-before st x c o (waits d) h s m k = held-was _ s m k
   held-before st x c o (stores a w f) h s m k =
       let z = writer .store st x (h .tree) (h .safe) (h .holds) a w f in
-      turn-was st (afterStore st) (z .came) (z .gone) (z .link) (z .value) (z .turn) s m k
+      turn-was st (afterStore st) (z .came) (z .gone) (firstMade st .link) (firstMade st .node) (z .turn) s m k
   held-before st x c o (begins t j v e) h s m k = held-was _ s m k
   held-before st x c o (loads t n p l d) h s m k = held-was _ s m k
   held-before st x c o (misses t n p l e) h s m k = end-was st t s m (h .safe) k

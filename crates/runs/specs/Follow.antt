@@ -11,9 +11,8 @@ use Rattle.datatypes.specs.declared.Reader.{Reader}
 use Rattle.datatypes.specs.declared.Write.{Write}
 use Rattle.spec.specs.Numbers.{slots}
 use Rattle.spec.specs.Pool.{standingLinked}
-use Rattle.spec.specs.Register.{State, state, noReader, readerOf, storeOf, withReader, withAwaited, withWrite, hasSlot, dropSlot, movedReader, readingAt}
+use Rattle.spec.specs.Register.{State, state, noReader, readerOf, withReader, withAwaited, withWrite, hasSlot, dropSlot, movedReader, readingAt}
 use Rattle.spec.specs.Free.{endReading}
-use Rattle.spec.specs.Turn.{stepMade}
 use Rattle.spec.specs.Calls.{Answer, ok, absent, found, Outcome, Call, beginning, turning, givingUp}
 use Rattle.spec.specs.PlainList.{Plain, recordFor, noticeOf, feed, storeMade}
 use Rattle.laws.specs.Slots.{drop-other}
@@ -28,7 +27,7 @@ use Rattle.readers.specs.CallCase.{CallCase, refuses, plansInsert, plansDelete,
 use Rattle.readers.specs.Lookups.{Unlinked, Finds, OnWay}
 use Rattle.readers.specs.Once.{SeenOnce, seen-none}
 use Rattle.readers.specs.Safe.{Safe, end-reader}
-use Rattle.runs.specs.Writer.{Stores, Writer, afterStore}
+use Rattle.runs.specs.Writer.{Stores, Writer, firstMade, afterStore}
 use Rattle.runs.specs.Sound.{Sound, store-notice}
 use Rattle.runs.specs.Slot.{Stand, stand-more, stand-root, stand-child, stand-alike, through-store}
 
@@ -83,7 +82,7 @@ stand-end st A s t k d h g =
 module _ (W : State → Plain → Linked → Type 0) (writer : Writer W) where
   -- a store
   stand-stored : (st : State) (x : Plain) (A A′ : Option ℕ → Type 0) (s k : ℕ) (h : Sound W writer st x) (x′ : Plain) → s < slots → ((o : Option ℕ) → A o → A′ o) → A′ (recordFor k (x′ .tickets))
-      → st .register .awaited ≡ 0 → (z : Stores st (afterStore st) (h .tree) (λ t. W (afterStore st) x′ t)) → StandAt st A s k → StandAt (afterStore st) A′ s k
+      → st .register .awaited ≡ 0 → (z : Stores st (firstMade st) (h .tree) (λ t. W (afterStore st) x′ t)) → StandAt st A s k → StandAt (afterStore st) A′ s k
   stand-stored st x A A′ s k h x′ u more now unawaited z g =
       let after = afterStore st in
       let T = h .tree in
@@ -100,8 +99,8 @@ module _ (W : State → Plain → Linked → Type 0) (writer : Writer W) where
       let lk′ : (m : ℕ) → m ∈ nodes T′ → HasStanding (after .pool) m standingLinked = λ m. writer .linked after x′ T′ (z .kept) m .1 in
       let through : n ≢ 0 → Finds (after .pool) A′ n k
       × (Thin (Unlinked (after .pool)) (path T k) (path T′ k) → OnWay (after .pool) (after .register .root) (g .seen) n k) × SeenOnce (after .pool) (g .seen) n k =
-      λ d. through-store st after (z .came) (z .gone) (z .value) T T′ (z .below) rep lk (z .unfolds) rep′ n k A A′ more answer s u (h .safe .closed) (here d)
-      (g .seen) (g .has .kept) (on d) (z .link) (z .turn) (z .owner) lk′ (g .finds d) (g .has .once) in
+      λ d. through-store st after (z .came) (z .gone) (firstMade st .node) T T′ (z .below) rep lk (z .unfolds) rep′ n k A A′ more answer s u (h .safe .closed) (here d)
+      (g .seen) (g .has .kept) (on d) (firstMade st .link) (z .turn) (z .owner) lk′ (g .finds d) (g .has .once) in
       subst (λ y. Stand (after .pool) (after .register .root) (after .register .awaited) y A′ s k) (sym same)
       (record {
         reads = g .reads;
@@ -142,7 +141,7 @@ module _ (W : State → Plain → Linked → Type 0) (writer : Writer W) where
   stand-next st x c o (waits d) h A A′ s k u more was now lasts g = stand-more _ _ _ _ A A′ s k more g
   stand-next st x c o (stores a w f) h A A′ s k u more was now lasts g =
       let z = writer .store st x (h .tree) (h .safe) (h .holds) a w f in
-      let carriedOut = store-notice (stepMade st (storeOf (st .register) 0 .link) (storeOf (st .register) 0 .step)) in
+      let carriedOut = store-notice (firstMade st) in
       stand-stored st x A A′ s k h (storeMade x (x .inHand)) u more (rw carriedOut at now) a z g
   stand-next st x c o (begins t j v e) h A A′ s k u more was now lasts g =
       stand-other st A′ s t k _ (λ i. false≢true (sym e ∙ subst (λ m. Reads st m) (sym i) (g .reads))) (stand-more _ _ _ _ A A′ s k more g)

@@ -8,4 +8,6 @@ pub mod Answers
 pub mod Theorem
 pub mod Facts
 pub mod Rest
+pub mod Standings
+pub mod OneStore
 pub mod Whole

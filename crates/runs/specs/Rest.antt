@@ -10,7 +10,6 @@ use native.Mathlib.Decide.{ℕ-discrete}
 use lib.Dec.{eqb}
 use lib.ListN.{drop, length}
 use borrow.Author.Tests.{not-false, eqb-true, eqb-false, eq-eqb, le-leb}
-use Rattle.datatypes.specs.declared.Link.{Link}
 use Rattle.sequential.specs.Delete.{changedBy}
 use Rattle.spec.specs.Numbers.{nodeWords, leastNodes, mostNodes, slots, mostStores, freeForInsert, freeForDelete}
 use Rattle.spec.specs.Pool.{word, colourWord, nodes, lengthRight}
@@ -20,9 +19,10 @@ use Rattle.spec.specs.Calls.{Answer, ok, go, absent, wait, found, more, done, r
 use Rattle.spec.specs.Calls.{outOfRange, reading, writeInHand, placeOf, tooDeep, isHeld, fewerFree, insertAt, deleteAt, beginTests, readerTests, Call, inserting}
 use Rattle.spec.specs.Calls.{deleting, writing, beginning, turning, givingUp}
 use Rattle.spec.specs.PlainList.{Plain, carriedOut, noticeOf, acceptedWrites}
+use Rattle.base.specs.Lists.{Distinct}
 use Rattle.laws.specs.Slots.{no-slot}
 use Rattle.laws.specs.Turns.{and-false}
-use Rattle.tree.specs.Linked.{Linked}
+use Rattle.tree.specs.Linked.{Linked, nodes as treeNodes}
 use Rattle.promise.specs.Run.{Reads, after}
 use Rattle.promise.specs.Demands.{Stands}
 use Rattle.readers.specs.Words.{Whole}
@@ -52,18 +52,26 @@ some-slot m u d = go (find-slot slots m)
     go (inr r) = absurd (d (no-slot slots m u r))
 
 -- a store answers more while stores are left, else done
-pub stored-told : (m : Made) → (toldOf (stored m .answer) ≡ 6) ⊎ ((toldOf (stored m .answer) ≡ 5) × (stored m .after .register .write .count ≢ 0))
+abbrev pub left : State → ℕ
+left st = st .register .write .count
+
+pub stored-told : (m : Made)
+    → ((toldOf (stored m .answer) ≡ 6) × (left (stored m .after) ≡ 0)) ⊎ ((toldOf (stored m .answer) ≡ 5) × (left (stored m .after) ≢ 0))
 unfolding stored withWrite
 stored-told m = go (eqb (lessFirst (m .after .register .write) .count) 0) refl
   where
-    go : (b : Bool) → eqb (lessFirst (m .after .register .write) .count) 0 ≡ b
-        → (toldOf (cond b (done (m .link) (m .node)) (more (m .link) (m .node))) ≡ 6) ⊎
-        ((toldOf (cond b (done (m .link) (m .node)) (more (m .link) (m .node))) ≡ 5) × (lessFirst (m .after .register .write) .count ≢ 0))
-    go true e = inl refl
+    n : ℕ
+    n = lessFirst (m .after .register .write) .count
+
+    told : Bool → ℕ
+    told b = toldOf (cond b (done (m .link) (m .node)) (more (m .link) (m .node)))
+
+    go : (b : Bool) → eqb (lessFirst (m .after .register .write) .count) 0 ≡ b → ((told b ≡ 6) × (n ≡ 0)) ⊎ ((told b ≡ 5) × (n ≢ 0))
+    go true e = inl (refl, eqb-true _ 0 e)
     go false e = inr (refl, eqb-false _ 0 e)
 
 stored-not : (m : Made) → ¬ (stored m .answer ≡ wait)
-stored-not m e = ⊎-elim (λ a. let z = ap toldOf e in omega arith) (λ a. let z = ap toldOf e in let b = a .0 in omega arith) (stored-told m)
+stored-not m e = let z = ap toldOf e in ⊎-elim (λ a. let b = a .0 in omega arith) (λ a. let b = a .0 in omega arith) (stored-told m)
 
 -- a turn answers wait only while an awaited slot is reading
 pub wait-right : (st : State) (c : Call) (o : Outcome) → CallCase st c o → Safe st → o .answer ≡ wait → (s : ℕ) × (s < slots) × (hasSlot (st .register .awaited) s ≡ true) × (Reads st s)
@@ -161,6 +169,8 @@ length-right st N lo hi w e =
 pub record Completes (W : State → Plain → Linked → Type 0) : Type 0 where
   pub rest : (st : State) (x : Plain) (T : Linked) → W st x T → ((n : ℕ) → word (st .pool) n colourWord ≤ 1) → writeInHand st ≡ false
       → Stands (st .pool) (st .register .root) (changedBy (x .started) (acceptedWrites x))
+  -- at rest each node of the tree stands in it once, one for each key held
+  pub counts : (st : State) (x : Plain) (T : Linked) → W st x T → writeInHand st ≡ false → Distinct (treeNodes T) × (length (treeNodes T) ≡ st .register .held)
   pub few : (st : State) (x : Plain) (T : Linked) → W st x T → writeInHand st ≡ true → x .made + st .register .write .count ≤ mostStores
   pub insertGoes : (st : State) (x : Plain) (T : Linked) (k v : ℕ) → Safe st → W st x T → writeInHand st ≡ false
       → (tooDeep (placeOf st k) ≡ false) × (isHeld (placeOf st k) ≡ false → fewerFree st freeForInsert ≡ false → insertAt st k v (placeOf st k) .possible ≡ true)
@@ -241,25 +251,3 @@ turn-goes st c o (loads t n p l f) e z = refl
 turn-goes st c o (misses t n p l f) e z = refl
 turn-goes st c o (finds t p d f) e z = refl
 turn-goes st c o (leaves t p) e z = refl
-
--- a store that answers done leaves none to come
-stored-done : (m : Made) → toldOf (stored m .answer) ≡ 6 → stored m .after .register .write .count ≡ 0
-unfolding stored withWrite
-stored-done m = go (eqb (lessFirst (m .after .register .write) .count) 0) refl
-  where
-    go : (b : Bool) → eqb (lessFirst (m .after .register .write) .count) 0 ≡ b
-        → toldOf (cond b (done (m .link) (m .node)) (more (m .link) (m .node))) ≡ 6 → lessFirst (m .after .register .write) .count ≡ 0
-    go true e t = eqb-true _ 0 e
-    go false e t = absurd (omega arith)
-
-pub done-left : (st : State) (c : Call) (o : Outcome) (l : Link) (n : ℕ) → CallCase st c o → o .answer ≡ done l n → o .after .register .write .count ≡ 0
-done-left st c o l n (refuses d x) e = absurd (let z = ap toldOf e in omega arith)
-done-left st c o l n (plansInsert j v f) e = absurd (let z = ap toldOf e in omega arith)
-done-left st c o l n (plansDelete j f) e = absurd (let z = ap toldOf e in omega arith)
-done-left st c o l n (waits d) e = absurd (let z = ap toldOf e in omega arith)
-done-left st c o l n (stores a w f) e = stored-done (stepMade st (storeOf (st .register) 0 .link) (storeOf (st .register) 0 .step)) (ap toldOf e)
-done-left st c o l n (begins t j u f) e = absurd (let z = ap toldOf e in omega arith)
-done-left st c o l n (loads t m p i f) e = absurd (let z = ap toldOf e in omega arith)
-done-left st c o l n (misses t m p i f) e = absurd (let z = ap toldOf e in omega arith)
-done-left st c o l n (finds t p d f) e = absurd (let z = ap toldOf e in omega arith)
-done-left st c o l n (leaves t p) e = absurd (let z = ap toldOf e in omega arith)

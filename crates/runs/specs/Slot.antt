@@ -28,7 +28,7 @@ use Rattle.readers.specs.Graft.{Redirects}
 use Rattle.readers.specs.Lookups.{Unlinked, Finds, OnWay, Store, store-finds, store-way, Anew, anew-finds, anew-way, root-way}
 use Rattle.readers.specs.Descends.{turn-finds, turn-way}
 use Rattle.readers.specs.Once.{SeenOnce, seen-none, seen-turn, seen-store, seen-anew}
-use Rattle.readers.specs.Stored.{OwnerLinked}
+use Rattle.promise.specs.Demands.{TreeLink}
 use Rattle.readers.specs.Turns.{Turn}
 
 -- What slot s, at node n, has seen on its way to the key k: the nodes that it has compared so far, in order. Each is kept for it, and with
@@ -209,23 +209,23 @@ module _ (st after : State) (came gone : List ℕ) (v : ℕ) (T T′ below : Lin
     below-way = all-below (w .tree) (w .unfolds)
 
     -- R1
-    finds-store : (l : Link) → Turn st after came gone l v → OwnerLinked p l → Finds p A n k → Finds q A′ n k
+    finds-store : (l : Link) → Turn st after came gone l v → TreeLink p l → Finds p A n k → Finds q A′ n k
     finds-store Root t o f = anew-finds (store-root t) A A′ more n k f (all-below (f .tree) (f .unfolds))
     finds-store (Left d) t o f = store-finds (store-left d t o) A A′ more n k seen now f (all-below (f .tree) (f .unfolds)) w
     finds-store (Right d) t o f = store-finds (store-right d t o) A A′ more n k seen now f (all-below (f .tree) (f .unfolds)) w
 
     -- R2
-    way-store : (l : Link) → Turn st after came gone l v → OwnerLinked p l → Thin (Unlinked q) (path T k) (path T′ k) → OnWay q (after .register .root) seen n k
+    way-store : (l : Link) → Turn st after came gone l v → TreeLink p l → Thin (Unlinked q) (path T k) (path T′ k) → OnWay q (after .register .root) seen n k
     way-store Root t o thins = anew-way (store-root t) n k seen (again Root t) usable thins w below-way
     way-store (Left d) t o thins = rw (t .root) (store-way (store-left d t o) n k seen (again (Left d) t) usable thins w below-way)
     way-store (Right d) t o thins = rw (t .root) (store-way (store-right d t o) n k seen (again (Right d) t) usable thins w below-way)
 
     -- no node twice
-    once-store : (l : Link) → Turn st after came gone l v → OwnerLinked p l → ((m : ℕ) → m ∈ nodes T′ → HasStanding q m standingLinked) → SeenOnce p seen n k → SeenOnce q seen n k
+    once-store : (l : Link) → Turn st after came gone l v → TreeLink p l → ((m : ℕ) → m ∈ nodes T′ → HasStanding q m standingLinked) → SeenOnce p seen n k → SeenOnce q seen n k
     once-store Root t o lk h = seen-anew (store-root t) n k seen (w .tree) (w .unfolds) below-way h
     once-store (Left d) t o lk h = seen-store (store-left d t o) n k seen (again (Left d) t) usable lk w below-way h
     once-store (Right d) t o lk h = seen-store (store-right d t o) n k seen (again (Right d) t) usable lk w below-way h
 
-    pub through-store : (l : Link) → Turn st after came gone l v → OwnerLinked p l → ((m : ℕ) → m ∈ nodes T′ → HasStanding q m standingLinked) → Finds p A n k → SeenOnce p seen n k
+    pub through-store : (l : Link) → Turn st after came gone l v → TreeLink p l → ((m : ℕ) → m ∈ nodes T′ → HasStanding q m standingLinked) → Finds p A n k → SeenOnce p seen n k
         → Finds q A′ n k × (Thin (Unlinked q) (path T k) (path T′ k) → OnWay q (after .register .root) seen n k) × SeenOnce q seen n k
     through-store l t o lk f h = (finds-store l t o f, way-store l t o, once-store l t o lk h)

@@ -10,10 +10,10 @@ use lib.Dec.{eqb}
 use Rattle.datatypes.specs.declared.Reader.{Reader}
 use Rattle.spec.specs.Numbers.{leastNodes, mostNodes, slots}
 use Rattle.spec.specs.Pool.{child, standingLinked, nodes as poolNodes}
-use Rattle.spec.specs.Register.{State, state, storeOf, readerOf, withReader, withAwaited, lessFirst}
+use Rattle.spec.specs.Register.{State, state, readerOf, withReader, withAwaited, lessFirst}
 use Rattle.spec.specs.Free.{endReading}
 use Rattle.spec.specs.Search.{towards}
-use Rattle.spec.specs.Turn.{Made, stepMade}
+use Rattle.spec.specs.Turn.{Made}
 use Rattle.spec.specs.Calls.{more, done, Outcome, stored, Call}
 use Rattle.spec.specs.PlainList.{Plain, carriedOut, noticeOf, feed}
 use Rattle.base.specs.Lists.{_∈_}
@@ -26,7 +26,7 @@ use Rattle.readers.specs.Safe.{Safe, safe-write, safe-reader, safe-end, safe-tu
 use Rattle.promise.specs.Run.{Start, outset, Reads}
 use Rattle.promise.specs.Demands.{arrived}
 use Rattle.ranges.specs.Calls.{Ranged}
-use Rattle.runs.specs.Writer.{LeavesTree, Stores, Writer, afterStore}
+use Rattle.runs.specs.Writer.{LeavesTree, Stores, Writer, firstMade}
 
 -- The tree's nodes are those linked: so children of linked nodes are linked, and so is the root's node.
 module _ (p : List ℕ) (root : ℕ) (T : Linked) (h : Rep p root T) (l : (n : ℕ) → HasStanding p n standingLinked ↔ (n ∈ nodes T)) where
@@ -84,11 +84,12 @@ module _ (W : State → Plain → Linked → Type 0) (writer : Writer W) where
   kept-load st s n h p (atNode a b i) d = rw i (kept-child (st .pool) s (readerOf (st .register) s .node)
       (towards (st .pool) (readerOf (st .register) s .key) (readerOf (st .register) s .node)) (p .low) (h .closed) (h .at s (p .low) (p .reads) a) (λ z. d (i ∙ z)))
 
-  safe-store : (st after : State) (x : Plain) (T : Linked) → Safe st → (s : Stores st after T (λ t. W after x t)) → Safe after
-  safe-store st after x T h s =
+  safe-store : (st : State) (m : Made) (x : Plain) (T : Linked) → Safe st → (s : Stores st m T (λ t. W (stored m .after) x t)) → Safe (stored m .after)
+  safe-store st m x T h s =
+      let after = stored m .after in
       let r = writer .unfolds after x (s .tree) (s .kept) in
       let l = writer .linked after x (s .tree) (s .kept) in
-      safe-turn st after (s .came) (s .gone) (s .link) (s .value) h (s .turn) (tree-closed (after .pool) (after .register .root) (s .tree) r l)
+      safe-turn st after (s .came) (s .gone) (m .link) (m .node) h (s .turn) (tree-closed (after .pool) (after .register .root) (s .tree) r l)
       (root-linked (after .pool) (after .register .root) (s .tree) r l)
 
   pub sound-next : (st : State) (x : Plain) (c : Call) (o : Outcome) → CallCase st c o → Sound st x → Sound (o .after) (feed x c (noticeOf (o .answer)))
@@ -98,8 +99,8 @@ module _ (W : State → Plain → Linked → Type 0) (writer : Writer W) where
   sound-next st x c o (waits d) h = h
   sound-next st x c o (stores a w f) h =
       let s = writer .store st x (h .tree) (h .safe) (h .holds) a w f in
-      rw (store-notice (stepMade st (storeOf (st .register) 0 .link) (storeOf (st .register) 0 .step)))
-      (record { safe = safe-store st (afterStore st) _ (h .tree) (h .safe) s; tree = s .tree; holds = s .kept })
+      rw (store-notice (firstMade st))
+      (record { safe = safe-store st (firstMade st) _ (h .tree) (h .safe) s; tree = s .tree; holds = s .kept })
   sound-next st x c o (begins s k u e) h =
       record {
         safe = safe-reader st s _ u refl (λ d. absurd (d refl)) (h .safe);

@@ -4,43 +4,33 @@ use mathlib.Core.Path.{_≡_, refl, sym, ap, _∙_, subst}
 use mathlib.Core.Bool.{true, false}
 use mathlib.Core.List.{List}
 use mathlib.Core.Option.{Option, none, some}
-use mathlib.Core.Logic.{_≢_, ⊎-elim}
+use mathlib.Core.Logic.{_≢_, _⊎_, ⊎-map, ⊎-elim, _↔_}
 use native.Mathlib.Omega.{arith}
 use native.Mathlib.Numerals.{add-one}
 use borrow.Author.Tests.{eq-eqb, ne-eqb}
 use Rattle.datatypes.specs.declared.Link.{Link}
 use Rattle.sequential.specs.Delete.{Change, changedBy}
 use Rattle.spec.specs.Numbers.{slots, mostStores}
-use Rattle.spec.specs.Register.{State, storeOf, hasSlot}
-use Rattle.spec.specs.Turn.{stepMade}
-use Rattle.spec.specs.Calls.{more, done, Outcome, wrongLength, reading, writeInHand, Call, inserting, deleting, writing, beginning, turning, givingUp, call}
+use Rattle.spec.specs.Pool.{standingLinked}
+use Rattle.spec.specs.Register.{State, hasSlot}
+use Rattle.spec.specs.Calls.{more, done}
+use Rattle.spec.specs.Calls.{wrongLength, reading, writeInHand, Call, inserting, deleting, writing, beginning, turning, givingUp, call}
 use Rattle.spec.specs.PlainList.{Plain, Notice, turnedDown, waited, carriedOut, noticeOf, acceptedWrites, storeMade, feed}
-use Rattle.tree.specs.Linked.{Linked}
+use Rattle.base.specs.Lists.{_∈_}
+use Rattle.tree.specs.Linked.{Linked, nodes as treeNodes}
 use Rattle.promise.specs.Run.{Start, Moment, thenPerhaps, callAt, after, indexAfter, plainAfter, Gives}
-use Rattle.promise.specs.Demands.{Stands, Demand2, NeverMet, PromiseFrom}
-use Rattle.readers.specs.CallCase.{CallCase, call-case, refuses, plansInsert, plansDelete, waits, stores, begins, loads, misses, finds, leaves}
+use Rattle.promise.specs.Demands.{Leads, Stands, standingAt, StoresOne, Demand2, NeverMet, PromiseFrom}
+use Rattle.readers.specs.Reach.{leads-in, in-leads}
+use Rattle.readers.specs.CallCase.{call-case}
 use Rattle.ranges.specs.Fits.{colour-fits}
 use Rattle.ranges.specs.Calls.{Ranged, ranged-in, ranged-next}
 use Rattle.runs.specs.Writer.{Writer}
 use Rattle.runs.specs.Sound.{Sound, Starts}
 use Rattle.runs.specs.Starts.{exact-right}
-use Rattle.runs.specs.Answers.{toldOf}
 use Rattle.runs.specs.Theorem.{sound-at, demand3}
-use Rattle.runs.specs.Rest.{Completes, wait-right, stored-told, refused-by, not-one, not-two, not-twelve, length-right, none-awaited, turn-clear, turn-goes, done-left}
-
--- a turn that answers more leaves stores to come
-more-left : (st : State) (c : Call) (o : Outcome) (l : Link) (n : ℕ) → CallCase st c o → o .answer ≡ more l n → o .after .register .write .count ≢ 0
-more-left st c o l n (refuses d x) e = absurd (let z = ap toldOf e in omega arith)
-more-left st c o l n (plansInsert j v f) e = absurd (let z = ap toldOf e in omega arith)
-more-left st c o l n (plansDelete j f) e = absurd (let z = ap toldOf e in omega arith)
-more-left st c o l n (waits d) e = absurd (let z = ap toldOf e in omega arith)
-more-left st c o l n (stores a w f) e =
-    ⊎-elim (λ x. absurd (let z = ap toldOf e in omega arith)) (λ x. x .1) (stored-told (stepMade st (storeOf (st .register) 0 .link) (storeOf (st .register) 0 .step)))
-more-left st c o l n (begins t j u f) e = absurd (let z = ap toldOf e in omega arith)
-more-left st c o l n (loads t m p i f) e = absurd (let z = ap toldOf e in omega arith)
-more-left st c o l n (misses t m p i f) e = absurd (let z = ap toldOf e in omega arith)
-more-left st c o l n (finds t p d f) e = absurd (let z = ap toldOf e in omega arith)
-more-left st c o l n (leaves t p) e = absurd (let z = ap toldOf e in omega arith)
+use Rattle.runs.specs.Rest.{Completes, wait-right, refused-by, not-one, not-two, not-twelve, length-right, none-awaited, turn-clear, turn-goes}
+use Rattle.runs.specs.Standings.{stands-one, retired-held, all-counted}
+use Rattle.runs.specs.OneStore.{more-left, done-left, Tells, store-one}
 
 -- the plain list keeps the tree that it started with
 started-store : (x : Plain) (c : Option Change) → storeMade x c .started ≡ x .started
@@ -114,12 +104,45 @@ module _ (W : State → Plain → Linked → Type 0) (writer : Writer W) (comple
       subst (λ st. st .register .write .count ≡ 0) (sym (next-is j writing (g .0))) (done-left (at j) writing (call (at j) writing) l n (call-case (at j) writing) (g .1)) in
       rw (add-one j, eq-eqb (at (suc j) .register .write .count) 0 none-left)
 
+  -- the linked nodes are the tree's, at every moment
+  linked-nodes : (j n : ℕ) → (standingAt (at j) n ≡ standingLinked) ↔ (n ∈ treeNodes (sound j .tree))
+  linked-nodes j = writer .linked (at j) (plainAfter S cs j) (sound j .tree) (sound j .holds)
+
+  linked : (j n : ℕ) → (standingAt (at j) n ≡ standingLinked) ↔ Leads (at j .pool) (at j .register .root) n
+  linked j n =
+      let T = sound j .tree in
+      let rep = writer .unfolds (at j) (plainAfter S cs j) T (sound j .holds) in
+      let root = at j .register .root in
+      (λ e. in-leads (at j .pool) T root n rep (linked-nodes j n .0 e), λ l. linked-nodes j n .1 (leads-in (at j .pool) T root n rep l))
+
+  nothingLost : (j : ℕ) → writeInHand (at j) ≡ false → ((s : ℕ) → s < slots → reading (at j) s ≡ false)
+      → at j .register .free + at j .register .held ≡ S .size
+  nothingLost j e quiet =
+      let h = sound j in
+      let c = completes .counts (at j) (plainAfter S cs j) (h .tree) (h .holds) e in
+      let a = all-counted (at j) (h .safe) quiet (h .tree) (linked-nodes j) (c .0) in
+      let b = c .1 in
+      let size = ranged j .within .size in
+      omega arith
+
+  oneStore : (j : ℕ) (l : Link) (n : ℕ) → Gives S cs j writing (more l n) ⊎ Gives S cs j writing (done l n) → StoresOne (at j) (at (j + 1)) l n
+  oneStore j l n g =
+      let called : callAt cs j ≡ some writing = ⊎-elim (λ x. x .0) (λ x. x .0) g in
+      let told : Tells (call (at j) writing .answer) l n = ⊎-map (λ x. x .1) (λ x. x .1) g in
+      rw (add-one j, next-is j writing called)
+      (store-one W writer (at j) (plainAfter S cs j) writing (call (at j) writing) l n (call-case (at j) writing) (sound j) told)
+
   pub demand2 : Demand2 S cs
   demand2 = record {
     atRest = λ j e. (let h = sound j in
         subst (λ t. Stands (at j .pool) (at j .register .root) (changedBy t (acceptedWrites (plainAfter S cs j)))) (started j)
         (completes .rest (at j) (plainAfter S cs j) (h .tree) (h .holds) (λ n. colour-fits (S .size) (at j .pool) n (ranged j .within .fits)) e));
+    linked = linked;
     free = λ j. (let h = sound j .safe in exact-right (at j) (h .queue) (h .owned .exact));
+    standing = λ j n _ _. stands-one (at j) (sound j .safe) n;
+    retiredHeld = λ j. retired-held (at j) (sound j .safe);
+    nothingLost = nothingLost;
+    oneStore = oneStore;
     soon = soon;
     waits = λ j g. wait-right (at j) writing (call (at j) writing) (call-case (at j) writing) (sound j .safe) (g .1);
     goesOn = goesOn;

@@ -2,16 +2,15 @@
 -- that the root unfolds to. The readers' side is `Safe` (crate readers); the two together are kept by every call, and the demands follow.
 use Prim.Native.Nat.{ℕ, _≤_}
 use mathlib.Core.Path.{_≡_}
-use mathlib.Core.Logic.{_⊎_, _↔_}
+use mathlib.Core.Logic.{_≢_, _⊎_, _↔_}
 use mathlib.Core.Bool.{true}
 use mathlib.Core.List.{List}
 use lib.ListN.{length}
-use Rattle.datatypes.specs.declared.Link.{Link}
 use Rattle.datatypes.specs.declared.Store.{Store}
 use Rattle.sequential.specs.Delete.{insertion, deletion}
 use Rattle.spec.specs.Pool.{standingLinked}
-use Rattle.spec.specs.Register.{State, state, storeOf, withWrite, writeOf, readingSlots}
-use Rattle.spec.specs.Turn.{stepFinds, stepMade}
+use Rattle.spec.specs.Register.{State, state, storeOf, linkNode, withWrite, writeOf, readingSlots}
+use Rattle.spec.specs.Turn.{Made, stepFinds, stepMade}
 use Rattle.spec.specs.Calls.{firstOf, writeInHand, placeOf, insertAt, deleteAt, stored}
 use Rattle.spec.specs.PlainList.{Plain, recordFor, begun, storeMade}
 use Rattle.base.specs.Lists.{_∈_}
@@ -19,9 +18,9 @@ use Rattle.tree.specs.Zipper.{Thins}
 use Rattle.tree.specs.Linked.{Linked, find, nodes}
 use Rattle.tree.specs.Tickets.{True}
 use Rattle.heap.specs.Rep.{Rep, Alike, upToColour}
+use Rattle.promise.specs.Demands.{TreeLink}
 use Rattle.readers.specs.Reach.{HasStanding}
 use Rattle.readers.specs.Lookups.{Unlinked}
-use Rattle.readers.specs.Stored.{OwnerLinked}
 use Rattle.readers.specs.Turns.{Turn}
 use Rattle.spec.specs.Calls.{insertTests, deleteTests}
 use Rattle.readers.specs.Safe.{Safe}
@@ -36,24 +35,28 @@ pub record LeavesTree (st after : State) : Type 0 where
   pub write : after .register .write ≡ st .register .write
   pub free : st .register .free ≤ after .register .free
 
--- A store: the whole tree T becomes `tree`. Either no slot is awaited after it and each path keeps its nodes in their order, but for those
+-- A store m: the whole tree T becomes `tree`. Either no slot is awaited after it and each path keeps its nodes in their order, but for those
 -- linked no longer; or all reading slots are awaited (publish).
-pub record Stores (st after : State) (T : Linked) (W : Linked → Type 0) : Type 0 where
+pub record Stores (st : State) (m : Made) (T : Linked) (W : Linked → Type 0) : Type 0 where
   pub tree : Linked
   pub came : List ℕ
   pub gone : List ℕ
-  pub link : Link
-  pub value : ℕ
-  pub turn : Turn st after came gone link value
-  pub owner : OwnerLinked (st .pool) link
+  pub turn : Turn st (stored m .after) came gone (m .link) (m .node)
+  pub owner : TreeLink (st .pool) (m .link)
+  -- the link changes, and a node that comes is its new node
+  pub moved : linkNode st (m .link) ≢ m .node
+  pub new : (n : ℕ) → n ∈ came → n ≡ m .node
   pub below : Linked
-  pub unfolds : Rep (after .pool) value below
-  pub ways : Thins (Unlinked (after .pool)) T tree ⊎ (after .register .awaited ≡ readingSlots (st .register))
+  pub unfolds : Rep (stored m .after .pool) (m .node) below
+  pub ways : Thins (Unlinked (stored m .after .pool)) T tree ⊎ (stored m .after .register .awaited ≡ readingSlots (st .register))
   pub kept : W tree
 
--- the state after the first store of the write in hand
+-- the first store of the write in hand, and the state after it
+abbrev pub firstMade : State → Made
+firstMade st = stepMade st (storeOf (st .register) 0 .link) (storeOf (st .register) 0 .step)
+
 abbrev pub afterStore : State → State
-afterStore st = stored (stepMade st (storeOf (st .register) 0 .link) (storeOf (st .register) 0 .step)) .after
+afterStore st = stored (firstMade st) .after
 
 abbrev pub planned : State → List Store → State
 planned st l = state (st .pool) (withWrite (st .register) (writeOf l))
@@ -70,4 +73,4 @@ pub record Writer (W : State → Plain → Linked → Type 0) : Type 0 where
   pub delete : (st : State) (x : Plain) (T : Linked) (k : ℕ) → Safe st → W st x T → firstOf (deleteTests st k) ≡ 0
       → W (planned st (deleteAt st (placeOf st k) .stores)) (begun x (deletion k)) T
   pub store : (st : State) (x : Plain) (T : Linked) → Safe st → W st x T → st .register .awaited ≡ 0 → writeInHand st ≡ true
-      → stepFinds st (storeOf (st .register) 0 .link) (storeOf (st .register) 0 .step) ≡ true → Stores st (afterStore st) T (λ t. W (afterStore st) (storeMade x (x .inHand)) t)
+      → stepFinds st (storeOf (st .register) 0 .link) (storeOf (st .register) 0 .step) ≡ true → Stores st (firstMade st) T (λ t. W (afterStore st) (storeMade x (x .inHand)) t)

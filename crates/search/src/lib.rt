@@ -7,7 +7,7 @@ ghost use Prim.Native.Nat.{_<_};
 ghost use Rattle.spec.specs.Pool.{child};
 ghost use Rattle.spec.specs.Search.{towards, seek};
 
-// the side of node n that a key lies on; a smaller key lies left
+// Answers the side of node n that a key lies on; a smaller key lies left.
 pub fn towards(pool: &[u32], k: u32, n: u32) -> Side
     ensures { λ r. ⌜ r ≡ towards (now (pool .entry)) k n ⌝ }
 {
@@ -18,14 +18,14 @@ pub fn towards(pool: &[u32], k: u32, n: u32) -> Side
     }
 }
 
-// node n's child on that side
+// Answers node n's child on the side that a key lies on.
 pub fn child_towards(pool: &[u32], k: u32, n: u32) -> u32
     ensures { λ r. ⌜ r ≡ child (now (pool .entry)) (towards (now (pool .entry)) k n) n ⌝ }
 {
     pool::child(pool, towards(pool, k, n), n)
 }
 
-// The search for a key from node n, which the link l holds, with so many nodes still allowed.
+// Searches for a key from node n, which the link l holds, with so many nodes still allowed.
 pub fn seek(pool: &[u32], k: u32, l: Link, n: u32, allowed: u32) -> Place
     ensures { λ r. ⌜ r ≡ seek (now (pool .entry)) k allowed l n ⌝ }
 {

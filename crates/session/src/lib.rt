@@ -32,6 +32,7 @@ pub struct Run {
     pub at: usize,
 }
 
+// Starts a run: no words lent, no call made, no byte read.
 pub fn start() -> Run
     ensures { λ r. ⌜ Sound (r .session) × (r .from ≡ 0) × (r .at ≡ 0) ⌝ }
 {
@@ -201,7 +202,7 @@ fn answer(
     }
 }
 
-// what is left to do on an input from a position on: nodes to show, or else bytes to read
+// Answers what is left to do on an input from a position on: nodes to show, or else bytes to read.
 pub fn left(pending: usize, input: &[u8], from: usize) -> usize
     requires { ⌜ from ≤ length (now input) ⌝ }
     ensures { λ r. ⌜ r ≤ workLeft pending (length (now (input .entry))) from ⌝ }
@@ -213,7 +214,7 @@ pub fn left(pending: usize, input: &[u8], from: usize) -> usize
     pending
 }
 
-// a run on its input, as far as there is room for the output; with room for a line at first it gets on
+// Runs on through an input, as far as there is room for the output. With room for one line it makes progress.
 pub fn advance(words: &mut [u32], out: &mut [u8], r: Run, input: &[u8]) -> Run
     requires { ⌜ Sound (r .session) × (length (now words) ≡ poolLimit) × (r .at ≤ length (now out)) × (r .from ≤ length (now input)) ⌝ }
     ensures { λ q. ⌜ Sound (q .session) × (q .at ≤ length (now (out .exit))) × (q .from ≤ length (now (input .entry))) ⌝ }
@@ -261,7 +262,7 @@ pub fn advance(words: &mut [u32], out: &mut [u8], r: Run, input: &[u8]) -> Run
     }
 }
 
-// whether a line has begun that the input does not end
+// Answers whether a line has begun that the input does not end.
 pub fn unfinished(s: Session) -> bool {
     if s.ended {
         return false;

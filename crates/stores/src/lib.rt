@@ -23,7 +23,7 @@ ghost use Rattle.spec.specs.Turn.{oneMore, endInsert, movedLink, movedStore, mo
 ghost use Rattle.heads.specs.Head.{Follows, Tries};
 ghost use Rattle.stores.specs.Published.{Publishes};
 
-// The link l := a new red node; one key more is held.
+// Stores a new red node in the link l; one key more is held.
 fn link_new(pool: &mut [u32], h: Head, l: Link, k: u32, v: u32) -> Head
     requires { ⌜ length (now pool) < poolLimit ⌝ }
     ensures { λ r. ⌜ Follows (λ st. oneMore (setLink (takeNode st k v L 0 0 redColour) l (h .first))) (now (pool .entry)) h (now (pool .exit)) r ⌝ }
@@ -36,7 +36,7 @@ fn link_new(pool: &mut [u32], h: Head, l: Link, k: u32, v: u32) -> Head
     r
 }
 
-// without a rotation to come the root ends black
+// Turns the root black if no rotation is to come.
 fn end_insert(pool: &mut [u32], root: u32, e: Ending)
     ensures { λ _. ⌜ ((q : Register) → q .root ≡ root → now (pool .exit) ≡ endInsert e (state (now (pool .entry)) q) .pool) ⌝ }
 {
@@ -49,7 +49,7 @@ fn end_insert(pool: &mut [u32], root: u32, e: Ending)
     }
 }
 
-// an insert under a black parent, or at the root
+// Inserts under a black parent, or at the root: nothing but the root's colour changes besides.
 fn insert_under_black(pool: &mut [u32], h: Head, l: Link, k: u32, v: u32) -> StepResult
     requires { ⌜ (length (now pool) < poolLimit) × (isRed (now pool) (owner l) ≡ false) × (h .first ≡ 0 → ⊥) ⌝ }
     ensures { λ r. ⌜ Tries l (Insert k v) (now (pool .entry)) h (now (pool .exit)) r ⌝ }
@@ -65,7 +65,14 @@ fn insert_under_black(pool: &mut [u32], h: Head, l: Link, k: u32, v: u32) -> Ste
     }
 }
 
-// an insert under a red parent
+// Inserts under a red parent. A red aunt: parent and aunt turn black, the grandparent red, and the work goes on from there; the root ends
+// black. A black aunt, or none: a rotation is to come.
+//
+//        G b               G r
+//       /   \             /   \
+//     P r   A r    =>   P b   A b
+//                      /
+//                    z r
 fn insert_under_red(pool: &mut [u32], h: Head, l: Link, k: u32, v: u32) -> StepResult
     requires { ⌜ (length (now pool) < poolLimit) × (isRed (now pool) (owner l) ≡ true) × (h .first ≡ 0 → ⊥) ⌝ }
     ensures { λ r. ⌜ Tries l (Insert k v) (now (pool .entry)) h (now (pool .exit)) r ⌝ }
@@ -89,7 +96,7 @@ fn insert_under_red(pool: &mut [u32], h: Head, l: Link, k: u32, v: u32) -> StepR
     }
 }
 
-// Links a new red node at the link l, then the fix-up's colours.
+// Inserts: stores a new red node in the empty link l and makes the fix-up's colour work. This is the write's list store.
 pub fn insert(pool: &mut [u32], h: Head, l: Link, k: u32, v: u32) -> StepResult
     requires { ⌜ length (now pool) < poolLimit ⌝ }
     ensures { λ r. ⌜ Tries l (Insert k v) (now (pool .entry)) h (now (pool .exit)) r ⌝ }
@@ -103,7 +110,13 @@ pub fn insert(pool: &mut [u32], h: Head, l: Link, k: u32, v: u32) -> StepResult
     insert_under_black(pool, h, l, k, v)
 }
 
-// C's left := B's left.
+// Delete of B, right child C without left child, first store: stores B's left child in C's left link.
+//
+//        B               B
+//       / \             / \
+//      l   C     =>    l   C
+//           \             / \
+//            y           l   y
 pub fn adopt(pool: &mut [u32], h: Head, l: Link) -> StepResult
     ensures { λ r. ⌜ Tries l Adopt (now (pool .entry)) h (now (pool .exit)) r ⌝ }
 {
@@ -123,7 +136,7 @@ pub fn adopt(pool: &mut [u32], h: Head, l: Link) -> StepResult
     }
 }
 
-// a link of B's right is one of the copy's now
+// Answers the copy's right link for B's, any other link as it is.
 fn moved_link(b: u32, n: u32, l: Link) -> Link
     ensures { λ r. ⌜ r ≡ movedLink b n l ⌝ }
 {
@@ -134,6 +147,7 @@ fn moved_link(b: u32, n: u32, l: Link) -> Link
     }
 }
 
+// Answers a store with its link moved so.
 fn moved_store(b: u32, n: u32, x: Store) -> Store
     ensures { λ r. ⌜ r ≡ movedStore b n x ⌝ }
 {
@@ -143,6 +157,7 @@ fn moved_store(b: u32, n: u32, x: Store) -> Store
     Store { link: moved, step }
 }
 
+// Moves the stores to come that hang on node b's right to node n, the copy that takes b's place.
 pub fn moved_write(b: u32, n: u32, w: Write) -> Write
     ensures { λ r. ⌜ r ≡ movedWrite b n w ⌝ }
 {
@@ -157,8 +172,18 @@ pub fn moved_write(b: u32, n: u32, w: Write) -> Write
     r
 }
 
-// B's link from above := a copy of C with B's colour and links; B retired; all reading slots are awaited. The write in hand is to be
-// moved to the copy by moved_write.
+// Delete of B, other, first store: takes C', a copy of the successor C with B's colour and links, and stores it in B's link from above.
+// B is retired, and all reading slots are awaited. This is the write's list store. The write in hand is to be moved to C' by moved_write.
+//
+//        B                  C'           B retired: its children are l and its right subtree
+//       / \                / \
+//      l   ..             l   ..
+//         /        =>        /
+//        F                  F
+//       /                  /
+//      C                  C
+//       \                  \
+//        y                  y
 pub fn publish(pool: &mut [u32], h: Head, reading: u32, l: Link, c: u32) -> StepResult
     requires { ⌜ length (now pool) < poolLimit ⌝ }
     ensures { λ r. ⌜ Publishes reading l c (now (pool .entry)) h (now (pool .exit)) r ⌝ }

@@ -1,49 +1,74 @@
--- An entry of the table of examples, and the computed test that it passes.
-use Prim.Native.Nat.{ℕ, zero, suc, _+_, _*_}
+-- An entry of the tables of examples: the pool and register lent, calls with the answers that they must give, looks at what stands in
+-- between; and the computed test that an entry passes. What stands is compared as numbers.
+use Prim.Native.Nat.{ℕ, zero, suc, _+_, _*_, _-_}
+use Prim.Native.String.{String}
 use mathlib.Core.Bool.{Bool, true, false, cond, _&&_}
-use mathlib.Core.List.{List, [], _∷_}
-use lib.ListN.{length, replicate}
+use mathlib.Core.List.{List, [], _∷_, _++_}
+use lib.ListN.{length, getD, take, drop, replicate}
 use lib.Dec.{eqb}
+use Rattle.datatypes.specs.declared.Side.{Side}
+use Rattle.datatypes.specs.declared.Side.the-variants as side
 use Rattle.datatypes.specs.declared.Link.{Link}
 use Rattle.datatypes.specs.declared.Link.the-variants.{Root, Left, Right}
-use Rattle.spec.specs.Numbers.{nodeWords}
-use Rattle.spec.specs.Pool.{word, keyWord, recordWord, colourWord, leftWord, rightWord, standingWord, nextWord, standingLinked, standingRetired, nodes}
-use Rattle.spec.specs.Register.{State, state, fresh}
-use Rattle.spec.specs.Calls.{Answer, ok, go, absent, wait, found, more, done, refused, Call, call, setUp}
+use Rattle.datatypes.specs.declared.Purpose.{Purpose}
+use Rattle.datatypes.specs.declared.Purpose.the-variants.{ForInsert, RedSibling, BlackSibling}
+use Rattle.datatypes.specs.declared.Step.{Step}
+use Rattle.datatypes.specs.declared.Step.the-variants.{Vacant, Insert, DiagLower, DiagRaise, ZigLowerA, ZigLowerC, ZigRaise, Unlink, Adopt, Replace, Publish, Detach}
+use Rattle.datatypes.specs.declared.Store.{Store}
+use Rattle.datatypes.specs.declared.Reader.{Reader}
+use Rattle.datatypes.specs.declared.Register.{Register}
+use Rattle.spec.specs.Register.{State}
+use Rattle.spec.specs.Calls.{Answer, ok, go, absent, wait, found, more, done, refused, Outcome, Call, inserting, deleting, writing, beginning, turning, givingUp, call, setUp}
+use Rattle.table.specs.Picture.{Row, Picture, Change, rowWords, nodeIn, drawn, none, standing, _but_}
 
--- a call with the answer that it must give
-pub record Asked : Type 0 where
-  pub asked : Call
-  pub answer : Answer
+-- The calls by the letters of trace: P set up, I insert, D delete, W writer's turn, B begin, R reader's turn, E give up.
+pub data Request : Type 0 where
+  P : Request
+  calls : (c : Call) → Request
 
--- A linked node as the trace's T lists it: node, key, record, colour, left, right.
-pub record Row : Type 0 where
-  pub node : ℕ
-  pub key : ℕ
-  pub value : ℕ
-  pub colour : ℕ
-  pub left : ℕ
-  pub right : ℕ
+abbrev pub I : ℕ → ℕ → Request
+I k v = calls (inserting k v)
 
--- What a run must leave: the linked nodes and the retired ones in rising number, and the free queue in order; or it is not looked at.
-pub data Remainder : Type 0 where
-  unseen : Remainder
-  holds : (linked : List Row) (retired queue : List ℕ) → Remainder
+abbrev pub D : ℕ → Request
+D k = calls (deleting k)
 
--- N, what set up answers on a pool of N nodes, the calls after it, and what they leave
+abbrev pub W : Request
+W = calls writing
+
+abbrev pub B : ℕ → ℕ → Request
+B s k = calls (beginning s k)
+
+abbrev pub R : ℕ → Request
+R s = calls (turning s)
+
+abbrev pub E : ℕ → Request
+E s = calls (givingUp s)
+
+-- A line of an entry. A call with its answer: one that is refused or answers wait must leave every word and field as it was.
+-- stands: what stands now is this picture. still: a node has these words, whatever it stands as. leaves: what stands now is what was lent
+-- with these changes, every word and field.
+infix 70 _⇒_
+pub data Line : Type 0 where
+  _⇒_ : (r : Request) (a : Answer) → Line
+  stands : Picture → Line
+  still : Row → Line
+  leaves : List Change → Line
+
 pub record Entry : Type 0 where
-  pub size : ℕ
-  pub setup : Answer
-  pub calls : List Asked
-  pub leaves : Remainder
+  pub title : String
+  pub lent : State
+  pub lines : List Line
 
--- An answer as numbers: one for its kind, then its values. Equal numbers are equal answers.
-abbrev pub linkNumbers : Link → List ℕ
+abbrev pub entry : String → State → List Line → Entry
+entry title lent lines = record { title = title; lent = lent; lines = lines }
+
+-- Answers, registers and states as numbers: equal numbers are equal things. One number for the kind, then its values.
+abbrev linkNumbers : Link → List ℕ
 linkNumbers Root = 0 ∷ 0 ∷ []
 linkNumbers (Left n) = 1 ∷ n ∷ []
 linkNumbers (Right n) = 2 ∷ n ∷ []
 
-abbrev pub answerNumbers : Answer → List ℕ
+abbrev answerNumbers : Answer → List ℕ
 answerNumbers ok = 0 ∷ []
 answerNumbers go = 1 ∷ []
 answerNumbers absent = 2 ∷ []
@@ -53,64 +78,97 @@ answerNumbers (more l n) = 5 ∷ n ∷ linkNumbers l
 answerNumbers (done l n) = 6 ∷ n ∷ linkNumbers l
 answerNumbers (refused n) = 7 ∷ n ∷ []
 
-abbrev pub sameList : {A : Type 0} → (A → A → Bool) → List A → List A → Bool
-sameList f [] [] = true
-sameList f [] (b ∷ ys) = false
-sameList f (a ∷ xs) [] = false
-sameList f (a ∷ xs) (b ∷ ys) = f a b && sameList f xs ys
+abbrev sideNumber : Side → ℕ
+sideNumber side.L = 0
+sideNumber side.R = 1
 
-abbrev pub sameAnswer : Answer → Answer → Bool
-sameAnswer a b = sameList eqb (answerNumbers a) (answerNumbers b)
+abbrev purposeNumber : Purpose → ℕ
+purposeNumber ForInsert = 0
+purposeNumber RedSibling = 1
+purposeNumber BlackSibling = 2
 
-abbrev pub sameRow : Row → Row → Bool
-sameRow a b =
-    eqb (a .node) (b .node) && eqb (a .key) (b .key) && eqb (a .value) (b .value) && eqb (a .colour) (b .colour) && eqb (a .left) (b .left)
-    && eqb (a .right) (b .right)
+-- three numbers each
+abbrev stepNumbers : Step → List ℕ
+stepNumbers Vacant = 0 ∷ 0 ∷ 0 ∷ []
+stepNumbers (Insert k v) = 1 ∷ k ∷ v ∷ []
+stepNumbers (DiagLower s purpose) = 2 ∷ sideNumber s ∷ purposeNumber purpose ∷ []
+stepNumbers (DiagRaise s purpose) = 3 ∷ sideNumber s ∷ purposeNumber purpose ∷ []
+stepNumbers (ZigLowerA s purpose) = 4 ∷ sideNumber s ∷ purposeNumber purpose ∷ []
+stepNumbers (ZigLowerC s purpose) = 5 ∷ sideNumber s ∷ purposeNumber purpose ∷ []
+stepNumbers (ZigRaise s purpose) = 6 ∷ sideNumber s ∷ purposeNumber purpose ∷ []
+stepNumbers Unlink = 7 ∷ 0 ∷ 0 ∷ []
+stepNumbers Adopt = 8 ∷ 0 ∷ 0 ∷ []
+stepNumbers Replace = 9 ∷ 0 ∷ 0 ∷ []
+stepNumbers (Publish n) = 10 ∷ n ∷ 0 ∷ []
+stepNumbers (Detach k) = 11 ∷ k ∷ 0 ∷ []
 
--- the rows of the linked nodes among the k nodes from n on, and the retired ones
-abbrev pub rowOf : List ℕ → ℕ → Row
-rowOf p n =
-    record { node = n; key = word p n keyWord; value = word p n recordWord; colour = word p n colourWord; left = word p n leftWord; right = word p n rightWord }
+abbrev storesNumbers : List Store → List ℕ
+storesNumbers [] = []
+storesNumbers (x ∷ xs) = linkNumbers (x .link) ++ stepNumbers (x .step) ++ storesNumbers xs
 
-abbrev pub linkedFrom : List ℕ → ℕ → ℕ → List Row
-linkedFrom p zero n = []
-linkedFrom p (suc k) n =
-    let others = linkedFrom p k (n + 1) in
-    cond (eqb (word p n standingWord) standingLinked) (rowOf p n ∷ others) others
+abbrev readersNumbers : List Reader → List ℕ
+readersNumbers [] = []
+readersNumbers (x ∷ xs) = cond (x .reading) 1 0 ∷ x .key ∷ x .node ∷ readersNumbers xs
 
-abbrev pub retiredFrom : List ℕ → ℕ → ℕ → List ℕ
-retiredFrom p zero n = []
-retiredFrom p (suc k) n =
-    let others = retiredFrom p k (n + 1) in
-    cond (eqb (word p n standingWord) standingRetired) (n ∷ others) others
+abbrev headNumbers : Register → List ℕ
+headNumbers r = r .root ∷ r .first ∷ r .last ∷ r .free ∷ r .held ∷ r .awaited ∷ r .write .count ∷ readersNumbers (r .readers)
 
--- the queue from node n on, of at most k nodes
-abbrev pub queueFrom : List ℕ → ℕ → ℕ → List ℕ
-queueFrom p zero n = []
-queueFrom p (suc k) n =
-    let others = queueFrom p k (word p n nextWord) in
-    cond (eqb n 0) [] (n ∷ others)
+abbrev sameNumbers : List ℕ → List ℕ → Bool
+sameNumbers [] [] = true
+sameNumbers [] (b ∷ ys) = false
+sameNumbers (a ∷ xs) [] = false
+sameNumbers (a ∷ xs) (b ∷ ys) = eqb a b && sameNumbers xs ys
 
-abbrev pub leavesAs : State → Remainder → Bool
-leavesAs st unseen = true
-leavesAs st (holds rows gone queue) =
-    let p = st .pool in
-    let k = nodes p in
-    sameList sameRow (linkedFrom p k 1) rows && sameList eqb (retiredFrom p k 1) gone && sameList eqb (queueFrom p (k + 1) (st .register .first)) queue
-    && eqb (st .register .free) (length queue)
+abbrev sameState : State → State → Bool
+sameState x y =
+    sameNumbers (headNumbers (x .register)) (headNumbers (y .register))
+    && sameNumbers (storesNumbers (x .register .write .stores)) (storesNumbers (y .register .write .stores))
+    && sameNumbers (x .pool) (y .pool)
 
--- every call answers as it must, and the last one leaves what it must
-abbrev pub answersAs : State → List Asked → Remainder → Bool
-answersAs st [] l = leavesAs st l
-answersAs st (a ∷ later) l =
-    let o = call st (a .asked) in
-    sameAnswer (o .answer) (a .answer) && answersAs (o .after) later l
+-- The k nodes from n on are as a picture shows them: p is the pool from node n on. Of a free node the words from standing on count.
+abbrev nodesShown : Picture → ℕ → ℕ → List ℕ → Bool
+nodesShown x zero n p = sameNumbers p []
+nodesShown x (suc k) n p =
+    let words = nodeIn x n in
+    let from = cond (eqb (getD words standing 0) 0) standing 0 in
+    sameNumbers (drop from (take 8 p)) (drop from words) && nodesShown x k (n + 1) (drop 8 p)
 
--- set up on a pool of zeros, with the register of a fresh index of 8 nodes, whatever it is refused for
+abbrev isShown : State → Picture → Bool
+isShown st x =
+    let N = length (x .linked) + length (x .retired) + length (x .queue) in
+    let shown = drawn 0 x (replicate (x .numbers .stores) none) in
+    sameNumbers (headNumbers (st .register)) (headNumbers (shown .register)) && nodesShown x N 1 (st .pool)
+
+abbrev isStill : List ℕ → Row → Bool
+isStill p r = sameNumbers (take 5 (drop (r .node * 8 - 8) p)) (take 5 (rowWords r 0 0))
+
+-- a call that is refused or answers wait leaves pool and register as they were
+abbrev kept : Answer → State → State → Bool
+kept ok x y = true
+kept go x y = true
+kept absent x y = true
+kept wait x y = sameState x y
+kept (found v) x y = true
+kept (more l n) x y = true
+kept (done l n) x y = true
+kept (refused n) x y = sameState x y
+
+abbrev outcomeOf : State → Request → Outcome
+outcomeOf st P = setUp st
+outcomeOf st (calls c) = call st c
+
+-- every line holds of the state st that stands before it; lent is where the entry began
+abbrev pub holdsFrom : State → State → List Line → Bool
+holdsFrom lent st [] = true
+holdsFrom lent st ((r ⇒ a) ∷ later) =
+    let o = outcomeOf st r in
+    sameNumbers (answerNumbers (o .answer)) (answerNumbers a) && kept a st (o .after) && holdsFrom lent (o .after) later
+holdsFrom lent st (stands x ∷ later) = isShown st x && holdsFrom lent st later
+holdsFrom lent st (still r ∷ later) = isStill (st .pool) r && holdsFrom lent st later
+holdsFrom lent st (leaves cs ∷ later) = sameState st (lent but cs) && holdsFrom lent st later
+
 abbrev pub passes : Entry → Bool
-passes e =
-    let o = setUp (state (replicate (e .size * nodeWords) 0) (fresh 8 .register)) in
-    sameAnswer (o .answer) (e .setup) && answersAs (o .after) (e .calls) (e .leaves)
+passes e = holdsFrom (e .lent) (e .lent) (e .lines)
 
 abbrev pub allPass : List Entry → Bool
 allPass [] = true

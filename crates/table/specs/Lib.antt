@@ -1,2 +1,13 @@
+pub mod Picture
 pub mod Entry
+pub mod Lent
+pub mod Starred
+pub mod Readers
+pub mod Inserts
+pub mod Deletes
+pub mod Refusals
+pub mod Paths
+pub mod Damaged
+pub mod PlainLists
+pub mod Large
 pub mod Table

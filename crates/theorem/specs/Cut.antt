@@ -2,7 +2,6 @@
 -- no more than every such moment has. For C-19 (an index given to another line) and C-22 (runs from equal starts).
 use Prim.Native.Nat.{ℕ, _<_}
 use mathlib.Core.Path.{_≡_, sym, ap, _∙_}
-use mathlib.Core.Logic.{_≢_}
 use mathlib.Core.Bool.{false, not, false≢true}
 use mathlib.Core.List.{List, [], _∷_}
 use native.Mathlib.Omega.{arith}
@@ -13,7 +12,6 @@ use Rattle.datatypes.specs.declared.Store.{Store}
 use Rattle.sequential.specs.Tree as Seq
 use Rattle.sequential.specs.Delete.{changedBy}
 use Rattle.spec.specs.Numbers.{slots}
-use Rattle.spec.specs.Pool.{word, standingWord, holdersWord, standingRetired}
 use Rattle.spec.specs.Register.{State, noWrite}
 use Rattle.spec.specs.Calls.{Call, reading, writeInHand}
 use Rattle.spec.specs.PlainList.{Plain, acceptedWrites}
@@ -21,15 +19,12 @@ use Rattle.tree.specs.Changes.{changedBy-proper}
 use Rattle.tree.specs.Linked.{Linked}
 use Rattle.tree.specs.Erase.{erase-find}
 use Rattle.heap.specs.Colours.{colours}
-use Rattle.heap.specs.Phase.{phase-rep}
 use Rattle.heap.specs.Writes.{InHand, write-count}
 use Rattle.promise.specs.Run.{Start, indexAfter, plainAfter, ticketsAfter}
-use Rattle.readers.specs.Words.{stands-node}
-use Rattle.readers.specs.Reach.{leads-in, in-leads}
-use Rattle.readers.specs.Safe.{Safe}
 use Rattle.ranges.specs.Calls.{ranged-in}
 use Rattle.promise.specs.Starts.{SoundStart}
-use Rattle.runs.specs.Rest.{some-slot, none-awaited}
+use Rattle.runs.specs.Rest.{none-awaited}
+use Rattle.runs.specs.Standings.{none-retired}
 use Rattle.runs.specs.Theorem.{sound-at}
 use Rattle.runs.specs.Whole as Whole
 use Rattle.theorem.specs.WriterSide.{seqOf, WriterSide}
@@ -45,13 +40,6 @@ no-write st x T h e = go (h .stores) (h .hand)
     go (a ∷ l) i =
         absurd (let z : not (eqb (length (a ∷ l)) 0) ≡ false = rw (i .write, write-count (a ∷ l)) at e in false≢true (sym (rw (ne-eqb (length (a ∷ l)) 0 (omega arith)) at z)))
 
--- a retired node has a holder, which is reading
-none-retired : (st : State) → Safe st → ((s : ℕ) → s < slots → reading st s ≡ false) → (n : ℕ) → word (st .pool) n standingWord ≢ standingRetired
-none-retired st h quiet n e =
-    let g = h .owned .good n (stands-node (st .pool) n standingWord (h .whole) (omega arith) (omega arith)) in
-    let s = some-slot (word (st .pool) n holdersWord) (g .mask) (g .holder e) in
-    false≢true (sym (quiet (s .0) (s .1)) ∙ g .reads e (s .0) (s .1) (s .2))
-
 module _ (S : Start) (h : SoundStart S) (cs : List Call) (j : ℕ) where
   -- what stands after j calls
   abbrev pub cutAt : Start
@@ -66,7 +54,6 @@ module _ (S : Start) (h : SoundStart S) (cs : List Call) (j : ℕ) where
       let safe = sound .safe in
       let T = sound .tree in
       let k = sound .holds in
-      let rep = phase-rep (k .hand .phase) in
       let same : seqOf x ≡ changedBy (S .tree) (acceptedWrites x) = ap (λ t. changedBy t (acceptedWrites x)) (Whole.started WriterSide writer completes S (starts-sound S h) cs j) in
       let all = promise-from S h cs .demand2 in
       record {
@@ -80,7 +67,7 @@ module _ (S : Start) (h : SoundStart S) (cs : List Call) (j : ℕ) where
         idle = no-write st x T k idle;
         stands = all .atRest j idle;
         proper = changedBy-proper (S .tree) (acceptedWrites x) (h .proper);
-        linked = λ n. (λ e. in-leads (st .pool) T (st .register .root) n rep (k .linked n .0 e), λ l. k .linked n .1 (leads-in (st .pool) T (st .register .root) n rep l));
+        linked = all .linked j;
         unretired = none-retired st safe quiet;
         free = all .free j;
         told = λ q. sym (k .finds q) ∙ sym (erase-find (colours (st .pool)) T q) ∙ ap (λ t. Seq.find t q) (resting st x T k idle .tree ∙ same);

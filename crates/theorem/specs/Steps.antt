@@ -20,9 +20,10 @@ use Rattle.heap.specs.Rep.{Rep}
 use Rattle.heap.specs.Fill.{retire-quiet, retireTwo-quiet}
 use Rattle.heap.specs.Parts.{Based, unchanged, filled, SameQueue, retireAll, Parts}
 use Rattle.heap.specs.Shift.{Shift}
+use Rattle.promise.specs.Demands.{TreeLink}
 use Rattle.readers.specs.Owned.{Slots, Owned}
 use Rattle.readers.specs.Reach.{HasStanding}
-use Rattle.readers.specs.Stored.{OwnerLinked, Stored, own-fields, link-stored, taking-stored}
+use Rattle.readers.specs.Stored.{Stored, own-fields, link-stored, taking-stored}
 use Rattle.readers.specs.ColourWork.{recoloured-pool, stored-recoloured}
 use Rattle.readers.specs.Turns.{Turn, turn-none, turn-one, turn-two}
 use Rattle.readers.specs.Safe.{Safe}
@@ -33,7 +34,7 @@ abbrev pub QueueHas : State → List ℕ → Type 0
 QueueHas st [] = Unit {0}
 QueueHas st (n ∷ l) = (q : List ℕ) × Owned st (st .register .first ∷ q)
 
-base-stored : (st base : State) (came : List ℕ) (k : Link) (v : ℕ) → Safe st → Based st came base → QueueHas st came → OwnerLinked (st .pool) k → Stored st (setLink base k v) came k v
+base-stored : (st base : State) (came : List ℕ) (k : Link) (v : ℕ) → Safe st → Based st came base → QueueHas st came → TreeLink (st .pool) k → Stored st (setLink base k v) came k v
 base-stored st base came k v safe unchanged q o = link-stored st (safe .queue) k v (safe .whole) o (safe .owned)
 base-stored st base came k v safe (filled j w s x y c) q o = taking-stored st (st .register .first) (q .0) j w s x y c k v (safe .whole) o (q .1)
 
@@ -72,7 +73,7 @@ parts-turn st T T′ m came gone b w safe rep lk sh ps q aw = rw (ps .retired) (
     v : ℕ
     v = m .node
 
-    own : OwnerLinked (st .pool) (m .link)
+    own : TreeLink (st .pool) (m .link)
     own = shift-owner (st .pool) (st .register .root) sh lk
 
     base : Stored st (setLink (ps .base) (m .link) (m .node)) came (m .link) (m .node)

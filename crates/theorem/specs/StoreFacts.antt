@@ -1,12 +1,13 @@
 -- A turn on a phase (heap: Writes.turn) gives all that the readers' side asks of a store (runs: Writer.Stores), and the nodes linked afterwards are
 -- again those of the tree.
-use Prim.Native.Nat.{ℕ}
-use mathlib.Core.Path.{_≡_, refl, _∙_, subst}
-use mathlib.Core.Logic.{_⊎_, inl, inr, ⊎-elim, _↔_}
+use Prim.Native.Nat.{ℕ, zero, suc}
+use mathlib.Core.Path.{_≡_, refl, sym, ap, _∙_, subst}
+use mathlib.Core.Logic.{_≢_, _⊎_, inl, inr, ⊎-elim, _↔_}
 use mathlib.Core.Bool.{Bool, true, false, cond}
 use mathlib.Core.List.{List, _∷_}
 use native.Mathlib.Omega.{arith}
-use borrow.Author.Tests.{eq-eqb}
+use lib.Dec.{eqb}
+use borrow.Author.Tests.{eqb-true, eq-eqb}
 use Rattle.base.specs.Walk.{cond-both}
 use Rattle.datatypes.specs.declared.Side.{Side}
 use Rattle.datatypes.specs.declared.Side.the-variants.{L, R}
@@ -17,7 +18,7 @@ use Rattle.datatypes.specs.declared.Store.{Store}
 use Rattle.datatypes.specs.declared.Register.{Register}
 use Rattle.datatypes.specs.Side.{owner}
 use Rattle.spec.specs.Pool.{child, standingLinked}
-use Rattle.spec.specs.Register.{State, state, withWrite, readingSlots, lessFirst}
+use Rattle.spec.specs.Register.{State, state, nodeAt, linkNode, withWrite, readingSlots, lessFirst}
 use Rattle.spec.specs.Turn.{Made, stepMade, profile}
 use Rattle.spec.specs.Calls.{stored}
 use Rattle.sequential.specs.Tree.{Tree}
@@ -25,20 +26,21 @@ use Rattle.base.specs.Lists.{_∈_, in-append}
 use Rattle.tree.specs.Linked.{Linked, nil, cell, nodes}
 use Rattle.tree.specs.Zipper.{Thins}
 use Rattle.tree.specs.Occurs.{occ-in}
-use Rattle.heap.specs.Rep.{Rep}
+use Rattle.heap.specs.Rep.{Rep, Agree, rep-agree, rep-unique}
 use Rattle.heap.specs.Shift.{Shift, isListStore, takenBy, awaitedAfter, Ready, Next, later}
 use Rattle.heap.specs.Effects.{shift-thin}
 use Rattle.heap.specs.Phase.{phase-rep}
 use Rattle.heap.specs.Writes.{InHand, turn}
 use Rattle.heap.specs.Writes as Writes
+use Rattle.promise.specs.Demands.{TreeLink}
 use Rattle.readers.specs.Owned.{Slots, slots-reading}
 use Rattle.readers.specs.Reach.{HasStanding}
 use Rattle.readers.specs.Lookups.{Unlinked}
-use Rattle.readers.specs.Stored.{OwnerLinked}
+use Rattle.readers.specs.Stored.{hitsLink, rootAfter}
 use Rattle.readers.specs.Turns.{Turn, turn-write}
 use Rattle.readers.specs.Safe.{Safe}
 use Rattle.runs.specs.Writer.{Stores}
-use Rattle.theorem.specs.Nodes.{Moves, shift-moves}
+use Rattle.theorem.specs.Nodes.{Moves, shift-moves, shift-new, shift-effect}
 use Rattle.theorem.specs.Ways.{shift-owner, shift-gone}
 use Rattle.theorem.specs.Steps.{QueueHas, parts-turn}
 
@@ -50,7 +52,7 @@ sub-rep p (cell N l r) a d R h (inl e) = (r, rw e (h .2))
 sub-rep p (cell N l r) a d z h (inr i) = ⊎-elim (λ j. sub-rep p l _ d z (h .1) j) (λ j. sub-rep p r _ d z (h .2) j) (in-append d (nodes l) (nodes r) .0 i)
 
 -- the stored link's value unfolds
-value-rep : (st after : State) (came gone : List ℕ) (k : Link) (v : ℕ) (T′ : Linked) → Turn st after came gone k v → Rep (after .pool) (after .register .root) T′ → OwnerLinked (st .pool) k
+value-rep : (st after : State) (came gone : List ℕ) (k : Link) (v : ℕ) (T′ : Linked) → Turn st after came gone k v → Rep (after .pool) (after .register .root) T′ → TreeLink (st .pool) k
     → ((n : ℕ) → HasStanding (st .pool) n standingLinked → owner k ≡ n → (n ∈ nodes T′) × (¬ (n ∈ came))) → (u : Linked) × Rep (after .pool) v u
 value-rep st after came gone Root v T′ t h o f = (T′, subst (λ a. Rep (after .pool) a T′) (t .root) h)
 value-rep st after came gone (Left d) v T′ t h o f =
@@ -61,6 +63,43 @@ value-rep st after came gone (Right d) v T′ t h o f =
     let a = f d o refl in
     let u = sub-rep (after .pool) T′ _ d R h (a .0) in
     (u .0, subst (λ i. Rep (after .pool) i (u .0)) (t .links d R (a .1) ∙ rw (eq-eqb d d refl)) (u .1))
+
+-- A link that already holds its new node: then no link changes, and the root unfolds to the same tree.
+held-already : (b : Bool) (v a : ℕ) → (b ≡ true → v ≡ a) → cond b v a ≡ a
+held-already true v a f = f refl
+held-already false v a f = refl
+
+links-still : (p : List ℕ) (root : ℕ) (k : Link) (v : ℕ) → nodeAt p root k ≡ v → (n : ℕ) (z : Side)
+    → cond (hitsLink k n z) v (child p z n) ≡ child p z n
+unfolding nodeAt
+links-still p root Root v e n z = refl
+links-still p root (Left d) v e n L = held-already (eqb d n) v _ (λ i. sym e ∙ ap (child p L) (eqb-true d n i))
+links-still p root (Left d) v e n R = refl
+links-still p root (Right d) v e n L = refl
+links-still p root (Right d) v e n R = held-already (eqb d n) v _ (λ i. sym e ∙ ap (child p R) (eqb-true d n i))
+
+root-still : (p : List ℕ) (root : ℕ) (k : Link) (v : ℕ) → nodeAt p root k ≡ v → root ≡ rootAfter k v root
+unfolding nodeAt
+root-still p root Root v e = e
+root-still p root (Left d) v e = refl
+root-still p root (Right d) v e = refl
+
+tree-still : (st after : State) (came gone : List ℕ) (k : Link) (v : ℕ) (T T′ : Linked) → Turn st after came gone k v
+    → Rep (st .pool) (st .register .root) T → Rep (after .pool) (after .register .root) T′
+    → ((n : ℕ) → n ∈ nodes T → HasStanding (st .pool) n standingLinked) → linkNode st k ≡ v → T ≡ T′
+tree-still st after came gone k v T T′ t h h′ lk e =
+    let p = st .pool in
+    let root = st .register .root in
+    let old : (n : ℕ) → n ∈ nodes T → ¬ (n ∈ came) = λ n j i. let a = t .new n i in let b = lk n j in absurd (omega arith) in
+    rep-unique (after .pool) T T′ root (after .register .root) (root-still p root k v e ∙ sym (t .root))
+    (rep-agree p (after .pool) (t .size) T root (λ n u. agree n (old n (occ-in n (nodes T) u))) h) h′
+  where
+    agree : (n : ℕ) → ¬ (n ∈ came) → Agree (st .pool) (after .pool) n
+    agree n d zero u = t .keys n d
+    agree n d (suc zero) u = t .records n d
+    agree n d (suc (suc zero)) u = t .links n L d ∙ links-still (st .pool) (st .register .root) k v e n L
+    agree n d (suc (suc (suc zero))) u = t .links n R d ∙ links-still (st .pool) (st .register .root) k v e n R
+    agree n d (suc (suc (suc (suc f)))) u = absurd (omega arith)
 
 -- awaited slots afterwards
 await-slots : (x : Step) (r : Register) → Slots (r .readers) (r .awaited) → Slots (r .readers) (awaitedAfter x r)
@@ -109,7 +148,7 @@ module _ (st : State) (G : Tree) (T : Linked) (x : Store) (l : List Store) (safe
     λ i. (let a = moves n .0 i in facts-turn .linked n .1 (⊎-elim (λ j. inl (lk n .1 j)) (λ j. inr j) (a .0), a .1)),
   )
 
-  own : OwnerLinked (st .pool) (made .link)
+  own : TreeLink (st .pool) (made .link)
   own = shift-owner (st .pool) (st .register .root) (next .shift) (λ n u. lk n .1 (occ-in n (nodes T) u))
 
   stays : (n : ℕ) → HasStanding (st .pool) n standingLinked → owner (made .link) ≡ n → (n ∈ nodes (next .tree)) × (¬ (n ∈ takenBy (x .step) (st .register .first)))
@@ -128,17 +167,35 @@ module _ (st : State) (G : Tree) (T : Linked) (x : Store) (l : List Store) (safe
       go true sh e = inr (rw (after-is made) (write-awaited (made .after .register) _ ∙ e))
       go false sh e = inl (shift-thin (Unlinked (stored made .after .pool)) sh (λ i j e. facts-turn .linked i .0 e .1 j))
 
-  pub facts-stores : (W : Linked → Type 0) → W (next .tree) → Stores st (stored made .after) T W
+  -- the link changes, for the tree does
+  moved : linkNode st (made .link) ≢ made .node
+  moved e = ⊎-elim (λ x. ⊎-elim (came (x .0)) (gone (x .0)) (x .1)) (λ d. d same) (shift-effect (next .shift))
+    where
+      same : T ≡ next .tree
+      same = tree-still st (stored made .after) _ _ (made .link) (made .node) T (next .tree) facts-turn rep rep′ (λ n. lk n .1) e
+
+      gone : (n : ℕ) → ¬ (n ∈ next .gone)
+      gone n i =
+          let was = occ-in n (nodes T) (shift-gone (st .pool) (st .register .root) (next .shift) rep n i .0) in
+          moves n .0 (subst (λ t. n ∈ nodes t) same was) .1 i
+
+      came : (n : ℕ) → ¬ (n ∈ takenBy (x .step) (st .register .first))
+      came n i =
+          let a = facts-turn .new n i in
+          let b = lk n .1 (subst (λ t. n ∈ nodes t) (sym same) (moves n .1 (inr i, gone n))) in
+          absurd (omega arith)
+
+  pub facts-stores : (W : Linked → Type 0) → W (next .tree) → Stores st made T W
   facts-stores W w =
       let u = value-rep st (stored made .after) _ _ (made .link) (made .node) (next .tree) facts-turn rep′ own stays in
       record {
         tree = next .tree;
         came = takenBy (x .step) (st .register .first);
         gone = next .gone;
-        link = made .link;
-        value = made .node;
         turn = facts-turn;
         owner = own;
+        moved = moved;
+        new = shift-new (next .shift);
         below = u .0;
         unfolds = u .1;
         ways = ways;

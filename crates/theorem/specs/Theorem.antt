@@ -1,23 +1,27 @@
 -- The theorem: demands 2 and 3, and that 2 and 12 are never met, of every list of calls on a pool of any N from 8 to 1,023 just set up; and
 -- from every other sound start (runs: Starts).
-use Prim.Native.Nat.{ℕ, _<_, _≤_}
+use Prim.Native.Nat.{ℕ, _*_, _<_, _≤_}
 use mathlib.Core.Path.{_≡_, sym, _∙_, subst}
 use mathlib.Core.Bool.{false≢true}
 use mathlib.Core.List.{List}
 use native.Mathlib.Omega.{arith}
+use lib.ListN.{length}
 use native.Mathlib.Decide.{ℕ-discrete}
 use borrow.Author.Tests.{eq-eqb, ne-eqb}
-use Rattle.spec.specs.Numbers.{leastNodes, mostNodes}
-use Rattle.spec.specs.Pool.{word, colourWord, standingWord, redColour, standingLinked}
-use Rattle.spec.specs.Calls.{Call}
-use Rattle.tree.specs.Linked.{Linked, nil, cell, find}
-use Rattle.tree.specs.Erase.{erase}
+use Rattle.datatypes.specs.declared.Register.{Register}
+use Rattle.spec.specs.Numbers.{nodeWords, leastNodes, mostNodes}
+use Rattle.spec.specs.Pool.{nodes as poolNodes, word, colourWord, standingWord, redColour, standingLinked}
+use Rattle.spec.specs.Register.{state}
+use Rattle.spec.specs.Calls.{ok, outcome, setUp, Call}
+use Rattle.tree.specs.Linked.{Linked, nil, cell, find, nodes}
+use Rattle.tree.specs.Occurs.{occ-distinct, nodes-size}
+use Rattle.tree.specs.Erase.{erase, erase-find}
 use Rattle.heap.specs.Rep.{Rep}
 use Rattle.heap.specs.Colours.{hue, colours}
 use Rattle.heap.specs.Phase.{phase-rep}
 use Rattle.heap.specs.Writes.{write-count}
 use Rattle.heap.specs.Accept.{searched, insert-possible, delete-possible}
-use Rattle.promise.specs.Run.{Start, justSetUp, indexAfter, Reading}
+use Rattle.promise.specs.Run.{Start, justSetUp, afterSetUp, indexAfter, Reading}
 use Rattle.promise.specs.Demands.{colourNumber, Stands, PromiseFrom, Promise}
 use Rattle.readers.specs.Words.{node-high}
 use Rattle.readers.specs.Reach.{Kept}
@@ -26,10 +30,11 @@ use Rattle.runs.specs.Sound.{Starts}
 use Rattle.promise.specs.Starts.{SoundStart}
 use Rattle.runs.specs.Starts.{ranged-start, safe-start}
 use Rattle.runs.specs.Begin.{sound-fresh}
-use Rattle.runs.specs.Rest.{Completes}
+use Rattle.runs.specs.Rest.{length-right, Completes}
 use Rattle.runs.specs.Facts as Facts
 use Rattle.runs.specs.Facts.{TicketAt}
 use Rattle.runs.specs.Whole as Whole
+use Rattle.theorem.specs.Tickets.{tickets-size}
 use Rattle.theorem.specs.WriterSide.{WriterSide, writerSide-store, writerSide-finds}
 use Rattle.theorem.specs.Rests.{writerSide-leavesTree, resting, none-of, writerSide-insert}
 use Rattle.theorem.specs.Deletes.{some-of, writerSide-delete}
@@ -71,6 +76,12 @@ writer = record {
 pub completes : Completes WriterSide
 completes = record {
   rest = λ st x T h c e. (let f = resting st x T h e in subst (λ t. Stands (st .pool) (st .register .root) t) (f .tree) (stands (st .pool) T (st .register .root) c (f .rest .rep)));
+  counts = λ st x T h e. (
+      let f = resting st x T h e .rest in
+      let c = colours (st .pool) in
+      let size = tickets-size (x .tickets) (erase c T) (f .sound .proper) (h .unique) (λ q. erase-find c T q ∙ h .finds q) in
+      (occ-distinct (nodes T) (f .sound .once), nodes-size c T ∙ size ∙ sym (h .held))
+      );
   few = λ st x T h e. (let a = h .few in rw (h .hand .write, write-count (h .stores)) a);
   insertGoes = λ st x T k v safe h e. (
       let f = resting st x T h e in
@@ -104,6 +115,18 @@ promise-from S h cs = Whole.promise WriterSide writer completes S (starts-sound 
 -- and so, as 01's demands have it, on a pool of N nodes just set up
 pub promise : (N : ℕ) → leastNodes ≤ N → N ≤ mostNodes → (cs : List Call) → Promise N cs
 promise N lo hi cs = promise-from (justSetUp N) (sound-fresh N lo hi) cs
+
+-- Set up on a pool of N nodes, whatever its words and the register are, leaves that start; so the promise holds of every list of calls after it.
+module _ (p : List ℕ) (r : Register) (N : ℕ) (lo : leastNodes ≤ N) (hi : N ≤ mostNodes) (size : length p ≡ N * nodeWords) where
+  nodes-is : poolNodes p ≡ N
+  nodes-is = omega arith
+
+  pub set-up : setUp (state p r) ≡ outcome ok (justSetUp N .index)
+  unfolding setUp
+  set-up = rw (length-right (state p r) N lo hi (omega arith) nodes-is, nodes-is)
+
+  pub promise-after-set-up : (cs : List Call) → PromiseFrom (afterSetUp (state p r)) cs
+  promise-after-set-up cs = rw (nodes-is, set-up) (promise N lo hi cs)
 
 -- Two facts of every run from a sound start (runs: Facts), between the stores of a write too; C-11 and C-13 will use them.
 -- each linked node has its ticket in the plain list

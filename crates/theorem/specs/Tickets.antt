@@ -1,15 +1,23 @@
--- The plain list's tickets: one for a key at most; what a list store makes of them.
-use Prim.Native.Nat.{ℕ, suc}
+-- The plain list's tickets: one for a key at most; what a list store makes of them; they are as many as the keys of the tree that holds them.
+use Prim.Native.Nat.{ℕ, suc, _+_}
 use mathlib.Core.Path.{_≡_, refl, sym, ap, _∙_, subst}
 use mathlib.Core.Logic.{_≢_}
 use mathlib.Core.Bool.{Bool, true, false, cond}
 use mathlib.Core.List.{List, [], _∷_}
 use mathlib.Core.Option.{Option, none, some}
 use native.Mathlib.Omega.{arith}
+use native.Mathlib.Decide.{ℕ-discrete}
 use lib.Dec.{eqb}
 use lib.ListN.{length}
-use borrow.Author.Tests.{eqb-true, eqb-false, ne-eqb}
+use borrow.Author.Tests.{eqb-true, eqb-false, eq-eqb, ne-eqb}
+use Rattle.datatypes.specs.declared.Side.the-variants.{L}
+use Rattle.sequential.specs.Tree.{Tree, leaf, node, find}
+use Rattle.sequential.specs.Delete.{deletion, delete}
+use Rattle.sequential.specs.Proper.{Proper}
 use Rattle.spec.specs.PlainList.{Ticket, without, recordFor, Unique}
+use Rattle.tree.specs.Order.{here-of}
+use Rattle.tree.specs.Sorted.{size}
+use Rattle.tree.specs.Changes.{changed-proper, find-delete, find-delete-other, size-changed}
 
 pub none-some : (v : ℕ) → ¬ (_≡_ {A = Option ℕ} none (some v))
 none-some v e = let z : _≡_ {A = ℕ} 0 1 = cc in absurd (omega arith)
@@ -55,3 +63,20 @@ without-some k v (t ∷ ts) u h = go (eqb (t .key) k) refl h (λ x. without-some
         → suc (length (cond b (without k ts) (t ∷ without k ts))) ≡ suc (length ts)
     go true e x f = ap suc (without-none k ts (subst (λ m. recordFor m ts ≡ none) (eqb-true (t .key) k e) (u .0)))
     go false e x f = ap suc (f x)
+
+-- The tree that holds just these tickets has as many keys: delete them one by one.
+pub tickets-size : (ts : List Ticket) (t : Tree) → Proper t → Unique ts → ((q : ℕ) → find t q ≡ recordFor q ts) → size t ≡ length ts
+tickets-size [] leaf p u h = refl
+tickets-size [] (node c k v l r) p u h = absurd (none-some v (sym (h k) ∙ rw (here-of L k k refl)))
+tickets-size (x ∷ ts) t p u h =
+    let k = x .key in
+    let o = p .ordered in
+    let less = size-changed t (deletion k) o in
+    let was : find t k ≡ some (x .value) = h k ∙ rw (eq-eqb k k refl) in
+    let is = find-delete t k o in
+    let rest = tickets-size ts (delete t k) (changed-proper t (deletion k) p) (u .1) (λ q. elim (ℕ-discrete q k) [
+      | yes e ↦ rw e (is ∙ sym (u .0))
+      | no d ↦ find-delete-other t k q o d ∙ h q ∙ rw (ne-eqb k q (λ e. d (sym e)))
+    ]) in
+    let few : size (delete t k) + 1 ≡ size t + 0 = rw (was, is) at less in
+    omega arith

@@ -1,5 +1,5 @@
 -- What else each change (heap: Shift) gives the readers: the link's owner is in the tree, the nodes that go are, and are not the owner.
-use Prim.Native.Nat.{ℕ, _+_, _<_, _≤_}
+use Prim.Native.Nat.{ℕ, _<_, _≤_}
 use mathlib.Core.Path.{_≡_, sym, ap, _∙_, subst}
 use mathlib.Core.Logic.{_≢_, inl, inr}
 use mathlib.Core.Bool.{Bool}
@@ -22,8 +22,8 @@ use Rattle.tree.specs.Successor.{third₀}
 use Rattle.heap.specs.Rep.{Rep, not-below-at}
 use Rattle.heap.specs.Sites.{linkTo, site-of}
 use Rattle.heap.specs.Shift.{Shift, by-insert, by-diag-lower, by-diag-raise, by-zig-A, by-zig-C, by-zig-raise, by-unlink, by-adopt, by-replace, by-publish, by-detach}
+use Rattle.promise.specs.Demands.{TreeLink}
 use Rattle.readers.specs.Reach.{HasStanding}
-use Rattle.readers.specs.Stored.{OwnerLinked}
 
 -- the nodes of a tree that the pool has are nodes
 rep-low : (p : List ℕ) (t : Linked) (a i : ℕ) → Rep p a t → 0 < occ i (nodes t) → 1 ≤ i
@@ -34,7 +34,7 @@ rep-low p (cell N l r) a i h u =
     (λ e _. (let z = h .0 .within .low in omega arith))
     (λ _ o. elim (decLe 1 (occ i (nodes l))) [ yes z ↦ rep-low p l _ i (h .1) z | no z ↦ rep-low p r _ i (h .2) (omega arith) ])
 
-linked-at : (p : List ℕ) (s : Side) (n : ℕ) → HasStanding p n standingLinked → OwnerLinked p (linkAt s n)
+linked-at : (p : List ℕ) (s : Side) (n : ℕ) → HasStanding p n standingLinked → TreeLink p (linkAt s n)
 linked-at p L n e = e
 linked-at p R n e = e
 
@@ -50,7 +50,7 @@ owner-apart p root (hole s N y ∷ fs) t i h u e =
 
 module _ (p : List ℕ) (root : ℕ) where
   -- the link at a place is the root or a linked node's
-  link-owner : (fs : List Frame) (t : Linked) → ((n : ℕ) → 0 < occ n (nodes (plug fs t)) → HasStanding p n standingLinked) → OwnerLinked p (linkTo fs)
+  link-owner : (fs : List Frame) (t : Linked) → ((n : ℕ) → 0 < occ n (nodes (plug fs t)) → HasStanding p n standingLinked) → TreeLink p (linkTo fs)
   link-owner [] t lk = tt
   link-owner (hole s N y ∷ fs) t lk =
       linked-at p s (N .num) (lk (N .num) (let a = occ-plug (hole s N y ∷ fs) t (N .num) in let b = one-same (N .num) in omega arith))
@@ -69,7 +69,7 @@ module _ (p : List ℕ) (root : ℕ) where
   far-in s N x y i u = let a = occ-at s N x y i in omega arith
 
   pub shift-owner : {T T′ : Linked} {l : Link} {v : ℕ} {came gone : List ℕ} {b w : Bool} → Shift T T′ l v came gone b w
-      → ((n : ℕ) → 0 < occ n (nodes T) → HasStanding p n standingLinked) → OwnerLinked p l
+      → ((n : ℕ) → 0 < occ n (nodes T) → HasStanding p n standingLinked) → TreeLink p l
   shift-owner (by-insert fs Z i w) lk = link-owner fs nil lk
   shift-owner (by-diag-lower fs s B C n o x r ord w z) lk = linked-at p (other s) (B .num) (lk (B .num) (there fs _ (B .num) (near-in s C (at s B o x) r (B .num) (top s B o x))))
   shift-owner (by-diag-raise fs s B C n o x r ord w z) lk = link-owner fs _ lk
@@ -79,7 +79,7 @@ module _ (p : List ℕ) (root : ℕ) where
       linked-at p (other s) (B .num) (lk (B .num) (there fs _ (B .num) (near-in s C _ r (B .num) (far-in s A a _ (B .num) (top s B (at s (copy A m) a x) y)))))
   shift-owner (by-zig-raise fs s A B C m n a x y r ord w z q d) lk = link-owner fs _ lk
   shift-owner (by-unlink fs s B x ord w) lk = link-owner fs _ lk
-  shift-owner (by-adopt fs B C l y ord w) lk = lk (C .num) (there fs _ (C .num) (far-in L B l (at L C nil y) (C .num) (top L C nil y)))
+  shift-owner (by-adopt fs B C l y a ord w) lk = lk (C .num) (there fs _ (C .num) (far-in L B l (at L C nil y) (C .num) (top L C nil y)))
   shift-owner (by-replace fs B C l y ord w) lk = link-owner fs _ lk
   shift-owner (by-publish fs gs B C n l y al ord w z) lk = link-owner fs _ lk
   shift-owner (by-detach fs gs B C n l y al ord w z) lk = link-owner (gs ++ (hole R (copy C n) l ∷ fs)) (at L C nil y)
@@ -103,7 +103,7 @@ module _ (p : List ℕ) (root : ℕ) where
       at-place fs (zig₂ s A B C m n a x y r) (A .num) h (near-in s C (at s A a (at s B (at s (copy A m) a x) (at s (copy C n) y r))) r (A .num) (top s A a _)) i (inl e)
   shift-gone (by-zig-raise fs s A B C m n a x y r ord w z q d) h i (inr j) = at-place fs (zig₂ s A B C m n a x y r) (C .num) h (top s C _ r) i j
   shift-gone (by-unlink fs s B x ord w) h i j = at-place fs (at s B x nil) (B .num) h (top s B x nil) i j
-  shift-gone (by-adopt fs B C l y ord w) h i j = absurd j
+  shift-gone (by-adopt fs B C l y a ord w) h i j = absurd j
   shift-gone (by-replace fs B C l y ord w) h i j = at-place fs (form₁ L B C l y) (B .num) h (top L B l (at L C l y)) i j
   shift-gone (by-publish fs gs B C n l y al ord w z) h i j = at-place fs (third₀ L B C n l y gs) (B .num) h (top L B l (plug gs (at L C nil y))) i j
   shift-gone (by-detach fs gs B C n l y al ord w z) h i j =
@@ -131,7 +131,7 @@ module _ (p : List ℕ) (root : ℕ) where
       let c : occ (A .num) (nodes low) ≡ occ (C .num) (nodes low) = ap (λ i. occ i (nodes low)) e in
       absurd (omega arith)
   shift-two (by-unlink fs s B x ord w) h = tt
-  shift-two (by-adopt fs B C l y ord w) h = tt
+  shift-two (by-adopt fs B C l y a ord w) h = tt
   shift-two (by-replace fs B C l y ord w) h = tt
   shift-two (by-publish fs gs B C n l y al ord w z) h = tt
   shift-two (by-detach fs gs B C n l y al ord w z) h = tt
@@ -145,7 +145,7 @@ shift-few (by-zig-A fs s A B C m a x y r ord w z) = omega arith
 shift-few (by-zig-C fs s A B C m n a x y r ord w z q d) = omega arith
 shift-few (by-zig-raise fs s A B C m n a x y r ord w z q d) = omega arith
 shift-few (by-unlink fs s B x ord w) = omega arith
-shift-few (by-adopt fs B C l y ord w) = omega arith
+shift-few (by-adopt fs B C l y a ord w) = omega arith
 shift-few (by-replace fs B C l y ord w) = omega arith
 shift-few (by-publish fs gs B C n l y al ord w z) = omega arith
 shift-few (by-detach fs gs B C n l y al ord w z) = omega arith

@@ -32,7 +32,7 @@ use Rattle.heap.specs.Writes as Writes
 use Rattle.readers.specs.Owned.{Owned}
 use Rattle.readers.specs.Reach.{HasStanding}
 use Rattle.readers.specs.Safe.{Safe}
-use Rattle.runs.specs.Writer.{Stores, afterStore}
+use Rattle.runs.specs.Writer.{Stores, firstMade, afterStore}
 use Rattle.theorem.specs.Laters.{takesAll, later-plain, held-plain, later-takes, taken-length}
 use Rattle.theorem.specs.Steps.{QueueHas}
 use Rattle.theorem.specs.StoreFacts.{turn-made, facts-turn, facts-linked, facts-stores}
@@ -189,7 +189,7 @@ due-of st x s l (soon a b k e f p i) = is-soon b k refl e f p i
 -- A turn keeps it.
 module _ (st : State) (x : Plain) (T : Linked) (safe : Safe st) (h : WriterSide st x T) where
   turn-on : (s : Store) (l : List Store) → InHand st (seqOf x) T (s ∷ l) → takesAll (s ∷ l) ≤ st .register .free → x .made + length (s ∷ l) ≤ mostStores → Timing st x (s ∷ l)
-      → Stores st (stored (stepMade st (s .link) (s .step)) .after) T (λ z. WriterSide (stored (stepMade st (s .link) (s .step)) .after) (storeMade x (x .inHand)) z)
+      → Stores st (stepMade st (s .link) (s .step)) T (λ z. WriterSide (stored (stepMade st (s .link) (s .step)) .after) (storeMade x (x .inHand)) z)
   turn-on s l hand tks fw w =
       let r = ready st x T safe h s l hand tks fw in
       facts-stores st (seqOf x) T s l safe hand (h .linked) (r .0) (r .1) (λ z. WriterSide (stored (stepMade st (s .link) (s .step)) .after) (storeMade x (x .inHand)) z) (go (due-of st x s l w))
@@ -211,16 +211,16 @@ module _ (st : State) (x : Plain) (T : Linked) (safe : Safe st) (h : WriterSide 
           (next-now st x T safe h s l hand tks fw c (p .inHand) b k p refl f (λ z. absurd (omega arith)) g i)))
 
   -- the first store of a write in hand
-  pub writerSide-store : writeInHand st ≡ true → Stores st (afterStore st) T (λ z. WriterSide (afterStore st) (storeMade x (x .inHand)) z)
+  pub writerSide-store : writeInHand st ≡ true → Stores st (firstMade st) T (λ z. WriterSide (afterStore st) (storeMade x (x .inHand)) z)
   writerSide-store w = go (h .stores) (h .hand) (h .takes) (h .few) (h .timing)
     where
       go : (l : List Store) → InHand st (seqOf x) T l → takesAll l ≤ st .register .free → x .made + length l ≤ mostStores → Timing st x l
-          → Stores st (afterStore st) T (λ z. WriterSide (afterStore st) (storeMade x (x .inHand)) z)
+          → Stores st (firstMade st) T (λ z. WriterSide (afterStore st) (storeMade x (x .inHand)) z)
       go [] hand tks fw d = absurd (false≢true (rw (hand .write, write-count []) at w))
       go (s ∷ l) hand tks fw d =
           let r = ready st x T safe h s l hand tks fw in
           let first : storeOf (st .register) 0 ≡ s = t st x T safe h s l hand tks fw .first in
-          subst (λ y. Stores st (stored (stepMade st (y .link) (y .step)) .after) T (λ z. WriterSide (stored (stepMade st (y .link) (y .step)) .after) (storeMade x (x .inHand)) z))
+          subst (λ y. Stores st (stepMade st (y .link) (y .step)) T (λ z. WriterSide (stored (stepMade st (y .link) (y .step)) .after) (storeMade x (x .inHand)) z))
           (sym first) (turn-on s l hand tks fw d)
 
   -- its step finds every node that it names

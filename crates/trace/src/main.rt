@@ -1,4 +1,4 @@
-// Runs the commands of standard input on the ticket index and prints a line a call.
+// Runs the commands of standard input on the ticket index and prints a line for each call.
 use libc::STDIN_FILENO;
 use libc::STDOUT_FILENO;
 use session::Run;
@@ -9,14 +9,14 @@ ghost use Rattle.session.specs.Steps.{Sound};
 ghost use Rattle.texts.specs.Line.{room};
 ghost use Rattle.spec.specs.Numbers.{poolLimit};
 
-// the output up to a position is written out
+// Writes the output up to a position to standard output.
 fn write_out(out: &[u8], at: usize)
     requires { ⌜ at ≤ length (now out) ⌝ }
 {
     io::write_all(STDOUT_FILENO, &out[..at]);
 }
 
-// all of an input, its output written out
+// Runs all of an input and writes its output.
 fn run(words: &mut [u32], out: &mut [u8], r: Run, input: &[u8]) -> Run
     requires { ⌜ Sound (r .session) × (length (now words) ≡ poolLimit) × (room ≤ length (now out)) ⌝ }
     ensures { λ q. ⌜ Sound (q .session) ⌝ }
@@ -42,7 +42,7 @@ fn turns_left(turns: u64, read: usize, ended: bool) -> u64
     if read == 0 { 0 } else { turns - 1 }
 }
 
-// standard input to its end, or to an ill-formed line; the output of each read is written before the next
+// Runs standard input to its end, or to an ill-formed line; the output of each read is written before the next.
 fn run_all(words: &mut [u32], input: &mut [u8], out: &mut [u8])
     requires { ⌜ (length (now words) ≡ poolLimit) × (room ≤ length (now out)) ⌝ }
 {

@@ -41,7 +41,7 @@ pub fn try_step(pool: &mut [u32], h: Head, reading: u32, l: Link, x: Step) -> St
     }
 }
 
-// The write in hand without its first store.
+// Answers the write in hand without its first store.
 pub fn less_first(w: Write) -> Write
     ensures { λ r. ⌜ r ≡ lessFirst w ⌝ }
 {
@@ -57,7 +57,7 @@ pub fn less_first(w: Write) -> Write
     r
 }
 
-// whether the stores to come move to the copy that the step x puts in
+// Answers whether the stores to come move to the copy that the step x puts in.
 fn renames(x: Step) -> bool
     ensures { λ r. ⌜ r ≡ profile x .renames ⌝ }
 {
@@ -77,7 +77,7 @@ fn renames(x: Step) -> bool
     }
 }
 
-// done if no store is left, more otherwise, with the link stored and its new node
+// Answers done if no store is left, more otherwise, with the link stored and its new node.
 fn store_answer(count: u32, l: Link, n: u32) -> WriterAnswer
     ensures { λ r. ⌜ writerSays r ≡ storeAnswer count l n ⌝ }
 {
@@ -87,7 +87,7 @@ fn store_answer(count: u32, l: Link, n: u32) -> WriterAnswer
     WriterAnswer::More(l, n)
 }
 
-// The register put together after a made step, and the answer: done if no store is left, more otherwise. w is the write in hand before.
+// Puts the register together after a made step, and answers done or more. w is the write in hand before.
 fn stored(reg: Register, t: StepResult, w: Write) -> WriterReply
     ensures { λ r. ⌜ ((p : List ℕ) → (writerSays (r .answer) ≡ stored (left p t (withWrite reg w)) .answer) × (state p (r .register) ≡ stored (left p t (withWrite reg w)) .after)) ⌝ }
 {
@@ -99,7 +99,7 @@ fn stored(reg: Register, t: StepResult, w: Write) -> WriterReply
     WriterReply { answer, register }
 }
 
-// The step of the first store, tried.
+// Tries the step of the first store.
 fn first_step(pool: &mut [u32], reg: Register) -> StepResult
     requires { ⌜ length (now pool) < poolLimit ⌝ }
     ensures { λ r. ⌜ FirstTold (now (pool .entry)) reg (now (pool .exit)) r ⌝ }
@@ -117,7 +117,7 @@ fn first_step(pool: &mut [u32], reg: Register) -> StepResult
     )
 }
 
-// A turn with a write in hand and no awaited slot makes the first store. A publish puts a copy in the place of a node b, and the stores
+// Makes the first store of the write in hand, with no slot awaited. A publish puts a copy in the place of a node b, and the stores
 // to come move to the copy. Why first_step is called in two places: docs/DECISIONS.md, 46.
 pub fn make_first(pool: &mut [u32], reg: Register) -> WriterReply
     requires { ⌜ (lentNumber (state (now pool) reg) ≡ 0) × (writeInHand (state (now pool) reg) ≡ true) × (reg .awaited ≡ 0) ⌝ }

@@ -1,0 +1,97 @@
+-- Two runs on a pool of eight nodes just set up, and what they compute to. The exclusions (Claims) go by these facts.
+use mathlib.Core.Path.{_≡_, refl}
+use mathlib.Core.Bool.{true}
+use mathlib.Core.List.{List, [], _∷_}
+use mathlib.Core.Option.{none, some}
+use lib.ListN.{replicate}
+use Rattle.datatypes.specs.declared.Side.the-variants.{L, R}
+use Rattle.sequential.specs.Tree.{red, black, Tree, leaf, node, rel}
+use Rattle.sequential.specs.Delete.{changedBy}
+use Rattle.base.specs.Walk.{allFrom, allIn, foldFrom, foldIn}
+use Rattle.spec.specs.Numbers.{slots}
+use Rattle.spec.specs.Pool.{child, standingRetired, keyWord}
+use Rattle.spec.specs.Pool.{word, setWord, nodeInRange, poolInRange, lengthRight, freshNodes, freshPool}
+use Rattle.spec.specs.Register.{State, noReader, withRoot, withQueue, withHeld, withReader, withWrite, nodeAt, setLink}
+use Rattle.spec.specs.Register.{putSlot, readingSlots, storeInRange, registerInRange, freshRegister, fresh, writeOf, lessFirst}
+use Rattle.spec.specs.Free.{takeFree, fillNode, takeNode, retire}
+use Rattle.spec.specs.Search.{seek, trail}
+use Rattle.spec.specs.Plan.{insertFixup, fixupAfterInsert, paintInsertFixup, deleteFixup, fixupAfterRemoval, paintDeleteLevels, paintDeleteFixup}
+use Rattle.spec.specs.Plan.{insertPlan, unlinkPlan, deletePlan}
+use Rattle.spec.specs.Turn.{insertStore, unlinkStore, stepFinds, stepMade}
+use Rattle.spec.specs.Calls.{insert, delete, stored, writerTurn, begin, readerStep, readerTurn}
+use Rattle.spec.specs.Calls.{ok, absent, Call, inserting, deleting, writing, beginning, turning, call, reading}
+use Rattle.spec.specs.PlainList.{recordFor, acceptedWrites}
+use Rattle.promise.specs.Run.{Start, justSetUp, after, indexAfter, plainAfter, ticketsAfter}
+use Rattle.promise.specs.Demands.{turnAt, origin, standingAt}
+
+abbrev pub start : Start
+start = justSetUp 8
+
+-- 3 is put in; slot 0 looks it up and comes to its node; 3 is taken out
+abbrev pub lookup : List Call
+lookup = inserting 3 30 ∷ writing ∷ beginning 0 3 ∷ turning 0 ∷ deleting 3 ∷ writing ∷ []
+
+-- 3 and 1 are put in, then 2: its insert has a rotation, and here none of its four stores is made yet
+abbrev pub rotation : List Call
+rotation = inserting 3 30 ∷ writing ∷ inserting 1 10 ∷ writing ∷ inserting 2 20 ∷ []
+
+abbrev pub before : State
+before = indexAfter start rotation 5
+
+-- the sequential tree of the three inserts
+abbrev pub threeKeys : Tree
+threeKeys = node black 2 20 (node red 1 10 leaf leaf) (node red 3 30 leaf leaf)
+
+pub record Computed : Type 0 where
+  -- the first insert is accepted; before its turn no slot reads, and a reader's turn for 3 answers absent
+  pub accepted : call (start .index) (inserting 3 30) .answer ≡ ok
+  pub readers1 : indexAfter start lookup 1 .register .readers ≡ replicate slots noReader
+  pub turn1 : turnAt (indexAfter start lookup 1) 3 0 .answer ≡ absent
+  -- the plain list gets its ticket by the turn, not by the insert, and has it at both moments of the lookup up to slot 0's turn
+  pub listed1 : recordFor 3 (ticketsAfter start lookup 1) ≡ none
+  pub listed2 : recordFor 3 (ticketsAfter start lookup 2) ≡ some 30
+  pub listed3 : recordFor 3 (ticketsAfter start lookup 3) ≡ some 30
+  pub listed4 : recordFor 3 (ticketsAfter start lookup 4) ≡ some 30
+  -- in the end the tree is empty, node 1 is retired, and slot 0 still reads there; seven nodes are free
+  pub root6 : indexAfter start lookup 6 .register .root ≡ 0
+  pub reads6 : reading (indexAfter start lookup 6) 0 ≡ true
+  pub origin6 : origin (indexAfter start lookup 6) 0 ≡ 1
+  pub retired6 : standingAt (indexAfter start lookup 6) 1 ≡ standingRetired
+  pub free6 : indexAfter start lookup 6 .register .free ≡ 7
+  -- before the rotation: node 1 (key 3) over node 2 (key 1)
+  pub root : before .register .root ≡ 1
+  pub left1 : child (before .pool) L 1 ≡ 2
+  pub right1 : child (before .pool) R 1 ≡ 0
+  pub left2 : child (before .pool) L 2 ≡ 0
+  pub right2 : child (before .pool) R 2 ≡ 0
+  pub key1 : word (before .pool) 1 keyWord ≡ 3
+  pub key2 : word (before .pool) 2 keyWord ≡ 1
+  pub tree : changedBy leaf (acceptedWrites (plainAfter start rotation 5)) ≡ threeKeys
+
+pub computed : Computed
+unfolding after rel allFrom allIn foldFrom foldIn word setWord nodeInRange poolInRange lengthRight freshNodes freshPool withRoot withQueue withHeld
+    withReader withWrite nodeAt setLink putSlot readingSlots storeInRange registerInRange freshRegister fresh writeOf lessFirst takeFree fillNode
+    takeNode retire seek trail insertFixup fixupAfterInsert paintInsertFixup deleteFixup fixupAfterRemoval paintDeleteLevels paintDeleteFixup
+    insertPlan unlinkPlan deletePlan insertStore unlinkStore stepFinds stepMade insert delete stored writerTurn begin readerStep readerTurn
+computed = record {
+  accepted = refl;
+  readers1 = refl;
+  turn1 = refl;
+  listed1 = refl;
+  listed2 = refl;
+  listed3 = refl;
+  listed4 = refl;
+  root6 = refl;
+  reads6 = refl;
+  origin6 = refl;
+  retired6 = refl;
+  free6 = refl;
+  root = refl;
+  left1 = refl;
+  right1 = refl;
+  left2 = refl;
+  right2 = refl;
+  key1 = refl;
+  key2 = refl;
+  tree = refl;
+}

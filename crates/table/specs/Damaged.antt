@@ -1,0 +1,302 @@
+-- Steps on damaged pools and registers: every word and field in its range, but out of order. 12 and its order, counts at the ends of their
+-- ranges, damaged queues, ends of readings, and the decisions of docs/DECISIONS.md by their numbers.
+use mathlib.Core.List.{List, [], _∷_}
+use Rattle.datatypes.specs.declared.Side.the-variants as side
+use Rattle.datatypes.specs.declared.Link.the-variants.{Root, Left, Right}
+use Rattle.datatypes.specs.declared.Purpose.the-variants.{ForInsert, RedSibling, BlackSibling}
+use Rattle.datatypes.specs.declared.Step.the-variants.{Insert, DiagLower, DiagRaise, ZigLowerA, ZigLowerC, ZigRaise, Unlink, Adopt, Replace, Publish, Detach}
+use Rattle.spec.specs.Calls.{ok, go, absent, wait, more, done, refused}
+use Rattle.table.specs.Picture.{row, root_held_awaited_stores_, picture, drawn, _on_, key, left, right, colour, standing, holders, next, _of_:=_, root:=_, first:=_, last:=_, free:=_, held:=_, awaited:=_, count:=_, atRest, fills, reader_:=_, store_:=_, reads, idle, _but_}
+use Rattle.table.specs.Entry.{P, I, D, W, B, R, E, _⇒_, stands, leaves, Entry, entry}
+use Rattle.table.specs.Lent.{three, single, five, knot, lowered}
+
+abbrev pub damaged : List Entry
+damaged =
+    entry "12: DiagLower where the top is 0" (three but (count:= 1 ∷ store 0 := (DiagLower side.L ForInsert on Left 1) ∷ []))
+    (W ⇒ refused 12
+    ∷ [])
+    ∷ entry "12: DiagRaise where the top is 0" (three but (count:= 1 ∷ store 0 := (DiagRaise side.L ForInsert on Left 1) ∷ []))
+    (W ⇒ refused 12
+    ∷ [])
+    ∷ entry "12: ZigLowerA where the top is 0" (three but (count:= 1 ∷ store 0 := (ZigLowerA side.L ForInsert on Left 1) ∷ []))
+    (W ⇒ refused 12
+    ∷ [])
+    ∷ entry "12: ZigLowerC where the top is 0" (three but (count:= 1 ∷ store 0 := (ZigLowerC side.L ForInsert on Left 1) ∷ []))
+    (W ⇒ refused 12
+    ∷ [])
+    ∷ entry "12: ZigRaise where the top is 0" (three but (count:= 1 ∷ store 0 := (ZigRaise side.L ForInsert on Left 1) ∷ []))
+    (W ⇒ refused 12
+    ∷ [])
+    ∷ entry "12: DiagLower without a rising child" (single but (count:= 1 ∷ store 0 := (DiagLower side.R ForInsert on Root) ∷ []))
+    (W ⇒ refused 12
+    ∷ [])
+    ∷ entry "12: DiagRaise without a rising child" (single but (count:= 1 ∷ store 0 := (DiagRaise side.R ForInsert on Root) ∷ []))
+    (W ⇒ refused 12
+    ∷ [])
+    ∷ entry "12: ZigLowerA without an inner child" (three but (count:= 1 ∷ store 0 := (ZigLowerA side.R ForInsert on Root) ∷ []))
+    (W ⇒ refused 12
+    ∷ [])
+    ∷ entry "12: ZigLowerC without an inner child" (three but (count:= 1 ∷ store 0 := (ZigLowerC side.R ForInsert on Root) ∷ []))
+    (W ⇒ refused 12
+    ∷ [])
+    ∷ entry "12: ZigRaise without an inner child" (three but (count:= 1 ∷ store 0 := (ZigRaise side.R ForInsert on Root) ∷ []))
+    (W ⇒ refused 12
+    ∷ [])
+    ∷ entry "12: a red sibling's diag whose copy has no sibling there"
+    (three but (count:= 1 ∷ store 0 := (DiagRaise side.R RedSibling on Root) ∷ []))
+    (W ⇒ refused 12
+    ∷ [])
+    ∷ entry "12: a black sibling's diag without an outer child" (three but (count:= 1 ∷ store 0 := (DiagRaise side.L BlackSibling on Root) ∷ []))
+    (W ⇒ refused 12
+    ∷ [])
+    ∷ entry "12: Unlink where the link is 0" (three but (count:= 1 ∷ store 0 := (Unlink on Right 3) ∷ []))
+    (W ⇒ refused 12
+    ∷ [])
+    ∷ entry "12: Adopt without a right child" (three but (count:= 1 ∷ store 0 := (Adopt on Left 2) ∷ []))
+    (W ⇒ refused 12
+    ∷ [])
+    ∷ entry "12: Replace without a right child" (three but (count:= 1 ∷ store 0 := (Replace on Left 2) ∷ []))
+    (W ⇒ refused 12
+    ∷ [])
+    ∷ entry "12: Replace whose sibling is missing" (three but (count:= 1 ∷ store 0 := (Replace on Root) ∷ colour of 3 := 0 ∷ left of 2 := 0 ∷ []))
+    (W ⇒ refused 12
+    ∷ [])
+    ∷ entry "12: Detach whose sibling is missing" (five but (count:= 1 ∷ store 0 := (Detach 20 on Root) ∷ colour of 3 := 0 ∷ right of 4 := 0 ∷ []))
+    (W ⇒ refused 12
+    ∷ [])
+    ∷ entry "12: Publish where the link is 0" (three but (count:= 1 ∷ store 0 := (Publish 1 on Right 3) ∷ []))
+    (W ⇒ refused 12
+    ∷ [])
+    ∷ entry "12: Detach without a node to its right" (single but (count:= 1 ∷ store 0 := (Detach 10 on Root) ∷ []))
+    (W ⇒ refused 12
+    ∷ [])
+    ∷ entry "12: Insert with an empty queue, whatever its last and the free count"
+    (three but (count:= 1 ∷ store 0 := (Insert 5 50 on Left 1) ∷ first:= 0 ∷ []))
+    (W ⇒ refused 12
+    ∷ [])
+    ∷ entry "12: DiagLower with an empty queue, whatever its last and the free count"
+    (three but (count:= 1 ∷ store 0 := (DiagLower side.L ForInsert on Root) ∷ first:= 0 ∷ []))
+    (W ⇒ refused 12
+    ∷ [])
+    ∷ entry "12: Publish with an empty queue, whatever its last and the free count"
+    (three but (count:= 1 ∷ store 0 := (Publish 3 on Root) ∷ first:= 0 ∷ []))
+    (W ⇒ refused 12
+    ∷ [])
+    ∷ entry "12: ZigLowerA with an empty queue" (five but (count:= 1 ∷ store 0 := (ZigLowerA side.R ForInsert on Root) ∷ first:= 0 ∷ []))
+    (W ⇒ refused 12
+    ∷ [])
+    ∷ entry "12: ZigLowerC with an empty queue" (five but (count:= 1 ∷ store 0 := (ZigLowerC side.R ForInsert on Root) ∷ first:= 0 ∷ []))
+    (W ⇒ refused 12
+    ∷ [])
+    ∷ entry "12: an insert whose red grandparent comes below a red root, which has no parent" (five but (colour of 2 := 1 ∷ []))
+    (I 60 600 ⇒ refused 12 ∷ I 25 250 ⇒ refused 12
+    ∷ [])
+    ∷ entry "12: insert directly below a red root" (single but (colour of 1 := 1 ∷ []))
+    (I 5 50 ⇒ refused 12
+    ∷ [])
+    ∷ entry "11 before 12 of the steps, in an insert" (single but (colour of 1 := 1 ∷ free:= 2 ∷ []))
+    (I 5 50 ⇒ refused 11
+    ∷ [])
+    ∷ entry "12: delete of a black node without a sibling; 11 comes before it" (three but (colour of 1 := 0 ∷ right of 2 := 0 ∷ []))
+    (D 10 ⇒ refused 12
+    ∷ [])
+    ∷ entry "11 before 12 of the steps, in a delete" (three but (colour of 1 := 0 ∷ right of 2 := 0 ∷ free:= 3 ∷ []))
+    (D 10 ⇒ refused 11
+    ∷ [])
+    ∷ entry "12: delete beside a red sibling without an inner child" (three but (colour of 1 := 0 ∷ []))
+    (D 10 ⇒ refused 12
+    ∷ [])
+    ∷ entry "12 stays in the turn: an unlink whose sibling is missing"
+    (three but (count:= 1 ∷ store 0 := (Unlink on Left 2) ∷ colour of 1 := 0 ∷ right of 2 := 0 ∷ []))
+    (W ⇒ refused 12 ∷ W ⇒ refused 12
+    ∷ [])
+    ∷ entry "7 before wait; wait before 12; wait by the awaited slots alone, for any write" (three but (awaited:= 4 ∷ []))
+    (W ⇒ refused 7 ∷ I 25 250 ⇒ ok ∷ W ⇒ wait
+    ∷ leaves (count:= 1 ∷ store 0 := (Insert 25 250 on Left 3) ∷ [])
+    ∷ [])
+    ∷ entry "wait before the 12 of a step" (three but (count:= 1 ∷ store 0 := (Unlink on Right 3) ∷ awaited:= 128 ∷ []))
+    (W ⇒ wait
+    ∷ [])
+    ∷ entry "keys held at N stays there, and the free count at 0"
+    (three but (count:= 1 ∷ store 0 := (Insert 5 50 on Left 1) ∷ held:= 8 ∷ free:= 0 ∷ colour of 1 := 0 ∷ []))
+    (W ⇒ done (Left 1) 4
+    ∷ leaves (left of 1 := 4 ∷ fills (row 4 5 50 1 0 0) ∷ first:= 5 ∷ atRest ∷ [])
+    ∷ [])
+    ∷ entry "keys held at 0 stays there, and the free count at N" (three but (count:= 1 ∷ store 0 := (Unlink on Left 2) ∷ held:= 0 ∷ free:= 8 ∷ []))
+    (W ⇒ done (Left 2) 0
+    ∷ leaves (standing of 1 := 0 ∷ left of 2 := 0 ∷ next of 8 := 1 ∷ last:= 1 ∷ atRest ∷ [])
+    ∷ [])
+    ∷ entry "keys held at 0 at a replace and a publish"
+    (five but (count:= 1 ∷ store 0 := (Publish 3 on Root) ∷ held:= 0 ∷ count:= 2 ∷ store 1 := (Detach 20 on Root) ∷ []))
+    (W ⇒ more Root 6 ∷ W ⇒ done (Left 4) 0
+    ∷ leaves (standing of 2 := 0 ∷ next of 2 := 3 ∷ standing of 3 := 0 ∷ left of 4 := 0 ∷ fills (row 6 30 300 0 1 4) ∷ next of 12 := 2 ∷ root:= 6 ∷ first:= 7
+    ∷ last:= 3 ∷ free:= 8 ∷ atRest ∷ [])
+    ∷ [])
+    ∷ entry "the free count at N when a reading ends" (three but (standing of 8 := 2 ∷ holders of 8 := 1 ∷ reader 0 := (reads 5 1) ∷ free:= 8 ∷ []))
+    (R 0 ⇒ absent
+    ∷ leaves (standing of 8 := 0 ∷ holders of 8 := 0 ∷ reader 0 := (idle 0 0) ∷ [])
+    ∷ [])
+    ∷ entry "a damaged queue with last 0: the freed node is linked from nowhere and is the last"
+    (three but (count:= 1 ∷ store 0 := (Unlink on Left 2) ∷ last:= 0 ∷ []))
+    (W ⇒ done (Left 2) 0
+    ∷ leaves (standing of 1 := 0 ∷ left of 2 := 0 ∷ last:= 1 ∷ free:= 6 ∷ held:= 2 ∷ atRest ∷ [])
+    ∷ [])
+    ∷ entry "a damaged queue whose last is a linked node: that node's next free is written"
+    (three but (count:= 1 ∷ store 0 := (Unlink on Left 2) ∷ last:= 3 ∷ []))
+    (W ⇒ done (Left 2) 0
+    ∷ leaves (standing of 1 := 0 ∷ left of 2 := 0 ∷ next of 3 := 1 ∷ last:= 1 ∷ free:= 6 ∷ held:= 2 ∷ atRest ∷ [])
+    ∷ [])
+    ∷ entry "an empty queue begins with the freed node, whatever its last"
+    (three but (count:= 1 ∷ store 0 := (Unlink on Left 2) ∷ first:= 0 ∷ last:= 3 ∷ []))
+    (W ⇒ done (Left 2) 0
+    ∷ leaves (standing of 1 := 0 ∷ left of 2 := 0 ∷ first:= 1 ∷ last:= 1 ∷ free:= 6 ∷ held:= 2 ∷ atRest ∷ [])
+    ∷ [])
+    ∷ entry "the freed node is the last itself" (three but (count:= 1 ∷ store 0 := (Unlink on Left 2) ∷ last:= 1 ∷ []))
+    (W ⇒ done (Left 2) 0
+    ∷ leaves (standing of 1 := 0 ∷ left of 2 := 0 ∷ free:= 6 ∷ held:= 2 ∷ atRest ∷ [])
+    ∷ [])
+    ∷ entry "taking the node whose next free is 0 empties the queue, whatever last and count"
+    (three but (count:= 1 ∷ store 0 := (Insert 5 50 on Left 1) ∷ next of 4 := 0 ∷ colour of 1 := 0 ∷ []))
+    (W ⇒ done (Left 1) 4
+    ∷ leaves (left of 1 := 4 ∷ fills (row 4 5 50 1 0 0) ∷ first:= 0 ∷ last:= 0 ∷ free:= 4 ∷ held:= 4 ∷ atRest ∷ [])
+    ∷ [])
+    ∷ entry "the node taken is the first, whatever it stands as"
+    (three but (count:= 1 ∷ store 0 := (Insert 5 50 on Left 1) ∷ standing of 4 := 2 ∷ holders of 4 := 9 ∷ next of 4 := 7 ∷ colour of 1 := 0 ∷ key of 4 := 77
+    ∷ left of 4 := 8 ∷ []))
+    (W ⇒ done (Left 1) 4
+    ∷ leaves (left of 1 := 4 ∷ fills (row 4 5 50 1 0 0) ∷ first:= 7 ∷ free:= 4 ∷ held:= 4 ∷ atRest ∷ [])
+    ∷ [])
+    ∷ entry "a retired node without a holder is freed at any end; a node not retired keeps its holders"
+    (three but (reader 3 := (reads 5 0) ∷ standing of 8 := 2 ∷ holders of 1 := 255 ∷ holders of 5 := 8 ∷ standing of 7 := 2 ∷ holders of 7 := 4 ∷ []
+    ))
+    (E 3 ⇒ ok
+    ∷ leaves (standing of 8 := 0 ∷ free:= 6 ∷ reader 3 := (idle 0 0) ∷ [])
+    ∷ [])
+    ∷ entry "freed in rising number, bits of other slots kept"
+    (three but (reader 3 := (reads 5 0) ∷ reader 0 := (reads 5 0) ∷ standing of 8 := 2 ∷ holders of 8 := 8 ∷ standing of 6 := 2 ∷ holders of 6 := 9
+    ∷ standing of 4 := 2 ∷ holders of 4 := 8 ∷ awaited:= 9 ∷ []))
+    (E 3 ⇒ ok
+    ∷ leaves (standing of 4 := 0 ∷ holders of 4 := 0 ∷ next of 4 := 8 ∷ holders of 6 := 1 ∷ standing of 8 := 0 ∷ holders of 8 := 0 ∷ free:= 7 ∷ awaited:= 1
+    ∷ reader 3 := (idle 0 0) ∷ [])
+    ∷ [])
+    ∷ entry "a slot not reading may have a key and a node; begin overwrites them" (three but (reader 5 := (idle 77 8) ∷ []))
+    (R 5 ⇒ refused 5 ∷ E 5 ⇒ refused 5 ∷ B 5 30 ⇒ ok
+    ∷ leaves (reader 5 := (reads 30 0) ∷ [])
+    ∷ [])
+    ∷ entry "retired with all reading slots as holders, its other words kept"
+    (three but (count:= 1 ∷ store 0 := (Unlink on Left 2) ∷ reader 0 := (reads 5 0) ∷ reader 7 := (reads 9 3) ∷ holders of 1 := 2 ∷ next of 1 := 6 ∷ []
+    ))
+    (W ⇒ done (Left 2) 0
+    ∷ leaves (standing of 1 := 2 ∷ holders of 1 := 129 ∷ left of 2 := 0 ∷ held:= 2 ∷ atRest ∷ [])
+    ∷ [])
+    ∷ entry "decision 10: red sibling, and the next sibling red as well" (five but (colour of 4 := 1 ∷ []))
+    (D 10 ⇒ ok ∷ W ⇒ more (Left 2) 0 ∷ W ⇒ more (Left 4) 6 ∷ W ⇒ done Root 4
+    ∷ stands (picture (root 4 held 4 awaited 0 stores 0)
+    [] (row 3 30 300 1 0 0 ∷ row 4 40 400 0 6 5 ∷ row 5 50 500 1 0 0 ∷ row 6 20 200 0 0 3 ∷ []) [] (7 ∷ 8 ∷ 9 ∷ 10 ∷ 11 ∷ 12 ∷ 1 ∷ 2 ∷ []))
+    ∷ [])
+    ∷ entry "decision 10: the smallest pool"
+    (drawn 8 (picture (root 2 held 4 awaited 0 stores 0) [] (row 1 10 100 0 0 0 ∷ row 2 20 200 0 1 4 ∷ row 3 30 300 1 0 0 ∷ row 4 40 400 1 3 0 ∷ []) [] (5 ∷ 6 ∷ 7 ∷ 8 ∷ [])) [])
+    (D 10 ⇒ ok ∷ W ⇒ more (Left 2) 0 ∷ W ⇒ more (Left 4) 5 ∷ W ⇒ done Root 4
+    ∷ stands (picture (root 4 held 3 awaited 0 stores 0)
+    [] (row 3 30 300 1 0 0 ∷ row 4 40 400 0 5 0 ∷ row 5 20 200 0 0 3 ∷ []) [] (6 ∷ 7 ∷ 8 ∷ 1 ∷ 2 ∷ []))
+    ∷ [])
+    ∷ entry "decision 12: an insert under a red parent whose link its descent does not meet"
+    (five but (count:= 1 ∷ store 0 := (Insert 60 600 on Left 3) ∷ []))
+    (W ⇒ refused 12
+    ∷ [])
+    ∷ entry "decision 12: an insert under a black parent goes by its link alone" (five but (count:= 1 ∷ store 0 := (Insert 60 600 on Left 1) ∷ []))
+    (W ⇒ done (Left 1) 6
+    ∷ leaves (left of 1 := 6 ∷ fills (row 6 60 600 1 0 0) ∷ first:= 7 ∷ free:= 6 ∷ held:= 6 ∷ atRest ∷ [])
+    ∷ [])
+    ∷ entry "decision 12: a detach whose link its descent does not meet" (five but (count:= 1 ∷ store 0 := (Detach 5 on Right 2) ∷ []))
+    (W ⇒ refused 12
+    ∷ [])
+    ∷ entry "decision 12: an unlink whose link its descent does not meet: 12, but not with a red x or a red node"
+    (five but (count:= 1 ∷ store 0 := (Unlink on Left 2) ∷ key of 2 := 5 ∷ []))
+    (W ⇒ refused 12
+    ∷ [])
+    ∷ entry "decision 12: such an unlink of a red node" (five but (count:= 1 ∷ store 0 := (Unlink on Left 4) ∷ key of 2 := 60 ∷ []))
+    (W ⇒ done (Left 4) 0
+    ∷ leaves (standing of 3 := 0 ∷ left of 4 := 0 ∷ next of 12 := 3 ∷ last:= 3 ∷ free:= 8 ∷ held:= 4 ∷ atRest ∷ [])
+    ∷ [])
+    ∷ entry "decision 12: such an unlink with a red x"
+    (five but (count:= 1 ∷ store 0 := (Unlink on Right 2) ∷ left of 4 := 0 ∷ key of 2 := 60 ∷ []))
+    (W ⇒ done (Right 2) 5
+    ∷ leaves (right of 2 := 5 ∷ standing of 4 := 0 ∷ colour of 5 := 0 ∷ next of 12 := 4 ∷ last:= 4 ∷ free:= 8 ∷ held:= 4 ∷ atRest ∷ [])
+    ∷ [])
+    ∷ entry "decision 12: the link on the other side is another link: left" (five but (count:= 1 ∷ store 0 := (Insert 60 600 on Left 5) ∷ []))
+    (W ⇒ refused 12
+    ∷ [])
+    ∷ entry "decision 12: the link on the other side is another link: right" (five but (count:= 1 ∷ store 0 := (Insert 45 450 on Right 5) ∷ []))
+    (W ⇒ refused 12
+    ∷ [])
+    ∷ entry "decision 13: a reader goes on in a circle" (three but (right of 3 := 3 ∷ reader 0 := (reads 40 2) ∷ []))
+    (R 0 ⇒ go ∷ R 0 ⇒ go ∷ R 0 ⇒ go
+    ∷ leaves (reader 0 := (reads 40 3) ∷ [])
+    ∷ [])
+    ∷ entry "decision 14: sides by the path taken, both links equal" (three but (left of 2 := 3 ∷ []))
+    (D 30 ⇒ ok ∷ W ⇒ done (Right 2) 0
+    ∷ leaves (right of 2 := 0 ∷ standing of 3 := 0 ∷ next of 8 := 3 ∷ last:= 3 ∷ free:= 6 ∷ held:= 2 ∷ [])
+    ∷ [])
+    ∷ entry "decision 14: the form of a delete by links alone, the successor leftmost, keys out of order" (five but (key of 3 := 99 ∷ []))
+    (D 20 ⇒ ok ∷ W ⇒ more Root 6 ∷ W ⇒ done (Left 4) 0
+    ∷ leaves (standing of 2 := 0 ∷ next of 2 := 3 ∷ standing of 3 := 0 ∷ left of 4 := 0 ∷ fills (row 6 99 300 0 1 4) ∷ next of 12 := 2 ∷ root:= 6 ∷ first:= 7
+    ∷ last:= 3 ∷ free:= 8 ∷ held:= 4 ∷ [])
+    ∷ [])
+    ∷ entry "decision 14: an unlink of a node with two children, which no delete plans: the left one comes up"
+    (three but (count:= 1 ∷ store 0 := (Unlink on Root) ∷ []))
+    (W ⇒ done Root 1
+    ∷ leaves (colour of 1 := 0 ∷ standing of 2 := 0 ∷ next of 8 := 2 ∷ root:= 1 ∷ last:= 2 ∷ free:= 6 ∷ held:= 2 ∷ atRest ∷ [])
+    ∷ [])
+    ∷ entry "decision 15: decided on the words lent: an aunt that the turn itself takes"
+    (three but (colour of 3 := 0 ∷ first:= 3 ∷ standing of 3 := 0 ∷ next of 3 := 4 ∷ []))
+    (I 5 50 ⇒ ok ∷ W ⇒ more (Left 1) 3
+    ∷ leaves (left of 1 := 3 ∷ fills (row 3 5 50 1 0 0) ∷ first:= 4 ∷ free:= 4 ∷ held:= 4 ∷ count:= 2 ∷ store 0 := (DiagLower side.L ForInsert on Root)
+    ∷ store 1 := (DiagRaise side.L ForInsert on Root) ∷ [])
+    ∷ W ⇒ more (Right 1) 4 ∷ W ⇒ done Root 1
+    ∷ [])
+    ∷ entry "decision 15: a node taken that is in the tree: the smallest pool" (single but (standing of 1 := 0 ∷ first:= 1 ∷ next of 1 := 2 ∷ []))
+    (I 5 50 ⇒ ok ∷ W ⇒ done (Left 1) 1
+    ∷ leaves (fills (row 1 5 50 0 1 0) ∷ first:= 2 ∷ free:= 6 ∷ held:= 2 ∷ [])
+    ∷ [])
+    ∷ entry "decision 15: an accepted write that stays at 12 until set up: the smallest pool" knot
+    (D 20 ⇒ ok ∷ W ⇒ more (Right 1) 0 ∷ W ⇒ more (Right 1) 3 ∷ W ⇒ refused 12 ∷ W ⇒ refused 12 ∷ I 5 50 ⇒ refused 6 ∷ D 10 ⇒ refused 6 ∷ B 0 30 ⇒ ok
+    ∷ R 0 ⇒ go ∷ R 0 ⇒ go ∷ P ⇒ ok
+    ∷ stands (picture (root 0 held 0 awaited 0 stores 0) [] [] [] (1 ∷ 2 ∷ 3 ∷ 4 ∷ 5 ∷ 6 ∷ 7 ∷ 8 ∷ []))
+    ∷ [])
+    ∷ entry "decision 16: a rotation's nodes are read at its turn: a raise of what stands there"
+    (five but (count:= 1 ∷ store 0 := (DiagRaise side.R ForInsert on Root) ∷ []))
+    (W ⇒ done Root 4
+    ∷ leaves (standing of 2 := 0 ∷ next of 12 := 2 ∷ root:= 4 ∷ last:= 2 ∷ free:= 8 ∷ atRest ∷ [])
+    ∷ [])
+    ∷ entry "decision 17: no red child of the sibling in the last turn: sibling red, copy black" lowered
+    (W ⇒ done Root 4
+    ∷ leaves (standing of 2 := 0 ∷ colour of 3 := 1 ∷ colour of 4 := 0 ∷ colour of 6 := 0 ∷ next of 8 := 2 ∷ root:= 4 ∷ last:= 2 ∷ free:= 4 ∷ atRest ∷ [])
+    ∷ [])
+    ∷ entry "decision 17: a red child there: no colours, though no store is to come"
+    (lowered but (right of 3 := 7 ∷ colour of 7 := 1 ∷ standing of 7 := 1 ∷ next of 1 := 8 ∷ []))
+    (W ⇒ done Root 4
+    ∷ leaves (standing of 2 := 0 ∷ colour of 4 := 0 ∷ next of 8 := 2 ∷ root:= 4 ∷ last:= 2 ∷ free:= 4 ∷ atRest ∷ [])
+    ∷ [])
+    ∷ entry "decision 20: the root ends black when the fix-up ends below it" (five but (colour of 2 := 1 ∷ []))
+    (I 5 50 ⇒ ok ∷ W ⇒ done (Left 1) 6
+    ∷ leaves (left of 1 := 6 ∷ colour of 2 := 0 ∷ fills (row 6 5 50 1 0 0) ∷ first:= 7 ∷ free:= 6 ∷ held:= 6 ∷ [])
+    ∷ [])
+    ∷ entry "decision 20: with a rotation to come the root ends black at its last store" (five but (colour of 2 := 1 ∷ left of 4 := 0 ∷ []))
+    (I 60 600 ⇒ ok ∷ W ⇒ more (Right 5) 6 ∷ W ⇒ more (Left 5) 7
+    ∷ leaves (left of 5 := 7 ∷ right of 5 := 6 ∷ fills (row 6 60 600 1 0 0) ∷ fills (row 7 40 400 1 0 0) ∷ first:= 8 ∷ free:= 5 ∷ held:= 6 ∷ count:= 1
+    ∷ store 0 := (DiagRaise side.R ForInsert on Right 2) ∷ [])
+    ∷ W ⇒ done (Right 2) 5
+    ∷ leaves (right of 2 := 5 ∷ colour of 2 := 0 ∷ standing of 4 := 0 ∷ left of 5 := 7 ∷ right of 5 := 6 ∷ colour of 5 := 0 ∷ fills (row 6 60 600 1 0 0)
+    ∷ fills (row 7 40 400 1 0 0) ∷ next of 12 := 4 ∷ first:= 8 ∷ last:= 4 ∷ free:= 6 ∷ held:= 6 ∷ [])
+    ∷ [])
+    ∷ entry "decision 22: the same node twice is retired once" (knot but (count:= 1 ∷ store 0 := (ZigRaise side.L ForInsert on Root) ∷ []))
+    (W ⇒ done Root 2
+    ∷ leaves (standing of 1 := 0 ∷ next of 8 := 1 ∷ root:= 2 ∷ last:= 1 ∷ free:= 7 ∷ atRest ∷ [])
+    ∷ [])
+    ∷ entry "decision 22: two nodes of a zig freed in rising number, the top being the lower number"
+    (five but (count:= 1 ∷ store 0 := (ZigRaise side.R BlackSibling on Root) ∷ []))
+    (W ⇒ done Root 3
+    ∷ leaves (standing of 2 := 0 ∷ next of 2 := 4 ∷ colour of 3 := 0 ∷ standing of 4 := 0 ∷ next of 12 := 2 ∷ root:= 3 ∷ last:= 4 ∷ free:= 9 ∷ atRest ∷ [])
+    ∷ [])
+    ∷ []

@@ -1,0 +1,128 @@
+-- A pool of 1,023 nodes, the largest: each word at its largest, and one word past its range. The pool test of crate spec looks for each word from
+-- the pool's start, which is too long to compute here; a test that goes over the words once is proved equal to it.
+use Prim.Native.Nat.{ℕ, zero, suc, _+_, _-_, _*_}
+use mathlib.Core.Path.{_≡_, refl, sym, _∙_}
+use mathlib.Core.Bool.{Bool, true, false, cond, _&&_}
+use mathlib.Core.List.{List, [], _∷_, _++_}
+use native.Mathlib.Omega.{arith}
+use borrow.Author.Tests.{ne-eqb}
+use lib.ListN.{getD, drop, replicate}
+use lib.Seq.{getD-drop, drop-drop}
+use lib.Dec.{eqb, leb}
+use Rattle.base.specs.Walk.{allFrom, allIn}
+use Rattle.datatypes.specs.declared.Register.{Register}
+use Rattle.spec.specs.Numbers.{nodeWords, allSlots}
+use Rattle.spec.specs.Pool.{word, nodes, nodeInRange, poolInRange, lengthRight, redColour, standingRetired}
+use Rattle.spec.specs.Pool.{leftWord, rightWord, colourWord, standingWord, holdersWord, nextWord}
+use Rattle.spec.specs.Register.{state, registerInRange, storeInRange}
+use Rattle.spec.specs.Search.{seek}
+use Rattle.spec.specs.Plan.{insertPlan, fixupAfterInsert}
+use Rattle.spec.specs.Calls.{Answer, ok, absent, refused, Call, inserting, deleting, writing, beginning, turning, givingUp, call}
+use Rattle.spec.specs.Calls.{insert, delete, writerTurn, begin, readerTurn, readerStep, giveUp}
+use Rattle.table.specs.Picture.{reads, idle, none}
+
+-- p begins with a node in range, of a pool of so many nodes
+abbrev headInRange : ℕ → List ℕ → Bool
+headInRange capacity p =
+    leb (getD p leftWord 0) capacity && leb (getD p rightWord 0) capacity
+    && (leb (getD p colourWord 0) redColour && leb (getD p standingWord 0) standingRetired)
+    && (leb (getD p holdersWord 0) allSlots && leb (getD p nextWord 0) capacity)
+
+-- and so do the k nodes that it begins with
+unfoldable pub wordsInRange : ℕ → ℕ → List ℕ → Bool
+wordsInRange capacity zero p = true
+wordsInRange capacity (suc k) p = cond (headInRange capacity p) (wordsInRange capacity k (drop nodeWords p)) false
+
+-- node n + 1 begins after the words of n nodes
+head-right : (p : List ℕ) (capacity n : ℕ) → nodeInRange p capacity (n + 1) ≡ headInRange capacity (drop (n * nodeWords) p)
+unfolding nodeInRange word
+head-right p capacity n =
+    let a : (n + 1) * nodeWords - nodeWords ≡ n * nodeWords = omega arith in
+    let b : eqb (n + 1) 0 ≡ false = ne-eqb (n + 1) 0 (omega arith) in
+    rw (b, a) (simp getD-drop)
+
+words-right : (p : List ℕ) (capacity k n : ℕ) → allFrom (nodeInRange p capacity) k (n + 1) ≡ wordsInRange capacity k (drop (n * nodeWords) p)
+unfolding allFrom wordsInRange
+words-right p capacity zero n = refl
+words-right p capacity (suc k) n =
+    let a : n * nodeWords + nodeWords ≡ (n + 1) * nodeWords = omega arith in
+    rw (head-right p capacity n, words-right p capacity k (n + 1), drop-drop nodeWords (n * nodeWords) p, a)
+
+pub pool-right : (p : List ℕ) → poolInRange p ≡ wordsInRange (nodes p) (nodes p) p
+unfolding poolInRange allIn
+pool-right p =
+    let a : nodes p + 1 - 1 ≡ nodes p = omega arith in
+    rw a (words-right p (nodes p) (nodes p) 0)
+
+-- 1,023 nodes with every word at its largest, but that the next free of the last node is as given
+abbrev node : ℕ → List ℕ
+node next = 4294967295 ∷ 4294967295 ∷ 1023 ∷ 1023 ∷ 1 ∷ 2 ∷ 255 ∷ next ∷ []
+
+abbrev nodesBefore : ℕ → List ℕ → List ℕ
+nodesBefore zero p = p
+nodesBefore (suc k) p = node 1023 ++ nodesBefore k p
+
+unfoldable pub pool : ℕ → List ℕ
+pool next = nodesBefore 1022 (node next)
+
+-- an empty tree, every other number of the register at its largest; slot 7 reads and has loaded no node
+abbrev pub register : Register
+register =
+    record {
+      root = 0;
+      first = 1023;
+      last = 1023;
+      free = 1023;
+      held = 1018;
+      readers = replicate 7 (idle 5 1023) ++ reads 5 0 ∷ [];
+      awaited = 255;
+      write = record { stores = replicate 7 none; count = 0 };
+    }
+
+pool-length : (next : ℕ) → lengthRight (pool next) ≡ true
+unfolding lengthRight pool
+pool-length next = refl
+
+pool-nodes : (next : ℕ) → nodes (pool next) ≡ 1023
+unfolding pool
+pool-nodes next = refl
+
+fits : poolInRange (pool 1023) ≡ true
+unfolding pool wordsInRange
+fits = pool-right (pool 1023)
+
+fails : poolInRange (pool 1024) ≡ false
+unfolding pool wordsInRange
+fails = pool-right (pool 1024)
+
+-- the six calls that test the pool, each on this register
+abbrev pub sixCalls : List Call
+sixCalls = inserting 5 50 ∷ deleting 5 ∷ writing ∷ beginning 0 5 ∷ turning 7 ∷ givingUp 7 ∷ []
+
+abbrev pub answersOn : List ℕ → List Call → List Answer
+answersOn p [] = []
+answersOn p (c ∷ cs) = call (state p register) c .answer ∷ answersOn p cs
+
+abbrev whenFit : List Answer
+whenFit = ok ∷ refused 9 ∷ refused 7 ∷ ok ∷ absent ∷ ok ∷ []
+
+abbrev whenPast : List Answer
+whenPast = refused 2 ∷ refused 2 ∷ refused 2 ∷ refused 2 ∷ refused 2 ∷ refused 2 ∷ []
+
+answers-fit : (p : List ℕ) → lengthRight p ≡ true → poolInRange p ≡ true → nodes p ≡ 1023 → answersOn p sixCalls ≡ whenFit
+unfolding registerInRange storeInRange allFrom allIn seek insertPlan fixupAfterInsert word insert delete writerTurn begin readerTurn readerStep giveUp
+answers-fit p a b c = rw (a, b, c)
+
+answers-past : (p : List ℕ) → lengthRight p ≡ true → poolInRange p ≡ false → answersOn p sixCalls ≡ whenPast
+unfolding insert delete writerTurn begin readerTurn giveUp
+answers-past p a b = rw (a, b)
+
+-- every word at its largest is accepted; one past it gives 2
+pub record LargePasses : Type 0 where
+  pub largest : answersOn (pool 1023) sixCalls ≡ ok ∷ refused 9 ∷ refused 7 ∷ ok ∷ absent ∷ ok ∷ []
+  pub past : answersOn (pool 1024) sixCalls ≡ refused 2 ∷ refused 2 ∷ refused 2 ∷ refused 2 ∷ refused 2 ∷ refused 2 ∷ []
+
+pub large-passes : LargePasses
+large-passes =
+    record
+    { largest = answers-fit (pool 1023) (pool-length 1023) fits (pool-nodes 1023); past = answers-past (pool 1024) (pool-length 1024) fails }

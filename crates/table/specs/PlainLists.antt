@@ -1,0 +1,121 @@
+-- 01, 'Plain list': what it is fed, and the tickets that it has then.
+use mathlib.Core.Path.{_≡_, refl}
+use Prim.Native.Nat.{ℕ}
+use Prim.Native.String.{String}
+use mathlib.Core.Bool.{Bool, true, false, _&&_}
+use mathlib.Core.List.{List, [], _∷_, _++_}
+use mathlib.Core.Option.{Option, none, some}
+use lib.ListN.{length}
+use lib.Dec.{eqb}
+use Rattle.sequential.specs.Tree.{leaf, rel}
+use Rattle.spec.specs.Calls.{Answer, ok, go, wait, done, more, refused, Call, inserting, deleting, writing, beginning, turning, givingUp}
+use Rattle.datatypes.specs.declared.Link.the-variants.{Root}
+use Rattle.spec.specs.PlainList.{Plain, noneAccepted, noticeOf, recordFor, feed}
+
+-- a key and its record
+infix 70 _is_
+pub data Listed : Type 0 where
+  _is_ : (k v : ℕ) → Listed
+
+-- A line: a call with what it answered, or the tickets that stand, each named.
+infix 70 _gave_
+pub data Line : Type 0 where
+  _gave_ : (c : Call) (a : Answer) → Line
+  lists : List Listed → Line
+
+pub record Entry : Type 0 where
+  pub title : String
+  pub lines : List Line
+
+abbrev entry : String → List Line → Entry
+entry title lines = record { title = title; lines = lines }
+
+abbrev isRecord : Option ℕ → ℕ → Bool
+isRecord none v = false
+isRecord (some w) v = eqb w v
+
+abbrev hasAll : Plain → List Listed → Bool
+hasAll x [] = true
+hasAll x ((k is v) ∷ ts) = isRecord (recordFor k (x .tickets)) v && hasAll x ts
+
+abbrev holdsFrom : Plain → List Line → Bool
+holdsFrom x [] = true
+holdsFrom x ((c gave a) ∷ later) = holdsFrom (feed x c (noticeOf a)) later
+holdsFrom x (lists ts ∷ later) = hasAll x ts && eqb (length (x .tickets)) (length ts) && holdsFrom x later
+
+abbrev pub allListed : List Entry → Bool
+allListed [] = true
+allListed (e ∷ es) = holdsFrom (noneAccepted leaf []) (e .lines) && allListed es
+
+-- an answer of a turn that made a store; which link it was does not matter
+abbrev stored : Answer
+stored = more Root 1
+
+abbrev insertOf : ℕ → ℕ → List Line
+insertOf k v = inserting k v gave ok ∷ writing gave done Root 1 ∷ []
+
+abbrev pub plainLists : List Entry
+plainLists =
+    entry "plain list: an insert is listed at its first store, and stays through the others"
+    (lists []
+    ∷ inserting 3 30 gave ok
+    ∷ lists []
+    ∷ writing gave stored
+    ∷ lists (3 is 30 ∷ [])
+    ∷ writing gave stored
+    ∷ writing gave done Root 3
+    ∷ lists (3 is 30 ∷ [])
+    ∷ [])
+    ∷ entry "plain list: an insert puts its record in place of any there"
+    (insertOf 3 30 ++ insertOf 4 40 ++ insertOf 3 31 ++ lists (3 is 31 ∷ 4 is 40 ∷ []) ∷ [])
+    ∷ entry "plain list: a delete of a key without two children takes it out at its first store"
+    (insertOf 2 20 ++ insertOf 1 10 ++ deleting 1 gave ok ∷ lists (1 is 10 ∷ 2 is 20 ∷ []) ∷ writing gave done Root 1 ∷ lists (2 is 20 ∷ []) ∷ [])
+    ∷ entry "plain list: two children, the right one without left child: at the second store"
+    (insertOf 2 20
+    ++ insertOf 1 10
+    ++ insertOf 3 30
+    ++ deleting 2 gave ok
+    ∷ writing gave stored
+    ∷ lists (1 is 10 ∷ 2 is 20 ∷ 3 is 30 ∷ [])
+    ∷ writing gave wait
+    ∷ lists (1 is 10 ∷ 2 is 20 ∷ 3 is 30 ∷ [])
+    ∷ writing gave done Root 1
+    ∷ lists (1 is 10 ∷ 3 is 30 ∷ [])
+    ∷ [])
+    ∷ entry "plain list: two children, the right one with a left child: at the first store"
+    (insertOf 3 30
+    ++ insertOf 1 10
+    ++ insertOf 2 20
+    ++ insertOf 4 40
+    ++ insertOf 5 50
+    ++ deleting 2 gave ok
+    ∷ writing gave stored
+    ∷ lists (1 is 10 ∷ 3 is 30 ∷ 4 is 40 ∷ 5 is 50 ∷ [])
+    ∷ writing gave wait
+    ∷ writing gave done Root 1
+    ∷ lists (1 is 10 ∷ 3 is 30 ∷ 4 is 40 ∷ 5 is 50 ∷ [])
+    ∷ [])
+    ∷ entry "plain list: wait, refused calls, begin, reader's turn and give up change nothing"
+    (insertOf 3 30
+    ++ inserting 4 40 gave ok
+    ∷ inserting 5 50 gave refused 6
+    ∷ deleting 3 gave refused 6
+    ∷ writing gave refused 12
+    ∷ writing gave wait
+    ∷ beginning 0 4 gave ok
+    ∷ turning 0 gave go
+    ∷ givingUp 0 gave ok
+    ∷ beginning 9 4 gave refused 3
+    ∷ lists (3 is 30 ∷ [])
+    ∷ writing gave done Root 1
+    ∷ lists (3 is 30 ∷ 4 is 40 ∷ [])
+    ∷ writing gave refused 7
+    ∷ inserting 4 41 gave refused 8
+    ∷ writing gave refused 7
+    ∷ lists (3 is 30 ∷ 4 is 40 ∷ [])
+    ∷ [])
+    ∷ []
+
+pub lists-pass : allListed plainLists ≡ true
+unfolding rel
+lists-pass = refl
