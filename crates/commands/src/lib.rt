@@ -1,10 +1,10 @@
 // The commands of the program trace: each is run on the words lent.
+use answer_lines::Said;
+use command_fields::Command;
 use datatypes::ReaderReply;
 use datatypes::Register;
 use datatypes::Reply;
 use datatypes::WriterReply;
-use lines::Command;
-use lines::Said;
 ghost use mathlib.Core.Path.{_≡_};
 ghost use mathlib.Core.List.{_++_};
 ghost use Prim.Native.Nat.{_≤_};
@@ -12,8 +12,9 @@ ghost use lib.ListN.{length, drop};
 ghost use Rattle.spec.specs.Numbers.{poolLimit};
 ghost use Rattle.spec.specs.Register.{state};
 ghost use Rattle.spec.specs.Calls.{accepts, writerSays, readerSays};
-ghost use Rattle.lines.specs.Text.{says};
-ghost use Rattle.commands.specs.Performed.{called, shown, triedWords, keptWords, performed};
+ghost use Rattle.answer_lines.specs.Text.{says};
+ghost use Rattle.lent_words.specs.Lent.{triedWords, keptWords};
+ghost use Rattle.commands.specs.Performed.{called, shown, performed};
 
 // What a command's call answers, and the register that it leaves.
 pub struct Called {
@@ -26,7 +27,7 @@ fn accepted(reply: Reply) -> Called
     ensures { λ r. ⌜ (says (r .said) ≡ accepts (reply .answer)) × (r .register ≡ reply .register) ⌝ }
 {
     let answer = reply.answer;
-    let said = lines::acceptance_said(answer);
+    let said = answer_lines::acceptance_said(answer);
     let register = reply.register;
     Called { said, register }
 }
@@ -35,7 +36,7 @@ fn written(reply: WriterReply) -> Called
     ensures { λ r. ⌜ (says (r .said) ≡ writerSays (reply .answer)) × (r .register ≡ reply .register) ⌝ }
 {
     let answer = reply.answer;
-    let said = lines::writer_said(answer);
+    let said = answer_lines::writer_said(answer);
     let register = reply.register;
     Called { said, register }
 }
@@ -44,7 +45,7 @@ fn looked(reply: ReaderReply) -> Called
     ensures { λ r. ⌜ (says (r .said) ≡ readerSays (reply .answer)) × (r .register ≡ reply .register) ⌝ }
 {
     let answer = reply.answer;
-    let said = lines::reader_said(answer);
+    let said = answer_lines::reader_said(answer);
     let register = reply.register;
     Called { said, register }
 }
@@ -92,30 +93,6 @@ pub struct Performed {
     pub lent: usize,
 }
 
-// Answers how many words a command works on: those lent, and for P those that it asks for.
-fn tried_words(lent: usize, c: Command) -> usize
-    ensures { λ r. ⌜ r ≡ triedWords lent c ⌝ }
-{
-    if let Command::SetUp(n) = c {
-        let nodes = n as usize;
-        if nodes <= numbers::MOST_NODES {
-            return nodes * numbers::NODE_WORDS;
-        }
-        return numbers::POOL_WORDS;
-    }
-    lent
-}
-
-// Answers how many words stay lent: a refused P keeps the pool there was.
-fn kept_words(lent: usize, tried: usize, said: Said) -> usize
-    ensures { λ r. ⌜ r ≡ keptWords lent tried (says said) ⌝ }
-{
-    if let Said::No(_) = said {
-        return lent;
-    }
-    tried
-}
-
 // Runs a command on the first `lent` of the words, the pool; answer, register and every word are document 01's.
 pub fn perform(words: &mut [u32], lent: usize, reg: Register, c: Command) -> Performed
     requires { ⌜ (lent ≤ poolLimit) × (length (now words) ≡ poolLimit) ⌝ }
@@ -124,10 +101,10 @@ pub fn perform(words: &mut [u32], lent: usize, reg: Register, c: Command) -> Per
     ensures { λ r. ⌜ r .lent ≡ keptWords lent (triedWords lent c) (says (r .said)) ⌝ }
     ensures { λ _. ⌜ now (words .exit) ≡ performed (now (words .entry)) lent reg c .after .pool ++ drop (triedWords lent c) (now (words .entry)) ⌝ }
 {
-    let tried = tried_words(lent, c);
+    let tried = lent_words::tried_words(lent, c);
     let done = call(&mut words[..tried], reg, c);
     let said = done.said;
-    let kept = kept_words(lent, tried, said);
+    let kept = lent_words::kept_words(lent, tried, said);
     let register = done.register;
     Performed {
         said,

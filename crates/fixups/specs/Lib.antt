@@ -1,2 +1,2 @@
-pub mod InsertFixups
 pub mod DeleteFixups
+pub mod InsertFixups

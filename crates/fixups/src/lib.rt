@@ -7,11 +7,9 @@ use datatypes::Purpose;
 use datatypes::Rotation;
 use datatypes::Side;
 ghost use mathlib.Core.Path.{_≡_};
-ghost use mathlib.Core.Bool.{cond};
 ghost use Prim.Native.Nat.{_<_, _≤_, _+_};
 ghost use lib.ListN.{length};
-ghost use Rattle.datatypes.specs.declared.Form.the-variants.{Diag, Zig};
-ghost use Rattle.datatypes.specs.Side.{sameSide};
+ghost use Rattle.datatypes.specs.declared.Form.the-variants.{Diag};
 ghost use Rattle.spec.specs.Pool.{paint, blackColour, redColour};
 ghost use Rattle.spec.specs.Plan.{fixupResult, insertFixup, paintInsertFixup, redChild, blackSibling as blackSiblingOf, redSibling, deleteFixup, paintDeleteLevels, missing};
 ghost use Rattle.spec.specs.Turn.{nodesFound};
@@ -46,22 +44,6 @@ pub fn nodes_found(fix: Fixup) -> bool
     !gone
 }
 
-// a diag on the outer side, a zig on the inner one
-fn form_of(x: Side, y: Side) -> Form
-    ensures { λ r. ⌜ r ≡ cond (sameSide x y) Diag Zig ⌝ }
-{
-    match x {
-        Side::L => match y {
-            Side::L => Form::Diag,
-            Side::R => Form::Zig,
-        },
-        Side::R => match y {
-            Side::L => Form::Zig,
-            Side::R => Form::Diag,
-        },
-    }
-}
-
 // Goes up from a path's link at that depth, with so many levels passed, and finds where the insert fix-up ends.
 pub fn insert_fixup(pool: &[u32], path: &[u64], depth: u32, levels: u32) -> Fixup
     requires { ⌜ (depth ≤ length (now path)) × (levels + depth ≤ mostLinks) ⌝ }
@@ -82,7 +64,7 @@ pub fn insert_fixup(pool: &[u32], path: &[u64], depth: u32, levels: u32) -> Fixu
         let aunt = pool::child(pool, links::other(s), links::owner(y));
         if !pool::is_red(pool, aunt) {
             let link = paths::link_in(path, d - 3);
-            let form = form_of(links::side_of(x), s);
+            let form = links::form_of(links::side_of(x), s);
             let rotation = Rotation {
                 link,
                 form,
@@ -137,17 +119,11 @@ pub fn red_child(pool: &[u32], w: u32) -> bool
         | pool::is_red(pool, pool::child(pool, Side::R, w))
 }
 
-fn form_if(outer: bool) -> Form
-    ensures { λ r. ⌜ r ≡ cond outer Diag Zig ⌝ }
-{
-    if outer { Form::Diag } else { Form::Zig }
-}
-
 // a black sibling w with a red child, on the side z under the link l
 fn black_sibling(pool: &[u32], l: Link, z: Side, w: u32) -> Rotation
     ensures { λ r. ⌜ r ≡ blackSiblingOf (now (pool .entry)) l z w ⌝ }
 {
-    let form = form_if(pool::is_red(pool, pool::child(pool, z, w)));
+    let form = links::form_if(pool::is_red(pool, pool::child(pool, z, w)));
     Rotation {
         link: l,
         form,

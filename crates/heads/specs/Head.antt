@@ -2,7 +2,9 @@
 -- (readers, the write in hand) is any register's.
 use mathlib.Core.Path.{_≡_, refl, sym, _∙_}
 use mathlib.Core.List.{List}
-use mathlib.Core.Bool.{true, false, false≢true}
+use mathlib.Core.Bool.{true, false, not, false≢true}
+use lib.Dec.{eqb}
+use borrow.Author.Tests.{eqb-true, not-false}
 use Prim.Native.Nat.{ℕ}
 use Rattle.datatypes.specs.declared.Head.{Head}
 use Rattle.datatypes.specs.declared.Register.{Register}
@@ -10,7 +12,7 @@ use Rattle.datatypes.specs.declared.StepResult.{StepResult}
 use Rattle.datatypes.specs.declared.Link.{Link}
 use Rattle.datatypes.specs.declared.Link.the-variants.{Root}
 use Rattle.datatypes.specs.declared.Step.{Step}
-use Rattle.spec.specs.Register.{State, state, readingSlots}
+use Rattle.spec.specs.Register.{State, state, countDown, readingSlots}
 use Rattle.spec.specs.Turn.{Made, made, stepFinds, stepMade}
 
 abbrev pub headOf : Register → Head
@@ -24,6 +26,10 @@ withHead q h =
 -- a pool with a register of the head h and of the rest of q
 abbrev pub at : List ℕ → Head → Register → State
 at p h q = state p (withHead q h)
+
+-- one key less is held, all reading slots are awaited
+abbrev pub awaiting : Head → ℕ → Head
+awaiting h m = record { root = h .root; first = h .first; last = h .last; free = h .free; held = countDown (h .held); awaited = m }
 
 -- the reading slots are those of the rest
 pub same-reading : (q : Register) (h : Head) → readingSlots (withHead q h) ≡ readingSlots q
@@ -63,3 +69,10 @@ module _ (p : List ℕ) (h : Head) (l : Link) (x : Step) (q : Register) where
   pub tells-made : (p′ : List ℕ) (t : StepResult) → stepFinds (at p h q) l x ≡ true → t .found ≡ true → left p′ t q ≡ stepMade (at p h q) l x
       → Tells (at p h q) l x p′ t q
   tells-made p′ t e f m = (f ∙ sym e, λ g. m, λ g. absurd (false≢true (sym g ∙ f)))
+
+-- whether some slot is awaited
+pub some-awaited : (a : ℕ) → not (eqb a 0) ≡ true → a ≡ 0 → ⊥
+some-awaited a e z = absurd (false≢true (rw z at e))
+
+pub none-awaited : (a : ℕ) → not (eqb a 0) ≡ false → a ≡ 0
+none-awaited a e = eqb-true a 0 (not-false (eqb a 0) e)

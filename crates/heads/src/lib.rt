@@ -1,11 +1,14 @@
-// The register's head: taken out of a register and put into it, and the store of a link, which is the root's or a word of the pool.
+// The register's head: taken out of a register and put into it, the store of a link, which is the root's or a word of the pool, and the
+// awaited slots.
 use datatypes::Head;
 use datatypes::Link;
 use datatypes::Register;
 use datatypes::StepResult;
 ghost use mathlib.Core.Path.{_≡_};
+ghost use mathlib.Core.Bool.{not};
+ghost use lib.Dec.{eqb};
 ghost use Rattle.spec.specs.Register.{setLink};
-ghost use Rattle.heads.specs.Head.{headOf, withHead, Follows, missedBy};
+ghost use Rattle.heads.specs.Head.{headOf, withHead, awaiting, Follows, missedBy};
 
 // Takes the head out of a register.
 pub fn head_of(reg: Register) -> Head
@@ -66,4 +69,21 @@ pub fn set_link(pool: &mut [u32], h: Head, l: Link, v: u32) -> Head
             h
         }
     }
+}
+
+// Counts one key less, and awaits all reading slots.
+pub fn await_readers(h: Head, reading: u32) -> Head
+    ensures { λ r. ⌜ r ≡ awaiting h reading ⌝ }
+{
+    let mut r = h;
+    r.held = counts::count_down(h.held);
+    r.awaited = reading;
+    r
+}
+
+// Tests whether some slot is awaited; a turn then waits.
+pub fn some_awaited(awaited: u32) -> bool
+    ensures { λ r. ⌜ r ≡ not (eqb awaited 0) ⌝ }
+{
+    awaited != 0
 }

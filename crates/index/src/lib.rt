@@ -101,7 +101,7 @@ pub fn writer_turn(pool: &mut [u32], reg: Register) -> WriterReply
     if hand.count == 0 {
         return replies::refuses_writer(7, reg);
     }
-    if reg.awaited != 0 {
+    if heads::some_awaited(reg.awaited) {
         return replies::waits(reg);
     }
     turns::make_first(pool, reg)
@@ -187,7 +187,7 @@ pub fn give_up(pool: &mut [u32], mut reg: Register, s: u32) -> Reply
         held: reg.held,
         awaited: reg.awaited,
     };
-    let left = queue::end_reading(pool, h, s);
+    let left = reading_ends::end_reading(pool, h, s);
     reg.root = left.root;
     reg.first = left.first;
     reg.last = left.last;

@@ -1,8 +1,11 @@
-// Sides and links: the other side, a node's link on a side, the node and the side of a link.
+// Sides and links: the other side, a node's link on a side, the node and the side of a link; the form of a rotation.
+use datatypes::Form;
 use datatypes::Link;
 use datatypes::Side;
 ghost use mathlib.Core.Path.{_≡_};
-ghost use Rattle.datatypes.specs.Side.{other, linkAt, owner, sideOf};
+ghost use mathlib.Core.Bool.{cond};
+ghost use Rattle.datatypes.specs.declared.Form.the-variants.{Diag, Zig};
+ghost use Rattle.datatypes.specs.Side.{other, sameSide, linkAt, owner, sideOf};
 
 // Answers the other side.
 pub fn other(s: Side) -> Side
@@ -44,4 +47,27 @@ pub fn side_of(l: Link) -> Side
         Link::Left(_) => Side::L,
         Link::Right(_) => Side::R,
     }
+}
+
+// Answers a diag on the outer side, a zig on the inner one.
+pub fn form_of(x: Side, y: Side) -> Form
+    ensures { λ r. ⌜ r ≡ cond (sameSide x y) Diag Zig ⌝ }
+{
+    match x {
+        Side::L => match y {
+            Side::L => Form::Diag,
+            Side::R => Form::Zig,
+        },
+        Side::R => match y {
+            Side::L => Form::Zig,
+            Side::R => Form::Diag,
+        },
+    }
+}
+
+// Answers a diag where the outer child is red, a zig otherwise.
+pub fn form_if(outer: bool) -> Form
+    ensures { λ r. ⌜ r ≡ cond outer Diag Zig ⌝ }
+{
+    if outer { Form::Diag } else { Form::Zig }
 }

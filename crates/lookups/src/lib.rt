@@ -55,7 +55,7 @@ pub fn leave(pool: &mut [u32], h: Head, s: u32, n: u32) -> Head
     ensures { λ r. ⌜ Leaves s n (now (pool .entry)) h (now (pool .exit)) r ⌝ }
 {
     if n == 0 {
-        return queue::end_reading(pool, h, s);
+        return reading_ends::end_reading(pool, h, s);
     }
     h
 }

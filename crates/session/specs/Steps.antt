@@ -5,7 +5,7 @@ use mathlib.Core.Logic.{_⊎_, inl, ⊎-elim}
 use native.Mathlib.Omega.{arith}
 use Rattle.session.specs.declared.Session.{Session}
 use Rattle.session.specs.declared.Run.{Run}
-use Rattle.lines.specs.Text.{room}
+use Rattle.texts.specs.Line.{room}
 use Rattle.spec.specs.Numbers.{nodeWords, poolLimit}
 
 -- the words lent are among the array's, and the nodes still to be shown among the pool's

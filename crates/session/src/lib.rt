@@ -1,13 +1,13 @@
 // A run of the program trace: lines read from bytes, their commands run on the lent words, and the answers' lines written to a buffer.
+use answer_lines::Said;
+use command_fields::Command;
+use command_lines::Piece;
+use command_lines::Reading;
 use datatypes::Register;
-use lines::Command;
-use lines::Piece;
-use lines::Reading;
-use lines::Said;
 ghost use mathlib.Core.Path.{_≡_};
 ghost use Prim.Native.Nat.{_≤_, _<_, _+_, _-_, _*_};
 ghost use lib.ListN.{length};
-ghost use Rattle.lines.specs.Text.{room};
+ghost use Rattle.texts.specs.Line.{room};
 ghost use Rattle.session.specs.Steps.{Sound, workLeft, Onward};
 ghost use Rattle.spec.specs.Numbers.{nodeWords, poolLimit};
 
@@ -37,7 +37,7 @@ pub fn start() -> Run
     ensures { λ r. ⌜ Sound (r .session) × (r .from ≡ 0) × (r .at ≡ 0) ⌝ }
 {
     let register = fresh::fresh_register(0);
-    let reading = lines::start();
+    let reading = command_lines::start();
     let session = Session {
         lent: 0,
         number: 0,
@@ -70,7 +70,7 @@ fn after(number: u64, lent: usize, c: Command, said: Said) -> Session
     requires { ⌜ lent ≤ poolLimit ⌝ }
     ensures { λ r. ⌜ Sound r ⌝ }
 {
-    let reading = lines::start();
+    let reading = command_lines::start();
     Session {
         lent,
         number,
@@ -96,7 +96,7 @@ fn show_node(words: &[u32], out: &mut [u8], at: usize, lent: usize, pending: usi
     ensures { λ r. ⌜ r ≤ length (now (out .exit)) ⌝ }
 {
     let node = lent / numbers::NODE_WORDS - pending + 1;
-    lines::write_node(out, at, &words[..lent], node as u32)
+    node_lines::write_node(out, at, &words[..lent], node as u32)
 }
 
 // A run after some bytes, its positions, and the command of the line that they end, if it is well-formed.
@@ -117,7 +117,7 @@ fn whole_line(out: &mut [u8], at: usize, s: Session, c: Command, next: usize, en
     let mut session = s;
     if let Command::Ill = c {
         session.ended = true;
-        let written = lines::write_bad(out, at, next_number(s.number));
+        let written = answer_lines::write_bad(out, at, next_number(s.number));
         return Read {
             session,
             from: end,
@@ -163,7 +163,7 @@ fn read_line(out: &mut [u8], at: usize, s: Session, input: &[u8], from: usize) -
     ensures { λ r. ⌜ r .at ≤ length (now (out .exit)) ⌝ }
 {
     let reading = s.reading;
-    let scanned = lines::scan(input, from, reading);
+    let scanned = command_lines::scan(input, from, reading);
     let piece = scanned.piece;
     match piece {
         Piece::Whole(c) => whole_line(out, at, s, c, scanned.next, input.len()),
@@ -192,7 +192,7 @@ fn answer(
     let number = next_number(s.number);
     let p = commands::perform(words, s.lent, register, c);
     let said = p.said;
-    let end = lines::write_line(out, at, number, lines::letter_of(c), said);
+    let end = answer_lines::write_line(out, at, number, answer_lines::letter_of(c), said);
     let left = p.register;
     let session = after(number, p.lent, c, said);
     Answered {

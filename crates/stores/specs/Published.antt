@@ -14,7 +14,7 @@ use Rattle.spec.specs.Pool.{child}
 use Rattle.spec.specs.Register.{State, state, nodeAt, setLink, withHeld, withAwaited, withWrite, countDown, readingSlots}
 use Rattle.spec.specs.Free.{retire}
 use Rattle.spec.specs.Turn.{made, copyNode, colourOf, movedWrite, publishStore, stepFinds}
-use Rattle.heads.specs.Head.{at, withHead, same-reading, Follows, FollowsReading, Tells, missedBy}
+use Rattle.heads.specs.Head.{at, withHead, same-reading, awaiting, Follows, FollowsReading, Tells, missedBy}
 
 -- the rest after a publish that put the copy n in the place of b
 abbrev pub movedRest : ℕ → ℕ → Register → Register
@@ -23,10 +23,6 @@ movedRest b n q = withWrite q (movedWrite b n (q .write))
 abbrev pub Publishes : ℕ → Link → ℕ → List ℕ → Head → List ℕ → StepResult → Type 0
 Publishes m l c p h p′ t =
     (q : Register) → readingSlots q ≡ m → Tells (at p h q) l (Publish c) p′ t (movedRest (nodeAt p (h .root) l) (h .first) q)
-
--- one key less is held, all reading slots are awaited
-abbrev pub awaiting : Head → ℕ → Head
-awaiting h m = record { root = h .root; first = h .first; last = h .last; free = h .free; held = countDown (h .held); awaited = m }
 
 rest-reading : (b n : ℕ) (q : Register) → readingSlots (movedRest b n q) ≡ readingSlots q
 unfolding withWrite readingSlots

@@ -21,7 +21,7 @@ ghost use Rattle.spec.specs.Register.{state, setLink};
 ghost use Rattle.spec.specs.Free.{takeNode};
 ghost use Rattle.spec.specs.Turn.{oneMore, endInsert, movedLink, movedStore, movedWrite};
 ghost use Rattle.heads.specs.Head.{Follows, Tries};
-ghost use Rattle.stores.specs.Published.{Publishes, awaiting};
+ghost use Rattle.stores.specs.Published.{Publishes};
 
 // Stores a new red node in the link l; one key more is held.
 fn link_new(pool: &mut [u32], h: Head, l: Link, k: u32, v: u32) -> Head
@@ -172,16 +172,6 @@ pub fn moved_write(b: u32, n: u32, w: Write) -> Write
     r
 }
 
-// Counts one key less, and awaits all reading slots.
-fn await_readers(h: Head, reading: u32) -> Head
-    ensures { λ r. ⌜ r ≡ awaiting h reading ⌝ }
-{
-    let mut r = h;
-    r.held = counts::count_down(h.held);
-    r.awaited = reading;
-    r
-}
-
 // Delete of B, other, first store: takes C', a copy of the successor C with B's colour and links, and stores it in B's link from above.
 // B is retired, and all reading slots are awaited. This is the write's list store. The write in hand is to be moved to C' by moved_write.
 //
@@ -211,7 +201,7 @@ pub fn publish(pool: &mut [u32], h: Head, reading: u32, l: Link, c: u32) -> Step
     let colour = pool::word(pool, b, pool::COLOUR);
     let taken = rotations::take_copy(pool, h, c, Side::L, x, y, colour);
     let linked = heads::set_link(pool, taken, l, first);
-    let awaiting = await_readers(linked, reading);
+    let awaiting = heads::await_readers(linked, reading);
     let head = queue::retire(pool, awaiting, reading, b);
     StepResult {
         found: true,

@@ -6,7 +6,7 @@ ghost use Prim.Native.Nat.{_≤_, _<_};
 ghost use mathlib.Core.Path.{_≡_};
 ghost use lib.ListN.{length};
 ghost use Rattle.session.specs.Steps.{Sound};
-ghost use Rattle.lines.specs.Text.{room};
+ghost use Rattle.texts.specs.Line.{room};
 ghost use Rattle.spec.specs.Numbers.{poolLimit};
 
 // Writes the output up to a position to standard output.

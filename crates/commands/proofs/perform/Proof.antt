@@ -4,8 +4,9 @@ use mathlib.Core.List.{_++_}
 use Prim.Native.Nat.{ℕ, _≤_}
 use Rattle.spec.specs.Calls.{Outcome}
 use Rattle.spec.specs.Register.{State}
-use Rattle.lines.specs.Text.{says}
-use Rattle.commands.specs.Performed.{tried-fits, performed-on, keptWords, triedWords}
+use Rattle.answer_lines.specs.Text.{says}
+use Rattle.lent_words.specs.Lent.{tried-fits, keptWords, triedWords}
+use Rattle.commands.specs.Performed.{performed-on}
 use mathlib.Core.Path.{sym, ap, _∙_}
 use borrow.Author.Needs.{needs}
 use Rattle.commands.proofs.perform.Statement.{statement}
@@ -13,8 +14,8 @@ use Rattle.commands.proofs.perform.Tie as tie
 use Rattle.commands.proofs.perform.Reads as reads
 use Rattle.commands.proofs.perform.Lts as lts
 use Rattle.commands.proofs.call.Reads as call-reads
-use Rattle.commands.proofs.kept_words.Reads as kept-words-reads
-use Rattle.commands.proofs.tried_words.Reads as tried-words-reads
+use Rattle.lent_words.proofs.kept_words.Reads as kept-words-reads
+use Rattle.lent_words.proofs.tried_words.Reads as tried-words-reads
 
 tried-words-requires : tie.Need-tried-words-requires
 tried-words-requires c κs = search needs

@@ -3,7 +3,7 @@ use Rattle.fixups.proofs.black_sibling.Statement.{statement}
 use Rattle.fixups.proofs.black_sibling.Tie as tie
 use Rattle.fixups.proofs.black_sibling.Reads as reads
 use Rattle.fixups.proofs.black_sibling.Lts as lts
-use Rattle.fixups.proofs.form_if.Reads as form-if-reads
+use Rattle.links.proofs.form_if.Reads as form-if-reads
 use Rattle.pool.proofs.child.Reads as child-reads
 use Rattle.pool.proofs.is_red.Reads as is-red-reads
 

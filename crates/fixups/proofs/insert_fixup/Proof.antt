@@ -15,7 +15,7 @@ use Rattle.fixups.proofs.insert_fixup.Tie as tie
 use Rattle.fixups.proofs.insert_fixup.Reads as reads
 use Rattle.fixups.proofs.insert_fixup.Lts as lts
 use Rattle.fixups.proofs.fixup_result.Reads as fixup-result-reads
-use Rattle.fixups.proofs.form_of.Reads as form-of-reads
+use Rattle.links.proofs.form_of.Reads as form-of-reads
 use Rattle.paths.proofs.link_in.Reads as link-in-reads
 use Rattle.pool.proofs.child.Reads as child-reads
 use Rattle.pool.proofs.is_red.Reads as is-red-reads

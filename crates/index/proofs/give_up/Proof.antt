@@ -16,7 +16,7 @@ use Rattle.index.proofs.give_up.Lts as lts
 use Rattle.replies.proofs.refused.Reads as refused-reads
 use Rattle.replies.proofs.accepted.Reads as accepted-reads
 use Rattle.register.proofs.no_reader.Reads as no-reader-reads
-use Rattle.queue.proofs.end_reading.Reads as end-reading-reads
+use Rattle.reading_ends.proofs.end_reading.Reads as end-reading-reads
 use Rattle.refusals.proofs.lent_refusal.Reads as lent-refusal-reads
 use Rattle.refusals.proofs.slot_index.Reads as slot-index-reads
 use Rattle.refusals.proofs.slot_refusal.Reads as slot-refusal-reads

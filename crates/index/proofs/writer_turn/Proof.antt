@@ -9,6 +9,8 @@ use Rattle.index.proofs.writer_turn.Statement.{statement}
 use Rattle.index.proofs.writer_turn.Tie as tie
 use Rattle.index.proofs.writer_turn.Reads as reads
 use Rattle.index.proofs.writer_turn.Lts as lts
+use Rattle.heads.specs.Head.{some-awaited, none-awaited}
+use Rattle.heads.proofs.some_awaited.Reads as some-awaited-reads
 use Rattle.replies.proofs.waits.Reads as waits-reads
 use Rattle.refusals.proofs.lent_refusal.Reads as lent-refusal-reads
 use Rattle.turns.proofs.make_first.Reads as make-first-reads
@@ -50,6 +52,9 @@ returns-2 c =
     let e = writer-idle st (sym (c5 .lent-refusal .ensures) ∙ c4 .if1 .left) w in
     (c .refuses-writer2 .ensures .0 ∙ sym (ap (λ (o : Outcome). o .answer) e), rw (c .refuses-writer2 .ensures .1) (sym (ap (λ (o : Outcome). o .after) e)))
 
+some-awaited-requires : tie.Need-some-awaited-requires
+some-awaited-requires c κs = search needs
+
 waits-requires : tie.Need-waits-requires
 waits-requires c κs = search needs
 
@@ -65,7 +70,8 @@ returns-3 c =
     let a = c10 .args in
     let st = state (a .pool .now) (a .reg) in
     let w : writeInHand st ≡ true = rw (ne-eqb _ _ (c3 .if2 .left)) in
-    let e = writer-waits st (sym (c7 .lent-refusal .ensures) ∙ c6 .if1 .left) w (c .before .if3 .taken) in
+    let e = writer-waits st (sym (c7 .lent-refusal .ensures) ∙ c6 .if1 .left) w
+    (some-awaited (a .reg .awaited) (sym (c .before .before .some-awaited .ensures) ∙ c .before .if3 .taken)) in
     (c .waits .ensures .0 ∙ sym (ap (λ (o : Outcome). o .answer) e), rw (c .waits .ensures .1) (sym (ap (λ (o : Outcome). o .after) e)))
 
 make-first-requires : tie.Need-make-first-requires
@@ -76,7 +82,11 @@ make-first-requires c κs =
     let c10 = c7 .before .before .before in
     let a = c10 .args in
     let st = state (a .pool .now) (a .reg) in
-    let w : writeInHand st ≡ true = rw (ne-eqb _ _ (c3 .if2 .left)) in (sym (c7 .lent-refusal .ensures) ∙ c6 .if1 .left, w, c .before .if3 .left)
+    let w : writeInHand st ≡ true = rw (ne-eqb _ _ (c3 .if2 .left)) in (
+      sym (c7 .lent-refusal .ensures) ∙ c6 .if1 .left,
+      w,
+      none-awaited (a .reg .awaited) (sym (c .before .before .some-awaited .ensures) ∙ c .before .if3 .left),
+    )
 
 same-length-4 : tie.Need-same-length-4
 same-length-4 c = search needs
@@ -95,6 +105,7 @@ writer-turn-spec =
     refuses-writer-requires-2
     same-length-2
     returns-2
+    some-awaited-requires
     waits-requires
     same-length-3
     returns-3

@@ -6,7 +6,7 @@ use Rattle.lookups.proofs.leave.Statement.{statement}
 use Rattle.lookups.proofs.leave.Tie as tie
 use Rattle.lookups.proofs.leave.Reads as reads
 use Rattle.lookups.proofs.leave.Lts as lts
-use Rattle.queue.proofs.end_reading.Reads as end-reading-reads
+use Rattle.reading_ends.proofs.end_reading.Reads as end-reading-reads
 
 end-reading-requires : tie.Need-end-reading-requires
 end-reading-requires c κs = search needs

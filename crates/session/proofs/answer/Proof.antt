@@ -1,13 +1,13 @@
-use Rattle.lines.specs.Text.{says}
-use Rattle.commands.specs.Performed.{triedWords, tried-fits, kept-fits}
+use Rattle.answer_lines.specs.Text.{says}
+use Rattle.lent_words.specs.Lent.{triedWords, tried-fits, kept-fits}
 use borrow.Author.Needs.{needs}
 use Rattle.session.proofs.answer.Statement.{statement}
 use Rattle.session.proofs.answer.Tie as tie
 use Rattle.session.proofs.answer.Reads as reads
 use Rattle.session.proofs.answer.Lts as lts
 use Rattle.commands.proofs.perform.Reads as perform-reads
-use Rattle.lines.proofs.letter_of.Reads as letter-of-reads
-use Rattle.lines.proofs.write_line.Reads as write-line-reads
+use Rattle.answer_lines.proofs.letter_of.Reads as letter-of-reads
+use Rattle.answer_lines.proofs.write_line.Reads as write-line-reads
 use Rattle.session.proofs.after.Reads as after-reads
 use Rattle.session.proofs.next_number.Reads as next-number-reads
 

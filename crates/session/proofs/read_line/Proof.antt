@@ -1,13 +1,13 @@
 use Prim.Native.Nat.{_<_, _≤_}
 use lib.ListN.{length}
 use native.Mathlib.Omega.{arith}
-use Rattle.lines.specs.Cut.{cut-after, cut-within}
+use Rattle.command_lines.specs.Cut.{cut-after, cut-within}
 use borrow.Author.Needs.{needs}
 use Rattle.session.proofs.read_line.Statement.{statement}
 use Rattle.session.proofs.read_line.Tie as tie
 use Rattle.session.proofs.read_line.Reads as reads
 use Rattle.session.proofs.read_line.Lts as lts
-use Rattle.lines.proofs.scan.Reads as scan-reads
+use Rattle.command_lines.proofs.scan.Reads as scan-reads
 use Rattle.session.proofs.part_line.Reads as part-line-reads
 use Rattle.session.proofs.whole_line.Reads as whole-line-reads
 

@@ -6,7 +6,7 @@ use Rattle.session.proofs.show_node.Statement.{statement}
 use Rattle.session.proofs.show_node.Tie as tie
 use Rattle.session.proofs.show_node.Reads as reads
 use Rattle.session.proofs.show_node.Lts as lts
-use Rattle.lines.proofs.write_node.Reads as write-node-reads
+use Rattle.node_lines.proofs.write_node.Reads as write-node-reads
 
 sub-node : tie.Need-sub-node
 sub-node c = search needs

@@ -1,6 +1,6 @@
 use mathlib.Core.Bool.{not, true}
-use Rattle.stores.specs.Published.{awaiting, publishes-missed, published}
-use Rattle.heads.specs.Head.{at, FollowsReading}
+use Rattle.stores.specs.Published.{publishes-missed, published}
+use Rattle.heads.specs.Head.{at, awaiting, FollowsReading}
 use mathlib.Core.Bool.{false≢true}
 use Rattle.datatypes.specs.declared.Step.the-variants.{Publish}
 use Rattle.laws.specs.Turns.{no-node, no-free, takes-node}
@@ -21,7 +21,7 @@ use Rattle.pool.proofs.word.Reads as word-reads
 use Rattle.queue.proofs.retire.Reads as retire-reads
 use Rattle.pool.proofs.node_at.Reads as node-at-reads
 use Rattle.rotations.proofs.take_copy.Reads as take-copy-reads
-use Rattle.stores.proofs.await_readers.Reads as await-readers-reads
+use Rattle.heads.proofs.await_readers.Reads as await-readers-reads
 
 node-at-requires : tie.Need-node-at-requires
 node-at-requires c κs = search needs

@@ -1,7 +1,7 @@
 use Prim.Native.Nat.{_≤_}
 use mathlib.Core.Path.{_≡_, refl, _∙_}
 use lib.ListN.{length}
-use Rattle.lines.specs.Text.{room}
+use Rattle.texts.specs.Line.{room}
 use Rattle.session.specs.Steps.{Sound, workLeft, at-least, at-most, falls}
 use Rattle.trace.proofs.run.Statement.{statement}
 use Rattle.trace.proofs.run.Tie as tie

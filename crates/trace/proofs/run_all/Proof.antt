@@ -2,7 +2,7 @@ use Prim.Native.Nat.{_≤_}
 use mathlib.Core.Path.{_≡_, refl, _∙_}
 use lib.ListN.{length}
 use borrow.Author.Needs.{needs}
-use Rattle.lines.specs.Text.{room}
+use Rattle.texts.specs.Line.{room}
 use Rattle.session.specs.Steps.{Sound, at-most}
 use Rattle.trace.proofs.run_all.Statement.{statement}
 use Rattle.trace.proofs.run_all.Tie as tie

@@ -1,0 +1,29 @@
+use Rattle.command_fields.specs.Commands.{withOne}
+use borrow.Author.Tests.{eq-eqb, ne-eqb}
+use Rattle.command_fields.proofs.with_one.Statement.{statement}
+use Rattle.command_fields.proofs.with_one.Tie as tie
+use Rattle.command_fields.proofs.with_one.Reads as reads
+use Rattle.command_fields.proofs.with_one.Lts as lts
+
+returns : tie.Need-returns
+unfolding withOne
+returns c = simp (eq-eqb _ _ (c .if1 .taken))
+
+returns-2 : tie.Need-returns-2
+unfolding withOne
+returns-2 c = simp (ne-eqb _ _ (c .before .if1 .left), eq-eqb _ _ (c .if2 .taken))
+
+returns-3 : tie.Need-returns-3
+unfolding withOne
+returns-3 c = simp (ne-eqb _ _ (c .before .before .if1 .left), ne-eqb _ _ (c .before .if2 .left), eq-eqb _ _ (c .if3 .taken))
+
+returns-4 : tie.Need-returns-4
+unfolding withOne
+returns-4 c = simp (ne-eqb _ _ (c .before .before .before .if1 .left), ne-eqb _ _ (c .before .before .if2 .left), ne-eqb _ _ (c .before .if3 .left), eq-eqb _ _ (c .if4 .taken))
+
+returns-5 : tie.Need-returns-5
+unfolding withOne
+returns-5 c = simp (ne-eqb _ _ (c .before .before .before .if1 .left), ne-eqb _ _ (c .before .before .if2 .left), ne-eqb _ _ (c .before .if3 .left), ne-eqb _ _ (c .if4 .left))
+
+pub with-one-spec : {M : Type 1} → statement M
+with-one-spec = tie.close (tie.spec returns returns-2 returns-3 returns-4 returns-5)

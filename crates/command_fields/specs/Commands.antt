@@ -1,0 +1,73 @@
+-- 01, 'Examples': the command that a line's bytes, without the newline, are. Commands: P nodes; I key record; D key; W; B slot key; R slot;
+-- E slot; T. Fields are parted by tabs. A line that isn't one of these letters with just its fields, each of decimal digits and below
+-- 4,294,967,296, is ill-formed.
+use Prim.Native.Nat.{ℕ, _+_, _*_, _-_}
+use Prim.Native.Char.{code}
+use mathlib.Core.Bool.{Bool, true, cond, _&&_}
+use mathlib.Core.List.{List, [], _∷_, map}
+use mathlib.Core.Option.{Option, none, some}
+use lib.Dec.{eqb, leb, ltb}
+use Rattle.command_fields.specs.declared.Command.{Command}
+use Rattle.command_fields.specs.declared.Command.the-variants.{SetUp, Insert, Delete, Write, Begin, Turn, GiveUp, Show, Ill}
+use Rattle.texts.specs.Ascii.{tab}
+
+-- the bytes before the first tab, and the fields after it
+unfoldable pub firstField : List ℕ → List ℕ
+firstField [] = []
+firstField (b ∷ bs) = cond (eqb b tab) [] (b ∷ firstField bs)
+
+unfoldable pub otherFields : List ℕ → List (List ℕ)
+otherFields [] = []
+otherFields (b ∷ bs) = cond (eqb b tab) (firstField bs ∷ otherFields bs) (otherFields bs)
+
+unfoldable pub isDigit : ℕ → Bool
+isDigit b = leb (code "0") b && leb b (code "9")
+
+unfoldable pub allDigits : List ℕ → Bool
+allDigits [] = true
+allDigits (b ∷ bs) = isDigit b && allDigits bs
+
+-- the value of v's digits followed by these
+unfoldable pub valueAfter : ℕ → List ℕ → ℕ
+valueAfter v [] = v
+valueAfter v (b ∷ bs) = valueAfter (v * 10 + (b - code "0")) bs
+
+abbrev pub limit : ℕ
+limit = 4_294_967_296
+
+-- a field's number: one digit or more, leading zeros too, with a value below the limit
+unfoldable pub numberOf : List ℕ → Option ℕ
+numberOf [] = none
+numberOf (b ∷ bs) = cond (allDigits (b ∷ bs) && ltb (valueAfter 0 (b ∷ bs)) limit) (some (valueAfter 0 (b ∷ bs))) none
+
+-- the commands with no field, with one and with two
+unfoldable pub withNone : ℕ → Command
+withNone l = cond (eqb l (code "W")) Write (cond (eqb l (code "T")) Show Ill)
+
+unfoldable pub withOne : ℕ → ℕ → Command
+withOne l a =
+    cond (eqb l (code "P"))
+    (SetUp a)
+    (cond (eqb l (code "D")) (Delete a) (cond (eqb l (code "R")) (Turn a) (cond (eqb l (code "E")) (GiveUp a) Ill)))
+
+unfoldable pub withTwo : ℕ → ℕ → ℕ → Command
+withTwo l a b = cond (eqb l (code "I")) (Insert a b) (cond (eqb l (code "B")) (Begin a b) Ill)
+
+-- a letter and what its fields are
+abbrev pub ofNumbers : ℕ → List (Option ℕ) → Command
+ofNumbers l [] = withNone l
+ofNumbers l (none ∷ []) = Ill
+ofNumbers l (some a ∷ []) = withOne l a
+ofNumbers l (none ∷ (x ∷ [])) = Ill
+ofNumbers l (some a ∷ (none ∷ [])) = Ill
+ofNumbers l (some a ∷ (some b ∷ [])) = withTwo l a b
+ofNumbers l (x ∷ (y ∷ (z ∷ zs))) = Ill
+
+-- the first field is the letter alone
+abbrev pub ofFields : List ℕ → List (Option ℕ) → Command
+ofFields [] ns = Ill
+ofFields (l ∷ []) ns = ofNumbers l ns
+ofFields (l ∷ (b ∷ bs)) ns = Ill
+
+unfoldable pub commandOf : List ℕ → Command
+commandOf bytes = ofFields (firstField bytes) (map numberOf (otherFields bytes))

@@ -1,0 +1,3 @@
+pub mod Cut
+pub mod Examples
+pub mod Machine

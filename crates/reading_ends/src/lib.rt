@@ -1,0 +1,99 @@
+// The end of a reading: the retired nodes found and released.
+use datatypes::Head;
+ghost use mathlib.Core.Path.{_≡_};
+ghost use mathlib.Core.Bool.{true};
+ghost use Prim.Native.Nat.{_<_, _≤_, _+_, _*_};
+ghost use lib.Dec.{eqb};
+ghost use lib.ListN.{length};
+ghost use Rattle.reading_ends.specs.Retired.{Bounded, Next};
+ghost use Rattle.spec.specs.Numbers.{nodeWords, mostNodes, poolLimit, slots, wordBits};
+ghost use Rattle.spec.specs.Pool.{word, standingWord, standingRetired};
+ghost use Rattle.datatypes.specs.declared.Register.{Register};
+ghost use Rattle.heads.specs.Head.{at, Follows};
+ghost use Rattle.spec.specs.Register.{noReader, withReader};
+ghost use Rattle.spec.specs.Free.{release, endReading};
+
+// a node's standing stands so many words before the node's end
+const STANDING_BACK: usize = numbers::NODE_WORDS - pool::STANDING_PLACE;
+
+// Answers a number that is at least the standing of each of two nodes from n on; the next two: of four, and of eight.
+fn two_standings(pool: &[u32], n: usize) -> u32
+    requires { ⌜ (1 ≤ n) × ((n + 1) * nodeWords ≤ length (now pool)) ⌝ }
+    ensures { λ r. ⌜ Bounded (now (pool .entry)) n (n + 2) r ⌝ }
+{
+    let i = n * numbers::NODE_WORDS - STANDING_BACK;
+    pool[i] | pool[i + numbers::NODE_WORDS]
+}
+
+fn four_standings(pool: &[u32], n: usize) -> u32
+    requires { ⌜ (1 ≤ n) × ((n + 3) * nodeWords ≤ length (now pool)) ⌝ }
+    ensures { λ r. ⌜ Bounded (now (pool .entry)) n (n + 4) r ⌝ }
+{
+    two_standings(pool, n) | two_standings(pool, n + 2)
+}
+
+fn eight_standings(pool: &[u32], n: usize) -> u32
+    requires { ⌜ (1 ≤ n) × ((n + 7) * nodeWords ≤ length (now pool)) ⌝ }
+    ensures { λ r. ⌜ Bounded (now (pool .entry)) n (n + 8) r ⌝ }
+{
+    four_standings(pool, n) | four_standings(pool, n + 4)
+}
+
+// The first retired node from n on, node by node; past the last if there is none.
+fn scan_retired(pool: &[u32], from: usize, capacity: usize) -> usize
+    requires { ⌜ (1 ≤ from) × (from ≤ capacity + 1) × (capacity * nodeWords ≤ length (now pool)) × (capacity ≤ mostNodes) ⌝ }
+    ensures { λ r. ⌜ Next (now (pool .entry)) from capacity r ⌝ }
+{
+    let mut n = from;
+    while n <= capacity {
+        if pool[n * numbers::NODE_WORDS - STANDING_BACK] == pool::RETIRED {
+            return n;
+        }
+        n += 1;
+    }
+    n
+}
+
+// The same; eight nodes of which none is retired are passed over by one test.
+fn next_retired(pool: &[u32], from: usize, capacity: usize) -> usize
+    requires { ⌜ (1 ≤ from) × (from ≤ capacity + 1) × (capacity * nodeWords ≤ length (now pool)) × (capacity ≤ mostNodes) ⌝ }
+    ensures { λ r. ⌜ Next (now (pool .entry)) from capacity r ⌝ }
+{
+    let mut n = from;
+    while n + 7 <= capacity {
+        if eight_standings(pool, n) > pool::LINKED {
+            return scan_retired(pool, n, capacity);
+        }
+        n += 8;
+    }
+    scan_retired(pool, n, capacity)
+}
+
+// Takes slot s from a retired node's holders, and frees the node if it is then without a holder.
+fn release(pool: &mut [u32], h: Head, s: u32, n: u32) -> Head
+    requires { ⌜ (length (now pool) < poolLimit) × (s < wordBits) × (eqb (word (now pool) n standingWord) standingRetired ≡ true) ⌝ }
+    ensures { λ r. ⌜ Follows (λ st. release s st n) (now (pool .entry)) h (now (pool .exit)) r ⌝ }
+{
+    let left = register::drop_slot(pool::word(pool, n, pool::HOLDERS), s);
+    if left == 0 {
+        return queue::free_node(pool, h, n);
+    }
+    pool::set_word(pool, n, pool::HOLDERS, left);
+    h
+}
+
+// Ends the reading of slot s: its bit leaves the awaited slots, and every retired node, in rising number, is released.
+pub fn end_reading(pool: &mut [u32], h: Head, s: u32) -> Head
+    requires { ⌜ (length (now pool) < poolLimit) × (s < slots) ⌝ }
+    ensures { λ r. ⌜ ((q : Register) → at (now (pool .exit)) r (withReader q s noReader) ≡ endReading (at (now (pool .entry)) h q) s) ⌝ }
+{
+    let count = pool.len() / numbers::NODE_WORDS;
+    let mut r = h;
+    r.awaited = register::drop_slot(h.awaited, s);
+    let mut n = next_retired(pool, 1, count);
+    while n <= count {
+        r = release(pool, r, s, n as u32);
+        n = next_retired(pool, n + 1, count);
+    }
+    r
+}

@@ -1,0 +1,92 @@
+// Text as bytes: a number and a word put into a buffer, with the byte that ends its field.
+ghost use mathlib.Core.Path.{_≡_};
+ghost use mathlib.Core.List.{[], _∷_, _++_};
+ghost use Prim.Native.Nat.{_≤_, _<_, _+_};
+ghost use lib.ListN.{length};
+ghost use Rattle.texts.specs.Put.{Put};
+ghost use Rattle.texts.specs.Decimal.{decimal, two};
+
+pub const TAB: u8 = b'\t';
+
+pub const NEWLINE: u8 = b'\n';
+
+// Each writer below puts its text into out from position at on and answers the next position (specs, Put); the caller sees to the room.
+pub fn put_byte(out: &mut [u8], at: usize, b: u8) -> usize
+    requires { ⌜ at < length (now out) ⌝ }
+    ensures { λ r. ⌜ Put (now (out .entry)) at (b ∷ []) (now (out .exit)) r ⌝ }
+{
+    out[at] = b;
+    at + 1
+}
+
+// two digits; a number of at most two, and of at most four
+fn put_two(out: &mut [u8], at: usize, n: u64) -> usize
+    requires { ⌜ (n < 100) × (at + 2 ≤ length (now out)) ⌝ }
+    ensures { λ r. ⌜ Put (now (out .entry)) at (two n) (now (out .exit)) r ⌝ }
+{
+    let next = put_byte(out, at, b'0' + (n / 10) as u8);
+    put_byte(out, next, b'0' + (n % 10) as u8)
+}
+
+fn put_low(out: &mut [u8], at: usize, n: u64) -> usize
+    requires { ⌜ (n < 100) × (at + length (decimal n) ≤ length (now out)) ⌝ }
+    ensures { λ r. ⌜ Put (now (out .entry)) at (decimal n) (now (out .exit)) r ⌝ }
+{
+    if n < 10 {
+        return put_byte(out, at, b'0' + n as u8);
+    }
+    put_two(out, at, n)
+}
+
+fn put_small(out: &mut [u8], at: usize, n: u64) -> usize
+    requires { ⌜ (n < 10000) × (at + length (decimal n) ≤ length (now out)) ⌝ }
+    ensures { λ r. ⌜ Put (now (out .entry)) at (decimal n) (now (out .exit)) r ⌝ }
+{
+    if n < 100 {
+        return put_low(out, at, n);
+    }
+    let next = put_low(out, at, n / 100);
+    put_two(out, next, n % 100)
+}
+
+// a number in base ten, its high digits first, four at a time
+pub fn put_number(out: &mut [u8], at: usize, n: u64) -> usize
+    requires { ⌜ at + length (decimal n) ≤ length (now out) ⌝ }
+    ensures { λ r. ⌜ Put (now (out .entry)) at (decimal n) (now (out .exit)) r ⌝ }
+{
+    if n < 10000 {
+        return put_small(out, at, n);
+    }
+    let high = put_number(out, at, n / 10000);
+    let next = put_two(out, high, n / 100 % 100);
+    put_two(out, next, n % 100)
+}
+
+fn put_text(out: &mut [u8], at: usize, s: &[u8]) -> usize
+    requires { ⌜ at + length (now s) ≤ length (now out) ⌝ }
+    ensures { λ r. ⌜ Put (now (out .entry)) at (now (s .entry)) (now (out .exit)) r ⌝ }
+{
+    let mut i: usize = 0;
+    while i < s.len() {
+        out[at + i] = s[i];
+        i += 1;
+    }
+    at + i
+}
+
+// a number and a word, each with the byte that ends its field
+pub fn number_field(out: &mut [u8], at: usize, n: u64, end: u8) -> usize
+    requires { ⌜ at + length (decimal n) < length (now out) ⌝ }
+    ensures { λ r. ⌜ Put (now (out .entry)) at (decimal n ++ (end ∷ [])) (now (out .exit)) r ⌝ }
+{
+    let next = put_number(out, at, n);
+    put_byte(out, next, end)
+}
+
+pub fn text_field(out: &mut [u8], at: usize, s: &[u8], end: u8) -> usize
+    requires { ⌜ at + length (now s) < length (now out) ⌝ }
+    ensures { λ r. ⌜ Put (now (out .entry)) at (now (s .entry) ++ (end ∷ [])) (now (out .exit)) r ⌝ }
+{
+    let next = put_text(out, at, s);
+    put_byte(out, next, end)
+}
