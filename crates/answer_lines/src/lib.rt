@@ -27,7 +27,7 @@ pub enum Said {
     No(u32),
 }
 
-// what each kind of answer says
+// Answers what an acceptance says.
 pub fn acceptance_said(a: Acceptance) -> Said
     ensures { λ r. ⌜ says r ≡ accepts a ⌝ }
 {
@@ -37,6 +37,7 @@ pub fn acceptance_said(a: Acceptance) -> Said
     }
 }
 
+// Answers what a writer's turn says.
 pub fn writer_said(a: WriterAnswer) -> Said
     ensures { λ r. ⌜ says r ≡ writerSays a ⌝ }
 {
@@ -48,6 +49,7 @@ pub fn writer_said(a: WriterAnswer) -> Said
     }
 }
 
+// Answers what a reader's turn says.
 pub fn reader_said(a: ReaderAnswer) -> Said
     ensures { λ r. ⌜ says r ≡ readerSays a ⌝ }
 {
@@ -59,7 +61,7 @@ pub fn reader_said(a: ReaderAnswer) -> Said
     }
 }
 
-// a command's letter in its line
+// Answers a command's letter in its line.
 pub fn letter_of(c: Command) -> u8
     ensures { λ r. ⌜ r ≡ letterOf c ⌝ }
 {
@@ -145,7 +147,7 @@ fn put_said(out: &mut [u8], at: usize, a: Said) -> usize
     }
 }
 
-// The lines of trace; each asks for room enough for any of them.
+// Writes the line of a call: its number, its letter and its answer. Each line of trace asks for room enough for any of them.
 pub fn write_line(out: &mut [u8], at: usize, number: u64, letter: u8, a: Said) -> usize
     requires { ⌜ at + room ≤ length (now out) ⌝ }
     ensures { λ r. ⌜ Put (now (out .entry)) at (lineOf number letter (says a)) (now (out .exit)) r ⌝ }
@@ -156,6 +158,7 @@ pub fn write_line(out: &mut [u8], at: usize, number: u64, letter: u8, a: Said) -
     put_said(out, third, a)
 }
 
+// Writes the line of an ill-formed command.
 pub fn write_bad(out: &mut [u8], at: usize, number: u64) -> usize
     requires { ⌜ at + room ≤ length (now out) ⌝ }
     ensures { λ r. ⌜ Put (now (out .entry)) at (badLine number) (now (out .exit)) r ⌝ }

@@ -1,5 +1,5 @@
 -- 01, 'Examples': the command that a line's bytes, without the newline, are. Commands: P nodes; I key record; D key; W; B slot key; R slot;
--- E slot; T. Fields are parted by tabs. A line that isn't one of these letters with just its fields, each of decimal digits and below
+-- E slot; T. A tab stands between two fields. A line that isn't one of these letters with just its fields, each of decimal digits and below
 -- 4,294,967,296, is ill-formed.
 use Prim.Native.Nat.{ℕ, _+_, _*_, _-_}
 use Prim.Native.Char.{code}

@@ -27,7 +27,7 @@ pub enum Field {
     Wrong,
 }
 
-// a field's number after one digit more
+// Answers a field's number after one digit more.
 pub fn with_digit(v: u32, b: u8) -> Field
     requires { ⌜ (48 ≤ b) × (b ≤ 57) ⌝ }
     ensures { λ r. ⌜ r ≡ withDigit v b ⌝ }
@@ -40,7 +40,7 @@ pub fn with_digit(v: u32, b: u8) -> Field
     Field::Wrong
 }
 
-// a field after one byte more
+// Answers a field after one byte more.
 pub fn field_taken(f: Field, b: u8) -> Field
     ensures { λ r. ⌜ r ≡ fieldTaken f b ⌝ }
 {
@@ -69,6 +69,7 @@ pub fn with_none(l: u8) -> Command
     Command::Ill
 }
 
+// Answers the command of a letter and one number.
 pub fn with_one(l: u8, a: u32) -> Command
     ensures { λ r. ⌜ r ≡ withOne l a ⌝ }
 {
@@ -87,6 +88,7 @@ pub fn with_one(l: u8, a: u32) -> Command
     Command::Ill
 }
 
+// Answers the command of a letter and two numbers.
 pub fn with_two(l: u8, a: u32, b: u32) -> Command
     ensures { λ r. ⌜ r ≡ withTwo l a b ⌝ }
 {

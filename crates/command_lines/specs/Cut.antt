@@ -37,7 +37,7 @@ cut r n (b ∷ bs) = cond (eqb b newline) (whole (finished r) (n + 1)) (cut (tak
 unfoldable pub cutFrom : List ℕ → ℕ → Reading → Scanned
 cutFrom l i r = cut r i (drop i l)
 
--- Bytes without a newline are all taken, however they are parted; the newline ends the line, whose command is document 01's.
+-- Bytes without a newline are all taken, wherever they are cut; the newline ends the line, whose command is document 01's.
 unfoldable pub unbroken : List ℕ → Bool
 unbroken [] = true
 unbroken (b ∷ bs) = not (eqb b newline) && unbroken bs

@@ -17,7 +17,7 @@ pub enum Reading {
     Ill,
 }
 
-// A line that no byte has been read of.
+// Answers a line of which no byte has been read.
 pub fn start() -> Reading
     ensures { λ r. ⌜ r ≡ Fresh ⌝ }
 {
@@ -185,8 +185,8 @@ fn fresh_on(input: &[u8], from: usize) -> Scanned
     letter_on(input, from + 1, b)
 }
 
-// The line so far, read on. By theorem line-read (specs, Cut) a whole line gives the command that document 01 makes of its bytes,
-// however the input is parted.
+// Reads on in the line so far, to its end or the input's. By theorem line-read (specs, Cut) a whole line gives the command that document
+// 01 makes of its bytes, wherever one input ends and the next begins.
 pub fn scan(input: &[u8], from: usize, reading: Reading) -> Scanned
     requires { ⌜ from ≤ length (now input) ⌝ }
     ensures { λ r. ⌜ r ≡ cutFrom (now (input .entry)) from reading ⌝ }

@@ -19,7 +19,7 @@ fn put_three(out: &mut [u8], at: usize, a: u32, b: u32, c: u32, end: u8) -> usiz
     texts::number_field(out, third, c as u64, end)
 }
 
-// T's line of a node, if it is linked
+// Writes T's line of a node, if it is linked.
 pub fn write_node(out: &mut [u8], at: usize, pool: &[u32], n: u32) -> usize
     requires { ⌜ at + room ≤ length (now out) ⌝ }
     ensures { λ r. ⌜ Put (now (out .entry)) at (nodeShown (now (pool .entry)) n) (now (out .exit)) r ⌝ }

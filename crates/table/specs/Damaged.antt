@@ -52,6 +52,9 @@ damaged =
     ∷ entry "12: Unlink where the link is 0" (three but (count:= 1 ∷ store 0 := (Unlink on Right 3) ∷ []))
     (W ⇒ refused 12
     ∷ [])
+    ∷ entry "12: Unlink at the root of an empty tree" (three but (root:= 0 ∷ count:= 1 ∷ store 0 := (Unlink on Root) ∷ []))
+    (W ⇒ refused 12
+    ∷ [])
     ∷ entry "12: Adopt without a right child" (three but (count:= 1 ∷ store 0 := (Adopt on Left 2) ∷ []))
     (W ⇒ refused 12
     ∷ [])

@@ -3,7 +3,7 @@ use Prim.Native.Nat.{ℕ}
 use mathlib.Core.List.{List, [], _∷_, _++_}
 use Rattle.texts.specs.Ascii.{tab, newline}
 
--- fields parted by tabs, and a newline
+-- fields with a tab between two, and a newline
 abbrev pub line : List (List ℕ) → List ℕ
 line [] = newline ∷ []
 line (f ∷ []) = f ++ (newline ∷ [])

@@ -11,6 +11,8 @@ pub const TAB: u8 = b'\t';
 pub const NEWLINE: u8 = b'\n';
 
 // Each writer below puts its text into out from position at on and answers the next position (specs, Put); the caller sees to the room.
+
+// Puts one byte.
 pub fn put_byte(out: &mut [u8], at: usize, b: u8) -> usize
     requires { ⌜ at < length (now out) ⌝ }
     ensures { λ r. ⌜ Put (now (out .entry)) at (b ∷ []) (now (out .exit)) r ⌝ }
@@ -49,7 +51,7 @@ fn put_small(out: &mut [u8], at: usize, n: u64) -> usize
     put_two(out, next, n % 100)
 }
 
-// a number in base ten, its high digits first, four at a time
+// Puts a number in base ten, its high digits first, four at a time.
 pub fn put_number(out: &mut [u8], at: usize, n: u64) -> usize
     requires { ⌜ at + length (decimal n) ≤ length (now out) ⌝ }
     ensures { λ r. ⌜ Put (now (out .entry)) at (decimal n) (now (out .exit)) r ⌝ }
@@ -74,7 +76,7 @@ fn put_text(out: &mut [u8], at: usize, s: &[u8]) -> usize
     at + i
 }
 
-// a number and a word, each with the byte that ends its field
+// Puts a number and the byte that ends its field.
 pub fn number_field(out: &mut [u8], at: usize, n: u64, end: u8) -> usize
     requires { ⌜ at + length (decimal n) < length (now out) ⌝ }
     ensures { λ r. ⌜ Put (now (out .entry)) at (decimal n ++ (end ∷ [])) (now (out .exit)) r ⌝ }
@@ -83,6 +85,7 @@ pub fn number_field(out: &mut [u8], at: usize, n: u64, end: u8) -> usize
     put_byte(out, next, end)
 }
 
+// Puts a text and the byte that ends its field.
 pub fn text_field(out: &mut [u8], at: usize, s: &[u8], end: u8) -> usize
     requires { ⌜ at + length (now s) < length (now out) ⌝ }
     ensures { λ r. ⌜ Put (now (out .entry)) at (now (s .entry) ++ (end ∷ [])) (now (out .exit)) r ⌝ }
