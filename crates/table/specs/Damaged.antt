@@ -4,9 +4,12 @@ use mathlib.Core.List.{List, [], _∷_}
 use Rattle.datatypes.specs.declared.Side.the-variants as side
 use Rattle.datatypes.specs.declared.Link.the-variants.{Root, Left, Right}
 use Rattle.datatypes.specs.declared.Purpose.the-variants.{ForInsert, RedSibling, BlackSibling}
-use Rattle.datatypes.specs.declared.Step.the-variants.{Insert, DiagLower, DiagRaise, ZigLowerA, ZigLowerC, ZigRaise, Unlink, Adopt, Replace, Publish, Detach}
+use Rattle.datatypes.specs.declared.Step.the-variants.{Insert, DiagLower, DiagRaise, ZigLowerA, ZigLowerC, ZigRaise, Unlink, Adopt, Replace, Publish}
+use Rattle.datatypes.specs.declared.Step.the-variants.{Detach}
 use Rattle.spec.specs.Calls.{ok, go, absent, wait, more, done, refused}
-use Rattle.table.specs.Picture.{row, root_held_awaited_stores_, picture, drawn, none, _on_, key, left, right, colour, standing, holders, next, _of_:=_, root:=_, first:=_, last:=_, free:=_, held:=_, awaited:=_, count:=_, atRest, fills, reader_:=_, store_:=_, reads, idle, _but_}
+use Rattle.table.specs.Picture.{row, root_held_awaited_stores_, picture, drawn, none, _on_, key, left, right, colour, standing, holders, next}
+use Rattle.table.specs.Picture.{_of_:=_, root:=_, first:=_, last:=_, free:=_, held:=_, awaited:=_, count:=_, atRest, fills, reader_:=_}
+use Rattle.table.specs.Picture.{store_:=_, reads, idle, _but_}
 use Rattle.table.specs.Entry.{P, I, D, W, B, R, E, _⇒_, stands, leaves, Entry, entry}
 use Rattle.table.specs.Lent.{three, single, five, knot, lowered}
 

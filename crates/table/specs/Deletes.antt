@@ -154,7 +154,8 @@ deletes =
     (drawn 12
     (picture (root 2 held 7 awaited 0 stores 0)
     []
-    (row 1 10 100 0 0 0 ∷ row 2 20 200 0 1 6 ∷ row 3 30 300 1 0 0 ∷ row 4 40 400 0 3 5 ∷ row 5 50 500 1 0 0 ∷ row 6 60 600 1 4 7 ∷ row 7 70 700 0 0 0 ∷ [])
+    (row 1 10 100 0 0 0 ∷ row 2 20 200 0 1 6 ∷ row 3 30 300 1 0 0 ∷ row 4 40 400 0 3 5 ∷ row 5 50 500 1 0 0 ∷ row 6 60 600 1 4 7
+    ∷ row 7 70 700 0 0 0 ∷ [])
     [] (8 ∷ 9 ∷ 10 ∷ 11 ∷ 12 ∷ []))
     [])
     (B 2 10 ⇒ ok ∷ D 10 ⇒ ok ∷ W ⇒ more (Left 2) 0 ∷ W ⇒ more (Left 6) 8 ∷ W ⇒ more Root 6 ∷ W ⇒ more (Left 4) 9 ∷ W ⇒ done (Left 6) 4
@@ -309,7 +310,8 @@ deletes =
     (drawn 12
     (picture (root 6 held 7 awaited 0 stores 0)
     []
-    (row 1 10 100 0 0 0 ∷ row 2 20 200 1 1 4 ∷ row 3 30 300 1 0 0 ∷ row 4 40 400 0 3 5 ∷ row 5 50 500 1 0 0 ∷ row 6 60 600 0 2 7 ∷ row 7 70 700 0 0 0 ∷ [])
+    (row 1 10 100 0 0 0 ∷ row 2 20 200 1 1 4 ∷ row 3 30 300 1 0 0 ∷ row 4 40 400 0 3 5 ∷ row 5 50 500 1 0 0 ∷ row 6 60 600 0 2 7
+    ∷ row 7 70 700 0 0 0 ∷ [])
     [] (8 ∷ 9 ∷ 10 ∷ 11 ∷ 12 ∷ []))
     [])
     (B 2 70 ⇒ ok ∷ D 70 ⇒ ok ∷ W ⇒ more (Right 6) 0 ∷ W ⇒ more (Right 2) 8 ∷ W ⇒ more Root 2 ∷ W ⇒ more (Right 4) 9 ∷ W ⇒ done (Right 2) 4
@@ -346,7 +348,8 @@ deletes =
     (drawn 16
     (picture (root 6 held 9 awaited 0 stores 0)
     []
-    (row 1 10 100 0 0 0 ∷ row 2 20 200 1 1 3 ∷ row 3 30 300 0 0 0 ∷ row 4 40 400 0 2 5 ∷ row 5 50 500 0 0 0 ∷ row 6 60 600 0 4 8 ∷ row 7 70 700 0 0 0 ∷ row 8 80 800 0 7 9 ∷ row 9 90 900 0 0 0 ∷ [])
+    (row 1 10 100 0 0 0 ∷ row 2 20 200 1 1 3 ∷ row 3 30 300 0 0 0 ∷ row 4 40 400 0 2 5 ∷ row 5 50 500 0 0 0 ∷ row 6 60 600 0 4 8
+    ∷ row 7 70 700 0 0 0 ∷ row 8 80 800 0 7 9 ∷ row 9 90 900 0 0 0 ∷ [])
     [] (10 ∷ 11 ∷ 12 ∷ 13 ∷ 14 ∷ 15 ∷ 16 ∷ []))
     [])
     (B 2 70 ⇒ ok ∷ D 70 ⇒ ok ∷ W ⇒ more (Left 8) 0 ∷ W ⇒ more (Right 4) 10 ∷ W ⇒ done Root 4
@@ -366,7 +369,8 @@ deletes =
     (drawn 16
     (picture (root 4 held 9 awaited 0 stores 0)
     []
-    (row 1 10 100 0 0 0 ∷ row 2 20 200 0 1 3 ∷ row 3 30 300 0 0 0 ∷ row 4 40 400 0 2 8 ∷ row 5 50 500 0 0 0 ∷ row 6 60 600 1 5 7 ∷ row 7 70 700 0 0 0 ∷ row 8 80 800 0 6 9 ∷ row 9 90 900 0 0 0 ∷ [])
+    (row 1 10 100 0 0 0 ∷ row 2 20 200 0 1 3 ∷ row 3 30 300 0 0 0 ∷ row 4 40 400 0 2 8 ∷ row 5 50 500 0 0 0 ∷ row 6 60 600 1 5 7
+    ∷ row 7 70 700 0 0 0 ∷ row 8 80 800 0 6 9 ∷ row 9 90 900 0 0 0 ∷ [])
     [] (10 ∷ 11 ∷ 12 ∷ 13 ∷ 14 ∷ 15 ∷ 16 ∷ []))
     [])
     (D 30 ⇒ ok ∷ W ⇒ more (Right 2) 0 ∷ W ⇒ more (Right 6) 10 ∷ W ⇒ more (Left 6) 11 ∷ W ⇒ done Root 6
@@ -380,7 +384,8 @@ deletes =
     (drawn 12
     (picture (root 4 held 7 awaited 0 stores 0)
     []
-    (row 1 10 100 0 0 0 ∷ row 2 20 200 0 1 3 ∷ row 3 30 300 0 0 0 ∷ row 4 40 400 0 2 6 ∷ row 5 50 500 0 0 0 ∷ row 6 60 600 0 5 7 ∷ row 7 70 700 0 0 0 ∷ [])
+    (row 1 10 100 0 0 0 ∷ row 2 20 200 0 1 3 ∷ row 3 30 300 0 0 0 ∷ row 4 40 400 0 2 6 ∷ row 5 50 500 0 0 0 ∷ row 6 60 600 0 5 7
+    ∷ row 7 70 700 0 0 0 ∷ [])
     [] (8 ∷ 9 ∷ 10 ∷ 11 ∷ 12 ∷ []))
     [])
     (B 2 50 ⇒ ok ∷ D 50 ⇒ ok ∷ W ⇒ done (Left 6) 0
@@ -615,7 +620,8 @@ deletes =
     (drawn 16
     (picture (root 4 held 9 awaited 0 stores 0)
     []
-    (row 1 10 100 0 0 0 ∷ row 2 20 200 0 1 3 ∷ row 3 30 300 0 0 0 ∷ row 4 40 400 0 2 6 ∷ row 5 50 500 0 0 0 ∷ row 6 60 600 0 5 8 ∷ row 7 70 700 0 0 0 ∷ row 8 80 800 1 7 9 ∷ row 9 90 900 0 0 0 ∷ [])
+    (row 1 10 100 0 0 0 ∷ row 2 20 200 0 1 3 ∷ row 3 30 300 0 0 0 ∷ row 4 40 400 0 2 6 ∷ row 5 50 500 0 0 0 ∷ row 6 60 600 0 5 8
+    ∷ row 7 70 700 0 0 0 ∷ row 8 80 800 1 7 9 ∷ row 9 90 900 0 0 0 ∷ [])
     [] (10 ∷ 11 ∷ 12 ∷ 13 ∷ 14 ∷ 15 ∷ 16 ∷ []))
     [])
     (D 40 ⇒ ok ∷ W ⇒ more Root 10
@@ -653,7 +659,8 @@ deletes =
     (drawn 16
     (picture (root 4 held 10 awaited 0 stores 0)
     []
-    (row 1 10 100 0 0 0 ∷ row 2 20 200 0 1 3 ∷ row 3 30 300 0 0 0 ∷ row 4 40 400 0 2 6 ∷ row 5 50 500 0 0 0 ∷ row 6 60 600 0 5 9 ∷ row 7 70 700 1 0 0 ∷ row 8 80 800 0 7 0 ∷ row 9 90 900 1 8 10 ∷ row 10 100 1000 0 0 0 ∷ [])
+    (row 1 10 100 0 0 0 ∷ row 2 20 200 0 1 3 ∷ row 3 30 300 0 0 0 ∷ row 4 40 400 0 2 6 ∷ row 5 50 500 0 0 0 ∷ row 6 60 600 0 5 9
+    ∷ row 7 70 700 1 0 0 ∷ row 8 80 800 0 7 0 ∷ row 9 90 900 1 8 10 ∷ row 10 100 1000 0 0 0 ∷ [])
     [] (11 ∷ 12 ∷ 13 ∷ 14 ∷ 15 ∷ 16 ∷ []))
     [])
     (D 40 ⇒ ok ∷ W ⇒ more Root 11 ∷ B 2 40 ⇒ ok ∷ W ⇒ more (Left 6) 0 ∷ W ⇒ more (Left 9) 12 ∷ W ⇒ more (Right 11) 9 ∷ W ⇒ more (Right 7) 13
@@ -685,7 +692,8 @@ deletes =
     (drawn 16
     (picture (root 6 held 9 awaited 0 stores 0)
     []
-    (row 1 10 100 0 0 0 ∷ row 2 20 200 1 1 3 ∷ row 3 30 300 0 0 0 ∷ row 4 40 400 0 2 5 ∷ row 5 50 500 0 0 0 ∷ row 6 60 600 0 4 8 ∷ row 7 70 700 0 0 0 ∷ row 8 80 800 0 7 9 ∷ row 9 90 900 0 0 0 ∷ [])
+    (row 1 10 100 0 0 0 ∷ row 2 20 200 1 1 3 ∷ row 3 30 300 0 0 0 ∷ row 4 40 400 0 2 5 ∷ row 5 50 500 0 0 0 ∷ row 6 60 600 0 4 8
+    ∷ row 7 70 700 0 0 0 ∷ row 8 80 800 0 7 9 ∷ row 9 90 900 0 0 0 ∷ [])
     [] (10 ∷ 11 ∷ 12 ∷ 13 ∷ 14 ∷ 15 ∷ 16 ∷ []))
     [])
     (D 60 ⇒ ok ∷ W ⇒ more Root 10 ∷ B 2 60 ⇒ ok ∷ W ⇒ more (Left 8) 0 ∷ W ⇒ more (Right 4) 11 ∷ W ⇒ done Root 4

@@ -13,12 +13,14 @@ use Rattle.datatypes.specs.declared.Link.the-variants.{Root, Left, Right}
 use Rattle.datatypes.specs.declared.Purpose.{Purpose}
 use Rattle.datatypes.specs.declared.Purpose.the-variants.{ForInsert, RedSibling, BlackSibling}
 use Rattle.datatypes.specs.declared.Step.{Step}
-use Rattle.datatypes.specs.declared.Step.the-variants.{Vacant, Insert, DiagLower, DiagRaise, ZigLowerA, ZigLowerC, ZigRaise, Unlink, Adopt, Replace, Publish, Detach}
+use Rattle.datatypes.specs.declared.Step.the-variants.{Vacant, Insert, DiagLower, DiagRaise, ZigLowerA, ZigLowerC, ZigRaise, Unlink, Adopt, Replace}
+use Rattle.datatypes.specs.declared.Step.the-variants.{Publish, Detach}
 use Rattle.datatypes.specs.declared.Store.{Store}
 use Rattle.datatypes.specs.declared.Reader.{Reader}
 use Rattle.datatypes.specs.declared.Register.{Register}
 use Rattle.spec.specs.Register.{State}
-use Rattle.spec.specs.Calls.{Answer, ok, go, absent, wait, found, more, done, refused, Outcome, Call, inserting, deleting, writing, beginning, turning, givingUp, call, setUp}
+use Rattle.spec.specs.Calls.{Answer, ok, go, absent, wait, found, more, done, refused, Outcome, Call, inserting, deleting, writing, beginning}
+use Rattle.spec.specs.Calls.{turning, givingUp, call, setUp}
 use Rattle.table.specs.Picture.{Row, Picture, Change, rowWords, nodeIn, drawn, none, standing, _but_}
 
 -- The calls by the letters of trace: P set up, I insert, D delete, W writer's turn, B begin, R reader's turn, E give up.

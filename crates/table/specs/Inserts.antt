@@ -256,7 +256,8 @@ inserts =
     (drawn 12
     (picture (root 6 held 7 awaited 0 stores 0)
     []
-    (row 1 10 100 1 0 0 ∷ row 2 20 200 0 1 3 ∷ row 3 30 300 1 0 0 ∷ row 4 40 400 1 2 5 ∷ row 5 50 500 0 0 0 ∷ row 6 60 600 0 4 7 ∷ row 7 70 700 0 0 0 ∷ [])
+    (row 1 10 100 1 0 0 ∷ row 2 20 200 0 1 3 ∷ row 3 30 300 1 0 0 ∷ row 4 40 400 1 2 5 ∷ row 5 50 500 0 0 0 ∷ row 6 60 600 0 4 7
+    ∷ row 7 70 700 0 0 0 ∷ [])
     [] (8 ∷ 9 ∷ 10 ∷ 11 ∷ 12 ∷ []))
     [])
     (B 2 15 ⇒ ok ∷ I 15 150 ⇒ ok ∷ W ⇒ more (Right 1) 8
@@ -282,7 +283,8 @@ inserts =
     (drawn 12
     (picture (root 2 held 7 awaited 0 stores 0)
     []
-    (row 1 10 100 0 0 0 ∷ row 2 20 200 0 1 4 ∷ row 3 30 300 0 0 0 ∷ row 4 40 400 1 3 6 ∷ row 5 50 500 1 0 0 ∷ row 6 60 600 0 5 7 ∷ row 7 70 700 1 0 0 ∷ [])
+    (row 1 10 100 0 0 0 ∷ row 2 20 200 0 1 4 ∷ row 3 30 300 0 0 0 ∷ row 4 40 400 1 3 6 ∷ row 5 50 500 1 0 0 ∷ row 6 60 600 0 5 7
+    ∷ row 7 70 700 1 0 0 ∷ [])
     [] (8 ∷ 9 ∷ 10 ∷ 11 ∷ 12 ∷ []))
     [])
     (B 2 75 ⇒ ok ∷ I 75 750 ⇒ ok ∷ W ⇒ more (Right 7) 8
@@ -308,7 +310,8 @@ inserts =
     (drawn 12
     (picture (root 6 held 7 awaited 0 stores 0)
     []
-    (row 1 10 100 0 0 0 ∷ row 2 20 200 1 1 4 ∷ row 3 30 300 1 0 0 ∷ row 4 40 400 0 3 5 ∷ row 5 50 500 1 0 0 ∷ row 6 60 600 0 2 7 ∷ row 7 70 700 0 0 0 ∷ [])
+    (row 1 10 100 0 0 0 ∷ row 2 20 200 1 1 4 ∷ row 3 30 300 1 0 0 ∷ row 4 40 400 0 3 5 ∷ row 5 50 500 1 0 0 ∷ row 6 60 600 0 2 7
+    ∷ row 7 70 700 0 0 0 ∷ [])
     [] (8 ∷ 9 ∷ 10 ∷ 11 ∷ 12 ∷ []))
     [])
     (B 2 45 ⇒ ok ∷ I 45 450 ⇒ ok ∷ W ⇒ more (Left 5) 8
@@ -346,7 +349,8 @@ inserts =
     (drawn 12
     (picture (root 2 held 7 awaited 0 stores 0)
     []
-    (row 1 10 100 0 0 0 ∷ row 2 20 200 0 1 6 ∷ row 3 30 300 1 0 0 ∷ row 4 40 400 0 3 5 ∷ row 5 50 500 1 0 0 ∷ row 6 60 600 1 4 7 ∷ row 7 70 700 0 0 0 ∷ [])
+    (row 1 10 100 0 0 0 ∷ row 2 20 200 0 1 6 ∷ row 3 30 300 1 0 0 ∷ row 4 40 400 0 3 5 ∷ row 5 50 500 1 0 0 ∷ row 6 60 600 1 4 7
+    ∷ row 7 70 700 0 0 0 ∷ [])
     [] (8 ∷ 9 ∷ 10 ∷ 11 ∷ 12 ∷ []))
     [])
     (B 2 25 ⇒ ok ∷ I 25 250 ⇒ ok ∷ W ⇒ more (Left 3) 8
@@ -384,7 +388,8 @@ inserts =
     (drawn 16
     (picture (root 4 held 9 awaited 0 stores 0)
     []
-    (row 1 10 100 0 0 0 ∷ row 2 20 200 1 1 3 ∷ row 3 30 300 0 0 0 ∷ row 4 40 400 0 2 8 ∷ row 5 50 500 1 0 0 ∷ row 6 60 600 0 5 7 ∷ row 7 70 700 1 0 0 ∷ row 8 80 800 1 6 9 ∷ row 9 90 900 0 0 0 ∷ [])
+    (row 1 10 100 0 0 0 ∷ row 2 20 200 1 1 3 ∷ row 3 30 300 0 0 0 ∷ row 4 40 400 0 2 8 ∷ row 5 50 500 1 0 0 ∷ row 6 60 600 0 5 7
+    ∷ row 7 70 700 1 0 0 ∷ row 8 80 800 1 6 9 ∷ row 9 90 900 0 0 0 ∷ [])
     [] (10 ∷ 11 ∷ 12 ∷ 13 ∷ 14 ∷ 15 ∷ 16 ∷ []))
     [])
     (B 2 45 ⇒ ok ∷ I 45 450 ⇒ ok ∷ W ⇒ done (Left 5) 10

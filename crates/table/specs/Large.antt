@@ -1,7 +1,7 @@
 -- A pool of 1,023 nodes, the largest: each word at its largest, and one word past its range. The pool test of crate spec looks for each word from
 -- the pool's start, which is too long to compute here; a test that goes over the words once is proved equal to it.
 use Prim.Native.Nat.{ℕ, zero, suc, _+_, _-_, _*_}
-use mathlib.Core.Path.{_≡_, refl, sym, _∙_}
+use mathlib.Core.Path.{_≡_, refl}
 use mathlib.Core.Bool.{Bool, true, false, cond, _&&_}
 use mathlib.Core.List.{List, [], _∷_, _++_}
 use native.Mathlib.Omega.{arith}
@@ -62,12 +62,12 @@ abbrev nodesBefore : ℕ → List ℕ → List ℕ
 nodesBefore zero p = p
 nodesBefore (suc k) p = node 1023 ++ nodesBefore k p
 
-unfoldable pub pool : ℕ → List ℕ
-pool next = nodesBefore 1022 (node next)
+unfoldable pub largePool : ℕ → List ℕ
+largePool next = nodesBefore 1022 (node next)
 
 -- an empty tree, every other number of the register at its largest; slot 7 reads and has loaded no node
-abbrev pub register : Register
-register =
+abbrev pub largeRegister : Register
+largeRegister =
     record {
       root = 0;
       first = 1023;
@@ -79,34 +79,34 @@ register =
       write = record { stores = replicate 7 none; count = 0 };
     }
 
-pool-length : (next : ℕ) → lengthRight (pool next) ≡ true
-unfolding lengthRight pool
+pool-length : (next : ℕ) → lengthRight (largePool next) ≡ true
+unfolding lengthRight largePool
 pool-length next = refl
 
-pool-nodes : (next : ℕ) → nodes (pool next) ≡ 1023
-unfolding pool
+pool-nodes : (next : ℕ) → nodes (largePool next) ≡ 1023
+unfolding largePool
 pool-nodes next = refl
 
-fits : poolInRange (pool 1023) ≡ true
-unfolding pool wordsInRange
-fits = pool-right (pool 1023)
+fits : poolInRange (largePool 1023) ≡ true
+unfolding largePool wordsInRange
+fits = pool-right (largePool 1023)
 
-fails : poolInRange (pool 1024) ≡ false
-unfolding pool wordsInRange
-fails = pool-right (pool 1024)
+fails : poolInRange (largePool 1024) ≡ false
+unfolding largePool wordsInRange
+fails = pool-right (largePool 1024)
 
--- the six calls that test the pool, each on this register
+-- the six calls that test the pool, each on this register, and their answers
 abbrev pub sixCalls : List Call
 sixCalls = inserting 5 50 ∷ deleting 5 ∷ writing ∷ beginning 0 5 ∷ turning 7 ∷ givingUp 7 ∷ []
 
 abbrev pub answersOn : List ℕ → List Call → List Answer
 answersOn p [] = []
-answersOn p (c ∷ cs) = call (state p register) c .answer ∷ answersOn p cs
+answersOn p (c ∷ cs) = call (state p largeRegister) c .answer ∷ answersOn p cs
 
-abbrev whenFit : List Answer
+abbrev pub whenFit : List Answer
 whenFit = ok ∷ refused 9 ∷ refused 7 ∷ ok ∷ absent ∷ ok ∷ []
 
-abbrev whenPast : List Answer
+abbrev pub whenPast : List Answer
 whenPast = refused 2 ∷ refused 2 ∷ refused 2 ∷ refused 2 ∷ refused 2 ∷ refused 2 ∷ []
 
 answers-fit : (p : List ℕ) → lengthRight p ≡ true → poolInRange p ≡ true → nodes p ≡ 1023 → answersOn p sixCalls ≡ whenFit
@@ -119,10 +119,10 @@ answers-past p a b = rw (a, b)
 
 -- every word at its largest is accepted; one past it gives 2
 pub record LargePasses : Type 0 where
-  pub largest : answersOn (pool 1023) sixCalls ≡ ok ∷ refused 9 ∷ refused 7 ∷ ok ∷ absent ∷ ok ∷ []
-  pub past : answersOn (pool 1024) sixCalls ≡ refused 2 ∷ refused 2 ∷ refused 2 ∷ refused 2 ∷ refused 2 ∷ refused 2 ∷ []
+  pub largest : answersOn (largePool 1023) sixCalls ≡ whenFit
+  pub past : answersOn (largePool 1024) sixCalls ≡ whenPast
 
 pub large-passes : LargePasses
 large-passes =
     record
-    { largest = answers-fit (pool 1023) (pool-length 1023) fits (pool-nodes 1023); past = answers-past (pool 1024) (pool-length 1024) fails }
+    { largest = answers-fit (largePool 1023) (pool-length 1023) fits (pool-nodes 1023); past = answers-past (largePool 1024) (pool-length 1024) fails }

@@ -7,7 +7,8 @@ use Rattle.datatypes.specs.declared.Link.the-variants.{Root, Left, Right}
 use Rattle.datatypes.specs.declared.Step.the-variants.{Insert, Detach}
 use Rattle.spec.specs.Register.{State}
 use Rattle.spec.specs.Calls.{ok, go, more, done, refused}
-use Rattle.table.specs.Picture.{Row, row, root_held_awaited_stores_, picture, drawn, _on_, right, colour, _of_:=_, free:=_, held:=_, count:=_, reader_:=_, store_:=_, reads, _but_}
+use Rattle.table.specs.Picture.{Row, row, root_held_awaited_stores_, picture, drawn, _on_, right, colour, _of_:=_, free:=_, held:=_, count:=_}
+use Rattle.table.specs.Picture.{reader_:=_, store_:=_, reads, _but_}
 use Rattle.table.specs.Entry.{I, D, W, R, E, _⇒_, Entry, entry}
 
 -- the numbers from n on, so many

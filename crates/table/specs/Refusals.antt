@@ -3,7 +3,9 @@ use mathlib.Core.List.{List, [], _∷_}
 use Rattle.datatypes.specs.declared.Link.the-variants.{Root, Left, Right}
 use Rattle.datatypes.specs.declared.Step.the-variants.{Vacant, Insert, Unlink, Adopt, Publish, Detach}
 use Rattle.spec.specs.Calls.{ok, go, absent, found, done, refused}
-use Rattle.table.specs.Picture.{row, slot_wants_at_, root_held_awaited_stores_, picture, none, _on_, key, value, left, right, colour, standing, holders, next, _of_:=_, root:=_, first:=_, last:=_, free:=_, held:=_, awaited:=_, count:=_, reader_:=_, store_:=_, reads, idle, _but_, words, unset}
+use Rattle.table.specs.Picture.{row, slot_wants_at_, root_held_awaited_stores_, picture, none, _on_, key, value, left, right, colour, standing}
+use Rattle.table.specs.Picture.{holders, next, _of_:=_, root:=_, first:=_, last:=_, free:=_, held:=_, awaited:=_, count:=_, reader_:=_}
+use Rattle.table.specs.Picture.{store_:=_, reads, idle, _but_, words, unset}
 use Rattle.table.specs.Entry.{P, I, D, W, B, R, E, _⇒_, stands, Entry, entry}
 use Rattle.table.specs.Lent.{three, planned}
 

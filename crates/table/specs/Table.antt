@@ -1,4 +1,4 @@
--- Every entry of the tables passes: computed over the definitions of crate spec, each named below.
+-- Every entry of the tables passes. It is computed over the definitions of crate spec, each named below.
 use mathlib.Core.Path.{_≡_, refl}
 use mathlib.Core.Bool.{true}
 use Rattle.base.specs.Walk.{allFrom, allIn, foldFrom, foldIn}
@@ -7,8 +7,10 @@ use Rattle.spec.specs.Register.{withRoot, withQueue, withHeld, withReader, with
 use Rattle.spec.specs.Register.{putSlot, dropSlot, readingSlots, storeInRange, registerInRange, freshRegister, fresh, writeOf, lessFirst}
 use Rattle.spec.specs.Free.{takeFree, fillNode, takeNode, freeNode, retire, retireTwo, release, endReading}
 use Rattle.spec.specs.Search.{seek, trail, leftmost}
-use Rattle.spec.specs.Plan.{insertFixup, fixupAfterInsert, paintInsertFixup, redSibling, deleteFixup, fixupAfterRemoval, paintDeleteLevels, paintDeleteFixup, insertPlan, unlinkPlan, deletePlan}
-use Rattle.spec.specs.Turn.{insertStore, diagLower, diagRaise, zigLowerA, zigLowerC, zigRaise, unlinkStore, adoptStore, replaceStore, movedWrite, publishStore, detachStore, stepFinds, stepMade}
+use Rattle.spec.specs.Plan.{insertFixup, fixupAfterInsert, paintInsertFixup, redSibling, deleteFixup, fixupAfterRemoval, paintDeleteLevels}
+use Rattle.spec.specs.Plan.{paintDeleteFixup, insertPlan, unlinkPlan, deletePlan}
+use Rattle.spec.specs.Turn.{insertStore, diagLower, diagRaise, zigLowerA, zigLowerC, zigRaise, unlinkStore, adoptStore, replaceStore, movedWrite}
+use Rattle.spec.specs.Turn.{publishStore, detachStore, stepFinds, stepMade}
 use Rattle.spec.specs.Calls.{setUp, insert, delete, stored, writerTurn, begin, readerStep, readerTurn, giveUp}
 use Rattle.table.specs.Entry.{allPass}
 use Rattle.table.specs.Starred.{starred}
@@ -39,4 +41,15 @@ unfolding allFrom allIn foldFrom foldIn word setWord nodeInRange poolInRange len
     deleteFixup fixupAfterRemoval paintDeleteLevels paintDeleteFixup insertPlan unlinkPlan deletePlan insertStore diagLower diagRaise zigLowerA
     zigLowerC zigRaise unlinkStore adoptStore replaceStore movedWrite publishStore detachStore stepFinds stepMade setUp insert delete stored
     writerTurn begin readerStep readerTurn giveUp
-tables-pass = record { starred = refl; readers = refl; inserts = refl; deletes = refl; refusals = refl; paths = refl; damaged = refl; plainLists = lists-pass; large = large-passes }
+tables-pass =
+    record {
+      starred = refl;
+      readers = refl;
+      inserts = refl;
+      deletes = refl;
+      refusals = refl;
+      paths = refl;
+      damaged = refl;
+      plainLists = lists-pass;
+      large = large-passes;
+    }

@@ -1,5 +1,4 @@
 // Text as bytes: a number and a word put into a buffer, with the byte that ends its field.
-ghost use mathlib.Core.Path.{_≡_};
 ghost use mathlib.Core.List.{[], _∷_, _++_};
 ghost use Prim.Native.Nat.{_≤_, _<_, _+_};
 ghost use lib.ListN.{length};
