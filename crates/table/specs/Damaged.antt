@@ -146,6 +146,165 @@ damaged =
     (W ⇒ done (Left 2) 0
     ∷ leaves (standing of 1 := 2 ∷ holders of 1 := 129 ∷ left of 2 := 0 ∷ held:= 2 ∷ atRest ∷ [])
     ∷ [])
+    ∷ entry "a node freed by a retire: holders 0, whatever they were" (three but (count:= 1 ∷ store 0 := (Unlink on Left 2) ∷ holders of 1 := 64 ∷ []))
+    (W ⇒ done (Left 2) 0
+    ∷ leaves (standing of 1 := 0 ∷ holders of 1 := 0 ∷ left of 2 := 0 ∷ next of 8 := 1 ∷ last:= 1 ∷ free:= 6 ∷ held:= 2 ∷ atRest ∷ [])
+    ∷ [])
+    ∷ entry "a node is retired whatever it stands as: none reading"
+    (three but (count:= 1 ∷ store 0 := (Unlink on Left 2) ∷ standing of 1 := 2 ∷ holders of 1 := 64 ∷ next of 1 := 5 ∷ []))
+    (W ⇒ done (Left 2) 0
+    ∷ leaves (standing of 1 := 0 ∷ holders of 1 := 0 ∷ next of 1 := 0 ∷ left of 2 := 0 ∷ next of 8 := 1 ∷ last:= 1 ∷ free:= 6 ∷ held:= 2 ∷ atRest ∷ [])
+    ∷ [])
+    ∷ entry "a node is retired whatever it stands as: slot 0 reading"
+    (three but (count:= 1 ∷ store 0 := (Unlink on Left 2) ∷ standing of 1 := 0 ∷ next of 1 := 5 ∷ reader 0 := (reads 5 0) ∷ []))
+    (W ⇒ done (Left 2) 0
+    ∷ leaves (standing of 1 := 2 ∷ holders of 1 := 1 ∷ left of 2 := 0 ∷ held:= 2 ∷ atRest ∷ [])
+    ∷ [])
+    ∷ entry "parent and aunt black, then the grandparent red: the aunt is the grandparent itself"
+    (drawn 8
+    (picture (root 3 held 3 awaited 0 stores 0) [] (row 1 10 100 1 0 0 ∷ row 2 20 200 1 1 2 ∷ row 3 30 300 0 2 0 ∷ []) [] (4 ∷ 5 ∷ 6 ∷ 7 ∷ 8 ∷ []))
+    [])
+    (I 5 50 ⇒ ok ∷ W ⇒ done (Left 1) 4
+    ∷ leaves (left of 1 := 4 ∷ colour of 1 := 0 ∷ fills (row 4 5 50 1 0 0) ∷ first:= 5 ∷ free:= 4 ∷ held:= 4 ∷ [])
+    ∷ [])
+    ∷ entry "a red x asks for no sibling"
+    (drawn 8
+    (picture (root 2 held 3 awaited 0 stores 0) [] (row 1 10 100 0 3 0 ∷ row 2 20 200 0 1 0 ∷ row 3 5 50 1 0 0 ∷ []) [] (4 ∷ 5 ∷ 6 ∷ 7 ∷ 8 ∷ []))
+    [])
+    (D 10 ⇒ ok ∷ W ⇒ done (Left 2) 3
+    ∷ stands (picture (root 2 held 2 awaited 0 stores 0) [] (row 2 20 200 0 3 0 ∷ row 3 5 50 0 0 0 ∷ []) [] (4 ∷ 5 ∷ 6 ∷ 7 ∷ 8 ∷ 1 ∷ []))
+    ∷ [])
+    ∷ entry "12: no sibling on the second level, in the delete"
+    (drawn 8
+    (picture (root 4 held 4 awaited 0 stores 0)
+    [] (row 1 10 100 0 0 0 ∷ row 2 20 200 0 1 3 ∷ row 3 30 300 0 0 0 ∷ row 4 40 400 0 2 0 ∷ []) [] (5 ∷ 6 ∷ 7 ∷ 8 ∷ []))
+    [])
+    (D 10 ⇒ refused 12
+    ∷ [])
+    ∷ entry "12: no sibling on the second level, in the turn"
+    (drawn 8
+    (picture (root 4 held 4 awaited 0 stores 1)
+    [] (row 1 10 100 0 0 0 ∷ row 2 20 200 0 1 3 ∷ row 3 30 300 0 0 0 ∷ row 4 40 400 0 2 0 ∷ []) [] (5 ∷ 6 ∷ 7 ∷ 8 ∷ []))
+    ((Unlink on Left 2) ∷ []))
+    (W ⇒ refused 12
+    ∷ [])
+    ∷ entry "12: Detach without a node to its right, beside a black sibling"
+    (three but (count:= 1 ∷ store 0 := (Detach 20 on Root) ∷ colour of 1 := 0 ∷ right of 2 := 0 ∷ []))
+    (W ⇒ refused 12
+    ∷ [])
+    ∷ entry "12: Replace without a right child, beside a black sibling"
+    (three but (count:= 1 ∷ store 0 := (Replace on Root) ∷ colour of 1 := 0 ∷ right of 2 := 0 ∷ []))
+    (W ⇒ refused 12
+    ∷ [])
+    ∷ entry "12: Unlink where the link is 0, beside a black sibling"
+    (three but (count:= 1 ∷ store 0 := (Unlink on Left 2) ∷ left of 2 := 0 ∷ colour of 3 := 0 ∷ []))
+    (W ⇒ refused 12
+    ∷ [])
+    ∷ entry "an adopt where B has no left child names none" (three but (count:= 1 ∷ store 0 := (Adopt on Root) ∷ left of 2 := 0 ∷ left of 3 := 1 ∷ []))
+    (W ⇒ done (Left 3) 0
+    ∷ leaves (left of 3 := 0 ∷ atRest ∷ [])
+    ∷ [])
+    ∷ entry "an insert's diag names no outer child" (three but (count:= 1 ∷ store 0 := (DiagRaise side.R ForInsert on Root) ∷ []))
+    (W ⇒ done Root 3
+    ∷ leaves (standing of 2 := 0 ∷ colour of 3 := 0 ∷ next of 8 := 2 ∷ root:= 3 ∷ last:= 2 ∷ free:= 6 ∷ atRest ∷ [])
+    ∷ [])
+    ∷ entry "an insert at a link that holds a node stores over it" (three but (count:= 1 ∷ store 0 := (Insert 25 250 on Right 2) ∷ []))
+    (W ⇒ done (Right 2) 4
+    ∷ leaves (right of 2 := 4 ∷ fills (row 4 25 250 1 0 0) ∷ first:= 5 ∷ free:= 4 ∷ held:= 4 ∷ atRest ∷ [])
+    ∷ [])
+    ∷ entry "a begin leaves the awaited slots as they were, its own too" (three but (awaited:= 36 ∷ []))
+    (B 5 30 ⇒ ok
+    ∷ leaves (reader 5 := (reads 30 0) ∷ [])
+    ∷ [])
+    ∷ entry "a zig for a red sibling, which no write plans: the risen node black, the root as it was"
+    (five but (count:= 1 ∷ store 0 := (ZigRaise side.R RedSibling on Right 2) ∷ colour of 2 := 1 ∷ left of 5 := 6 ∷ fills (row 6 45 450 1 0 0) ∷ first:= 7 ∷ []))
+    (W ⇒ done (Right 2) 6
+    ∷ leaves (right of 2 := 6 ∷ standing of 4 := 0 ∷ next of 4 := 5 ∷ standing of 5 := 0 ∷ colour of 6 := 0 ∷ next of 12 := 4 ∷ last:= 5 ∷ free:= 9 ∷ atRest ∷ [])
+    ∷ [])
+    ∷ entry "an insert does not test the taking of nodes; its turn does" (three but (first:= 0 ∷ []))
+    (I 25 250 ⇒ ok ∷ W ⇒ refused 12
+    ∷ [])
+    ∷ entry "a delete does not test the taking of nodes; its turn does" (five but (first:= 0 ∷ []))
+    (D 20 ⇒ ok ∷ W ⇒ refused 12
+    ∷ [])
+    ∷ entry "delete, no red nephew, up to a red root: it turns black" (three but (colour of 1 := 0 ∷ colour of 2 := 1 ∷ colour of 3 := 0 ∷ []))
+    (D 10 ⇒ ok ∷ W ⇒ done (Left 2) 0
+    ∷ leaves (standing of 1 := 0 ∷ left of 2 := 0 ∷ colour of 2 := 0 ∷ colour of 3 := 1 ∷ next of 8 := 1 ∷ last:= 1 ∷ free:= 6 ∷ held:= 2 ∷ [])
+    ∷ [])
+    ∷ entry "DiagRaise takes no node: the queue may be empty" (five but (count:= 1 ∷ store 0 := (DiagRaise side.R ForInsert on Root) ∷ first:= 0 ∷ []))
+    (W ⇒ done Root 4
+    ∷ leaves (standing of 2 := 0 ∷ root:= 4 ∷ first:= 2 ∷ last:= 2 ∷ free:= 8 ∷ atRest ∷ [])
+    ∷ [])
+    ∷ entry "ZigRaise takes no node: the queue may be empty" (five but (count:= 1 ∷ store 0 := (ZigRaise side.R BlackSibling on Root) ∷ first:= 0 ∷ []))
+    (W ⇒ done Root 3
+    ∷ leaves (standing of 2 := 0 ∷ next of 2 := 4 ∷ colour of 3 := 0 ∷ standing of 4 := 0 ∷ root:= 3 ∷ first:= 2 ∷ last:= 4 ∷ free:= 9 ∷ atRest ∷ [])
+    ∷ [])
+    ∷ entry "Adopt takes no node: the queue may be empty" (three but (count:= 1 ∷ store 0 := (Adopt on Root) ∷ first:= 0 ∷ []))
+    (W ⇒ done (Left 3) 1
+    ∷ leaves (left of 3 := 1 ∷ atRest ∷ [])
+    ∷ [])
+    ∷ entry "Replace takes no node: the queue may be empty" (three but (count:= 1 ∷ store 0 := (Replace on Root) ∷ first:= 0 ∷ []))
+    (W ⇒ done Root 3
+    ∷ leaves (standing of 2 := 0 ∷ colour of 3 := 0 ∷ root:= 3 ∷ first:= 2 ∷ last:= 2 ∷ free:= 6 ∷ held:= 2 ∷ atRest ∷ [])
+    ∷ [])
+    ∷ entry "Detach takes no node: the queue may be empty" (five but (count:= 1 ∷ store 0 := (Detach 20 on Root) ∷ first:= 0 ∷ []))
+    (W ⇒ done (Left 4) 0
+    ∷ leaves (standing of 3 := 0 ∷ left of 4 := 0 ∷ first:= 3 ∷ last:= 3 ∷ free:= 8 ∷ atRest ∷ [])
+    ∷ [])
+    ∷ entry "a delete leaves a red root red: unlink" (three but (colour of 2 := 1 ∷ []))
+    (D 10 ⇒ ok ∷ W ⇒ done (Left 2) 0
+    ∷ leaves (standing of 1 := 0 ∷ left of 2 := 0 ∷ next of 8 := 1 ∷ last:= 1 ∷ free:= 6 ∷ held:= 2 ∷ [])
+    ∷ [])
+    ∷ entry "a delete leaves a red root red: publish and detach" (five but (colour of 2 := 1 ∷ []))
+    (D 20 ⇒ ok ∷ W ⇒ more Root 6 ∷ W ⇒ done (Left 4) 0
+    ∷ leaves (standing of 2 := 0 ∷ next of 2 := 3 ∷ standing of 3 := 0 ∷ left of 4 := 0 ∷ fills (row 6 30 300 1 1 4) ∷ next of 12 := 2 ∷ root:= 6 ∷ first:= 7
+    ∷ last:= 3 ∷ free:= 8 ∷ held:= 4 ∷ [])
+    ∷ [])
+    ∷ entry "a delete leaves a red root red: zig"
+    (five but (count:= 1 ∷ store 0 := (ZigRaise side.R BlackSibling on Right 2) ∷ colour of 2 := 1 ∷ left of 5 := 6 ∷ fills (row 6 45 450 1 0 0) ∷ first:= 7 ∷ []))
+    (W ⇒ done (Right 2) 6
+    ∷ leaves (right of 2 := 6 ∷ standing of 4 := 0 ∷ next of 4 := 5 ∷ standing of 5 := 0 ∷ colour of 6 := 0 ∷ next of 12 := 4 ∷ last:= 5 ∷ free:= 9 ∷ atRest ∷ [])
+    ∷ [])
+    ∷ entry "a red node lost is no loss: a red x stays red: unlink"
+    (drawn 8
+    (picture (root 2 held 3 awaited 0 stores 0) [] (row 1 10 100 1 3 0 ∷ row 2 20 200 0 1 0 ∷ row 3 5 50 1 0 0 ∷ []) [] (4 ∷ 5 ∷ 6 ∷ 7 ∷ 8 ∷ []))
+    [])
+    (D 10 ⇒ ok ∷ W ⇒ done (Left 2) 3
+    ∷ stands (picture (root 2 held 2 awaited 0 stores 0) [] (row 2 20 200 0 3 0 ∷ row 3 5 50 1 0 0 ∷ []) [] (4 ∷ 5 ∷ 6 ∷ 7 ∷ 8 ∷ 1 ∷ []))
+    ∷ [])
+    ∷ entry "a red node lost is no loss: a red x stays red: replace"
+    (three but (right of 3 := 4 ∷ fills (row 4 40 400 1 0 0) ∷ first:= 5 ∷ free:= 4 ∷ held:= 4 ∷ []))
+    (D 20 ⇒ ok ∷ W ⇒ more (Left 3) 1 ∷ W ⇒ done Root 3
+    ∷ leaves (standing of 2 := 0 ∷ left of 3 := 1 ∷ colour of 3 := 0 ∷ next of 8 := 2 ∷ root:= 3 ∷ last:= 2 ∷ free:= 5 ∷ held:= 3 ∷ [])
+    ∷ [])
+    ∷ entry "a red node lost is no loss: a red x stays red: detach"
+    (five but (right of 3 := 6 ∷ fills (row 6 35 350 1 0 0) ∷ first:= 7 ∷ free:= 6 ∷ held:= 6 ∷ []))
+    (D 20 ⇒ ok ∷ W ⇒ more Root 7 ∷ W ⇒ done (Left 4) 6
+    ∷ leaves (standing of 2 := 0 ∷ next of 2 := 3 ∷ standing of 3 := 0 ∷ left of 4 := 6 ∷ fills (row 7 30 300 0 1 4) ∷ next of 12 := 2 ∷ root:= 7 ∷ first:= 8
+    ∷ last:= 3 ∷ free:= 7 ∷ held:= 5 ∷ [])
+    ∷ [])
+    ∷ entry "a reader goes by links alone, whatever the nodes stand as"
+    (three but (standing of 1 := 0 ∷ standing of 2 := 2 ∷ holders of 2 := 4 ∷ reader 0 := (reads 10 0) ∷ []))
+    (R 0 ⇒ go ∷ R 0 ⇒ go
+    ∷ leaves (reader 0 := (reads 10 1) ∷ [])
+    ∷ [])
+    ∷ entry "slot 0 is awaited like any other" five
+    (B 0 10 ⇒ ok ∷ D 20 ⇒ ok ∷ W ⇒ more Root 6 ∷ W ⇒ wait ∷ E 0 ⇒ ok ∷ W ⇒ done (Left 4) 0
+    ∷ [])
+    ∷ entry "slot 7 is awaited like any other" five
+    (B 7 10 ⇒ ok ∷ D 20 ⇒ ok ∷ W ⇒ more Root 6 ∷ W ⇒ wait ∷ E 7 ⇒ ok ∷ W ⇒ done (Left 4) 0
+    ∷ [])
+    ∷ entry "decision 6: a publish copies the node that it carries" (five but (count:= 1 ∷ store 0 := (Publish 5 on Root) ∷ []))
+    (W ⇒ done Root 6
+    ∷ leaves (standing of 2 := 0 ∷ fills (row 6 50 500 0 1 4) ∷ next of 12 := 2 ∷ root:= 6 ∷ first:= 7 ∷ last:= 2 ∷ held:= 4 ∷ atRest ∷ [])
+    ∷ [])
+    ∷ entry "decision 8: at a publish the stores on B's right link move to the copy, and no others"
+    (five but (count:= 5 ∷ store 0 := (Publish 3 on Root) ∷ store 1 := (Unlink on Left 2) ∷ store 2 := (Unlink on Right 4) ∷ store 3 := (Unlink on Right 2)
+    ∷ store 4 := (Unlink on Root) ∷ []))
+    (W ⇒ more Root 6
+    ∷ leaves (standing of 2 := 0 ∷ fills (row 6 30 300 0 1 4) ∷ next of 12 := 2 ∷ root:= 6 ∷ first:= 7 ∷ last:= 2 ∷ held:= 4 ∷ count:= 4
+    ∷ store 0 := (Unlink on Left 2) ∷ store 1 := (Unlink on Right 4) ∷ store 2 := (Unlink on Right 6) ∷ store 3 := (Unlink on Root) ∷ store 4 := none ∷ [])
+    ∷ [])
     ∷ entry "decision 10: red sibling, and the next sibling red as well" (five but (colour of 4 := 1 ∷ []))
     (D 10 ⇒ ok ∷ W ⇒ more (Left 2) 0 ∷ W ⇒ more (Left 4) 6 ∷ W ⇒ done Root 4
     ∷ stands (picture (root 4 held 4 awaited 0 stores 0)
@@ -162,6 +321,14 @@ damaged =
     ∷ [])
     ∷ entry "decision 11: 12 for an insert directly below a red root" (single but (colour of 1 := 1 ∷ []))
     (I 5 50 ⇒ refused 12
+    ∷ [])
+    ∷ entry "decision 11: 12 in a turn, for an insert directly below a red root"
+    (single but (colour of 1 := 1 ∷ count:= 1 ∷ store 0 := (Insert 5 50 on Left 1) ∷ []))
+    (W ⇒ refused 12
+    ∷ [])
+    ∷ entry "decision 11: 12 in a turn, for an insert whose red grandparent comes below a red root"
+    (five but (colour of 2 := 1 ∷ count:= 1 ∷ store 0 := (Insert 60 600 on Right 5) ∷ []))
+    (W ⇒ refused 12
     ∷ [])
     ∷ entry "decision 12: an insert under a red parent whose link its descent does not meet"
     (five but (count:= 1 ∷ store 0 := (Insert 60 600 on Left 3) ∷ []))
@@ -192,6 +359,19 @@ damaged =
     ∷ [])
     ∷ entry "decision 12: the link on the other side is another link: right" (five but (count:= 1 ∷ store 0 := (Insert 45 450 on Right 5) ∷ []))
     (W ⇒ refused 12
+    ∷ [])
+    ∷ entry "decision 12: a replace whose link its descent does not meet"
+    (five but (count:= 1 ∷ store 0 := (Replace on Right 2) ∷ key of 2 := 60 ∷ colour of 5 := 0 ∷ []))
+    (W ⇒ refused 12
+    ∷ [])
+    ∷ entry "decision 12: such a replace by a red node goes by no path" (five but (count:= 1 ∷ store 0 := (Replace on Right 2) ∷ key of 2 := 60 ∷ []))
+    (W ⇒ done (Right 2) 5
+    ∷ leaves (right of 2 := 5 ∷ standing of 4 := 0 ∷ colour of 5 := 0 ∷ next of 12 := 4 ∷ last:= 4 ∷ free:= 8 ∷ held:= 4 ∷ atRest ∷ [])
+    ∷ [])
+    ∷ entry "decision 12: such a replace with a red x goes by no path"
+    (five but (count:= 1 ∷ store 0 := (Replace on Right 2) ∷ key of 2 := 60 ∷ colour of 5 := 0 ∷ right of 5 := 3 ∷ []))
+    (W ⇒ done (Right 2) 5
+    ∷ leaves (right of 2 := 5 ∷ colour of 3 := 0 ∷ standing of 4 := 0 ∷ next of 12 := 4 ∷ last:= 4 ∷ free:= 8 ∷ held:= 4 ∷ atRest ∷ [])
     ∷ [])
     ∷ entry "decision 13: a reader goes on in a circle" (three but (right of 3 := 3 ∷ reader 0 := (reads 40 2) ∷ []))
     (R 0 ⇒ go ∷ R 0 ⇒ go ∷ R 0 ⇒ go
@@ -232,6 +412,15 @@ damaged =
     (D 20 ⇒ ok ∷ W ⇒ more (Right 1) 0 ∷ W ⇒ more (Right 1) 3 ∷ W ⇒ refused 12 ∷ W ⇒ refused 12 ∷ I 5 50 ⇒ refused 6 ∷ D 10 ⇒ refused 6 ∷ B 0 30 ⇒ ok
     ∷ R 0 ⇒ go ∷ R 0 ⇒ go ∷ P ⇒ ok
     ∷ stands (picture (root 0 held 0 awaited 0 stores 0) [] [] [] (1 ∷ 2 ∷ 3 ∷ 4 ∷ 5 ∷ 6 ∷ 7 ∷ 8 ∷ []))
+    ∷ [])
+    ∷ entry "decision 15: the aunt is read after the store: three nodes, the root is taken and the aunt keeps her red"
+    (three but (standing of 2 := 0 ∷ first:= 2 ∷ next of 2 := 4 ∷ []))
+    (I 5 50 ⇒ ok ∷ W ⇒ done (Left 1) 2
+    ∷ leaves (left of 1 := 2 ∷ colour of 1 := 0 ∷ fills (row 2 5 50 0 0 0) ∷ first:= 4 ∷ free:= 4 ∷ held:= 4 ∷ [])
+    ∷ [])
+    ∷ entry "decision 15: the aunt is read after the store: on the left" (three but (standing of 2 := 0 ∷ first:= 2 ∷ next of 2 := 4 ∷ []))
+    (I 35 350 ⇒ ok ∷ W ⇒ done (Right 3) 2
+    ∷ leaves (right of 3 := 2 ∷ colour of 3 := 0 ∷ fills (row 2 35 350 0 0 0) ∷ first:= 4 ∷ free:= 4 ∷ held:= 4 ∷ [])
     ∷ [])
     ∷ entry "decision 16: a rotation's nodes are read at its turn: a raise of what stands there"
     (five but (count:= 1 ∷ store 0 := (DiagRaise side.R ForInsert on Root) ∷ []))
@@ -312,6 +501,10 @@ damaged =
     ∷ entry "decision 23: the freed node is the last itself" (three but (count:= 1 ∷ store 0 := (Unlink on Left 2) ∷ last:= 1 ∷ []))
     (W ⇒ done (Left 2) 0
     ∷ leaves (standing of 1 := 0 ∷ left of 2 := 0 ∷ free:= 6 ∷ held:= 2 ∷ atRest ∷ [])
+    ∷ [])
+    ∷ entry "decision 23: last 0: no node's next free is written" (three but (count:= 1 ∷ store 0 := (Unlink on Right 2) ∷ last:= 0 ∷ []))
+    (W ⇒ done (Right 2) 0
+    ∷ leaves (right of 2 := 0 ∷ standing of 3 := 0 ∷ last:= 3 ∷ free:= 6 ∷ held:= 2 ∷ atRest ∷ [])
     ∷ [])
     ∷ entry "decision 24: a retired node without a holder is freed at any end; a node not retired keeps its holders"
     (three but (reader 3 := (reads 5 0) ∷ standing of 8 := 2 ∷ holders of 1 := 255 ∷ holders of 5 := 8 ∷ standing of 7 := 2 ∷ holders of 7 := 4 ∷ []

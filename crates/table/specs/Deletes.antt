@@ -721,4 +721,98 @@ deletes =
     (row 1 10 100 0 0 0 ∷ row 4 40 400 0 0 0 ∷ row 5 50 500 1 4 6 ∷ row 6 60 600 0 0 0 ∷ row 7 30 300 0 1 5 ∷ [])
     (row 3 30 300 1 0 0 keptBy 4 ∷ []) (8 ∷ 9 ∷ 10 ∷ 11 ∷ 12 ∷ 2 ∷ []))
     ∷ [])
+    ∷ entry "delete, no red nephew, then a red sibling, none reading"
+    (drawn 16
+    (picture (root 4 held 11 awaited 0 stores 0)
+    []
+    (row 1 10 100 0 0 0 ∷ row 2 20 200 0 1 3 ∷ row 3 30 300 0 0 0 ∷ row 4 40 400 0 2 8 ∷ row 5 50 500 0 0 0 ∷ row 6 60 600 0 5 7 ∷ row 7 70 700 0 0 0
+    ∷ row 8 80 800 1 6 10 ∷ row 9 90 900 0 0 0 ∷ row 10 100 1000 0 9 11 ∷ row 11 110 1100 0 0 0 ∷ [])
+    [] (12 ∷ 13 ∷ 14 ∷ 15 ∷ 16 ∷ []))
+    [])
+    (D 10 ⇒ ok ∷ W ⇒ more (Left 2) 0 ∷ W ⇒ more (Left 8) 12 ∷ W ⇒ done Root 8
+    ∷ stands (picture (root 8 held 10 awaited 0 stores 0)
+    []
+    (row 2 20 200 0 0 3 ∷ row 3 30 300 1 0 0 ∷ row 5 50 500 0 0 0 ∷ row 6 60 600 1 5 7 ∷ row 7 70 700 0 0 0 ∷ row 8 80 800 0 12 10 ∷ row 9 90 900 0 0 0
+    ∷ row 10 100 1000 0 9 11 ∷ row 11 110 1100 0 0 0 ∷ row 12 40 400 0 2 6 ∷ [])
+    [] (13 ∷ 14 ∷ 15 ∷ 16 ∷ 1 ∷ 4 ∷ []))
+    ∷ [])
+    ∷ entry "delete, no red nephew twice, then a red parent, none reading"
+    (drawn 16
+    (picture (root 8 held 11 awaited 0 stores 0)
+    []
+    (row 1 10 100 0 0 0 ∷ row 2 20 200 0 1 3 ∷ row 3 30 300 0 0 0 ∷ row 4 40 400 1 2 6 ∷ row 5 50 500 0 0 0 ∷ row 6 60 600 0 5 7 ∷ row 7 70 700 0 0 0
+    ∷ row 8 80 800 0 4 10 ∷ row 9 90 900 0 0 0 ∷ row 10 100 1000 0 9 11 ∷ row 11 110 1100 0 0 0 ∷ [])
+    [] (12 ∷ 13 ∷ 14 ∷ 15 ∷ 16 ∷ []))
+    [])
+    (D 10 ⇒ ok ∷ W ⇒ done (Left 2) 0
+    ∷ stands (picture (root 8 held 10 awaited 0 stores 0)
+    []
+    (row 2 20 200 0 0 3 ∷ row 3 30 300 1 0 0 ∷ row 4 40 400 0 2 6 ∷ row 5 50 500 0 0 0 ∷ row 6 60 600 1 5 7 ∷ row 7 70 700 0 0 0 ∷ row 8 80 800 0 4 10
+    ∷ row 9 90 900 0 0 0 ∷ row 10 100 1000 0 9 11 ∷ row 11 110 1100 0 0 0 ∷ [])
+    [] (12 ∷ 13 ∷ 14 ∷ 15 ∷ 16 ∷ 1 ∷ []))
+    ∷ [])
+    ∷ entry "delete, right child without left child: on a left link, no red nephew twice, up to the root"
+    (drawn 12
+    (picture (root 4 held 7 awaited 0 stores 0)
+    []
+    (row 1 10 100 0 0 0 ∷ row 2 20 200 0 1 3 ∷ row 3 30 300 0 0 0 ∷ row 4 40 400 0 2 6 ∷ row 5 50 500 0 0 0 ∷ row 6 60 600 0 5 7 ∷ row 7 70 700 0 0 0 ∷ [])
+    [] (8 ∷ 9 ∷ 10 ∷ 11 ∷ 12 ∷ []))
+    [])
+    (B 2 20 ⇒ ok ∷ D 20 ⇒ ok ∷ W ⇒ more (Left 3) 1 ∷ W ⇒ done (Left 4) 3
+    ∷ stands (picture (root 4 held 6 awaited 0 stores 0)
+    (slot 2 wants 20 at 0 ∷ [])
+    (row 1 10 100 1 0 0 ∷ row 3 30 300 0 1 0 ∷ row 4 40 400 0 3 6 ∷ row 5 50 500 0 0 0 ∷ row 6 60 600 1 5 7 ∷ row 7 70 700 0 0 0 ∷ [])
+    (row 2 20 200 0 1 3 keptBy 4 ∷ []) (8 ∷ 9 ∷ 10 ∷ 11 ∷ 12 ∷ []))
+    ∷ [])
+    ∷ entry "delete, right child without left child: a red node, C takes its red, none reading"
+    (drawn 12
+    (picture (root 2 held 6 awaited 0 stores 0)
+    [] (row 1 10 100 0 0 0 ∷ row 2 20 200 0 1 4 ∷ row 3 30 300 0 0 0 ∷ row 4 40 400 1 3 5 ∷ row 5 50 500 0 0 6 ∷ row 6 60 600 1 0 0 ∷ []) []
+    (7 ∷ 8 ∷ 9 ∷ 10 ∷ 11 ∷ 12 ∷ []))
+    [])
+    (D 40 ⇒ ok ∷ W ⇒ more (Left 5) 3 ∷ W ⇒ done (Right 2) 5
+    ∷ stands (picture (root 2 held 5 awaited 0 stores 0)
+    [] (row 1 10 100 0 0 0 ∷ row 2 20 200 0 1 5 ∷ row 3 30 300 0 0 0 ∷ row 5 50 500 1 3 6 ∷ row 6 60 600 0 0 0 ∷ []) []
+    (7 ∷ 8 ∷ 9 ∷ 10 ∷ 11 ∷ 12 ∷ 4 ∷ []))
+    ∷ [])
+    ∷ entry "delete, other: a red node on a left link, the copy red"
+    (drawn 12
+    (picture (root 5 held 6 awaited 0 stores 0)
+    [] (row 1 10 100 0 0 0 ∷ row 2 20 200 1 1 4 ∷ row 3 30 300 1 0 0 ∷ row 4 40 400 0 3 0 ∷ row 5 50 500 0 2 6 ∷ row 6 60 600 0 0 0 ∷ []) []
+    (7 ∷ 8 ∷ 9 ∷ 10 ∷ 11 ∷ 12 ∷ []))
+    [])
+    (D 20 ⇒ ok ∷ W ⇒ more (Left 5) 7 ∷ B 2 20 ⇒ ok ∷ W ⇒ done (Left 4) 0
+    ∷ stands (picture (root 5 held 5 awaited 0 stores 0)
+    (slot 2 wants 20 at 0 ∷ [])
+    (row 1 10 100 0 0 0 ∷ row 4 40 400 0 0 0 ∷ row 5 50 500 0 7 6 ∷ row 6 60 600 0 0 0 ∷ row 7 30 300 1 1 4 ∷ [])
+    (row 3 30 300 1 0 0 keptBy 4 ∷ []) (8 ∷ 9 ∷ 10 ∷ 11 ∷ 12 ∷ 2 ∷ []))
+    ∷ [])
+    ∷ entry "delete, other: a red node on a right link, none reading"
+    (drawn 12
+    (picture (root 2 held 6 awaited 0 stores 0)
+    [] (row 1 10 100 0 0 0 ∷ row 2 20 200 0 1 4 ∷ row 3 30 300 0 0 0 ∷ row 4 40 400 1 3 6 ∷ row 5 50 500 1 0 0 ∷ row 6 60 600 0 5 0 ∷ []) []
+    (7 ∷ 8 ∷ 9 ∷ 10 ∷ 11 ∷ 12 ∷ []))
+    [])
+    (D 40 ⇒ ok ∷ W ⇒ more (Right 2) 7 ∷ W ⇒ done (Left 6) 0
+    ∷ stands (picture (root 2 held 5 awaited 0 stores 0)
+    [] (row 1 10 100 0 0 0 ∷ row 2 20 200 0 1 7 ∷ row 3 30 300 0 0 0 ∷ row 6 60 600 0 0 0 ∷ row 7 50 500 1 3 6 ∷ []) []
+    (8 ∷ 9 ∷ 10 ∷ 11 ∷ 12 ∷ 4 ∷ 5 ∷ []))
+    ∷ [])
+    ∷ entry "delete, other: on a left link, no red nephew three times, up to the root, none reading"
+    (drawn 20
+    (picture (root 8 held 15 awaited 0 stores 0)
+    []
+    (row 1 10 100 0 0 0 ∷ row 2 20 200 0 1 3 ∷ row 3 30 300 0 0 0 ∷ row 4 40 400 0 2 6 ∷ row 5 50 500 0 0 0 ∷ row 6 60 600 0 5 7 ∷ row 7 70 700 0 0 0
+    ∷ row 8 80 800 0 4 12 ∷ row 9 90 900 0 0 0 ∷ row 10 100 1000 0 9 11 ∷ row 11 110 1100 0 0 0 ∷ row 12 120 1200 0 10 14 ∷ row 13 130 1300 0 0 0
+    ∷ row 14 140 1400 0 13 15 ∷ row 15 150 1500 0 0 0 ∷ [])
+    [] (16 ∷ 17 ∷ 18 ∷ 19 ∷ 20 ∷ []))
+    [])
+    (D 40 ⇒ ok ∷ W ⇒ more (Left 8) 16 ∷ W ⇒ done (Left 6) 0
+    ∷ stands (picture (root 8 held 14 awaited 0 stores 0)
+    []
+    (row 1 10 100 0 0 0 ∷ row 2 20 200 1 1 3 ∷ row 3 30 300 0 0 0 ∷ row 6 60 600 0 0 7 ∷ row 7 70 700 1 0 0 ∷ row 8 80 800 0 16 12 ∷ row 9 90 900 0 0 0
+    ∷ row 10 100 1000 0 9 11 ∷ row 11 110 1100 0 0 0 ∷ row 12 120 1200 1 10 14 ∷ row 13 130 1300 0 0 0 ∷ row 14 140 1400 0 13 15 ∷ row 15 150 1500 0 0 0
+    ∷ row 16 50 500 0 2 6 ∷ [])
+    [] (17 ∷ 18 ∷ 19 ∷ 20 ∷ 4 ∷ 5 ∷ []))
+    ∷ [])
     ∷ []

@@ -1,8 +1,8 @@
 -- An entry of the tables of examples: the pool and register lent, calls with the answers that they must give, looks at what stands in
 -- between; and the computed test that an entry passes. What stands is compared as numbers.
-use Prim.Native.Nat.{ℕ, zero, suc, _+_, _*_, _-_}
+use Prim.Native.Nat.{ℕ, zero, suc, _+_, _*_, _-_, _/_}
 use Prim.Native.String.{String}
-use mathlib.Core.Bool.{Bool, true, false, cond, _&&_}
+use mathlib.Core.Bool.{Bool, true, false, cond, not, _&&_, _||_}
 use mathlib.Core.List.{List, [], _∷_, _++_}
 use lib.ListN.{length, getD, take, drop, replicate}
 use lib.Dec.{eqb}
@@ -19,6 +19,7 @@ use Rattle.datatypes.specs.declared.Store.{Store}
 use Rattle.datatypes.specs.declared.Reader.{Reader}
 use Rattle.datatypes.specs.declared.Register.{Register}
 use Rattle.spec.specs.Register.{State}
+use Rattle.spec.specs.Turn.{Profile, profile, countedBy}
 use Rattle.spec.specs.Calls.{Answer, ok, go, absent, wait, found, more, done, refused, Outcome, Call, inserting, deleting, writing, beginning}
 use Rattle.spec.specs.Calls.{turning, givingUp, call, setUp}
 use Rattle.table.specs.Picture.{Row, Picture, Change, rowWords, nodeIn, drawn, none, standing, _but_}
@@ -46,7 +47,8 @@ R s = calls (turning s)
 abbrev pub E : ℕ → Request
 E s = calls (givingUp s)
 
--- A line of an entry. A call with its answer: one that is refused or answers wait must leave every word and field as it was.
+-- A line of an entry. A call with its answer: one that is refused or answers wait must leave every word and field as it was, and a store must
+-- have done what its step's profile says.
 -- stands: what stands now is this picture. still: a node has these words, whatever it stands as. leaves: what stands now is what was lent
 -- with these changes, every word and field.
 infix 70 _⇒_
@@ -144,16 +146,39 @@ isShown st x =
 abbrev isStill : List ℕ → Row → Bool
 isStill p r = sameNumbers (take 5 (drop (r .node * 8 - 8) p)) (take 5 (rowWords r 0 0))
 
--- a call that is refused or answers wait leaves pool and register as they were
-abbrev kept : Answer → State → State → Bool
-kept ok x y = true
-kept go x y = true
-kept absent x y = true
-kept wait x y = sameState x y
-kept (found v) x y = true
-kept (more l n) x y = true
-kept (done l n) x y = true
-kept (refused n) x y = sameState x y
+abbrev sameBool : Bool → Bool → Bool
+sameBool true b = b
+sameBool false b = not b
+
+abbrev anyReads : List Reader → Bool
+anyReads [] = false
+anyReads (x ∷ xs) = x .reading || anyReads xs
+
+-- What a turn that made a store did is what its step's profile says (spec, Turn). It takes a node just if the queue's first moves on; keys held
+-- are counted by its listing; slots are awaited after it just if it awaits and some read; the stores to come are those that followed, unless
+-- it renames them.
+abbrev asProfiled : Profile → State → State → Bool
+asProfiled x before after =
+    let r = before .register in
+    let q = after .register in
+    (eqb (r .first) 0 || sameBool (x .takes) (not (eqb (r .first) (q .first))))
+    && eqb (q .held) (countedBy (x .listing) (length (before .pool) / 8) (r .held))
+    && sameBool (not (eqb (q .awaited) 0)) (x .awaits && anyReads (r .readers))
+    && (x .renames || sameNumbers (storesNumbers (q .write .stores)) (storesNumbers (drop 1 (r .write .stores) ++ none ∷ [])))
+
+abbrev firstStep : State → Step
+firstStep st = getD (st .register .write .stores) 0 none .step
+
+-- What an answer says of the state before and after: a call that is refused or answers wait leaves pool and register as they were.
+abbrev agrees : Answer → State → State → Bool
+agrees ok x y = true
+agrees go x y = true
+agrees absent x y = true
+agrees wait x y = sameState x y
+agrees (found v) x y = true
+agrees (more l n) x y = asProfiled (profile (firstStep x)) x y
+agrees (done l n) x y = asProfiled (profile (firstStep x)) x y
+agrees (refused n) x y = sameState x y
 
 abbrev outcomeOf : State → Request → Outcome
 outcomeOf st P = setUp st
@@ -164,7 +189,7 @@ abbrev pub holdsFrom : State → State → List Line → Bool
 holdsFrom lent st [] = true
 holdsFrom lent st ((r ⇒ a) ∷ later) =
     let o = outcomeOf st r in
-    sameNumbers (answerNumbers (o .answer)) (answerNumbers a) && kept a st (o .after) && holdsFrom lent (o .after) later
+    sameNumbers (answerNumbers (o .answer)) (answerNumbers a) && agrees a st (o .after) && holdsFrom lent (o .after) later
 holdsFrom lent st (stands x ∷ later) = isShown st x && holdsFrom lent st later
 holdsFrom lent st (still r ∷ later) = isStill (st .pool) r && holdsFrom lent st later
 holdsFrom lent st (leaves cs ∷ later) = sameState st (lent but cs) && holdsFrom lent st later

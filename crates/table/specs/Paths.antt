@@ -7,8 +7,8 @@ use Rattle.datatypes.specs.declared.Link.the-variants.{Root, Left, Right}
 use Rattle.datatypes.specs.declared.Step.the-variants.{Insert, Detach}
 use Rattle.spec.specs.Register.{State}
 use Rattle.spec.specs.Calls.{ok, go, more, done, refused}
-use Rattle.table.specs.Picture.{Row, row, root_held_awaited_stores_, picture, drawn, _on_, right, colour, _of_:=_, free:=_, held:=_, count:=_}
-use Rattle.table.specs.Picture.{reader_:=_, store_:=_, reads, _but_}
+use Rattle.table.specs.Picture.{Row, row, root_held_awaited_stores_, picture, drawn, _on_, right, colour, _of_:=_, root:=_, free:=_, held:=_}
+use Rattle.table.specs.Picture.{count:=_, fills, reader_:=_, store_:=_, reads, _but_}
 use Rattle.table.specs.Entry.{I, D, W, R, E, _⇒_, Entry, entry}
 
 -- the numbers from n on, so many
@@ -77,5 +77,14 @@ paths =
     ∷ [])
     ∷ entry "readers have no bound" ((rightChain 64) but (reader 0 := (reads 70 64) ∷ right of 64 := 1 ∷ []))
     (R 0 ⇒ go ∷ R 0 ⇒ go ∷ E 0 ⇒ ok
+    ∷ [])
+    ∷ entry "6 before 12 of the search, in an insert and in a delete" ((rightChain 65) but (count:= 1 ∷ store 0 := (Insert 66 5 on Right 65) ∷ []))
+    (I 66 5 ⇒ refused 6 ∷ D 66 ⇒ refused 6
+    ∷ [])
+    ∷ entry "successor as the 64th node, B below the root" ((leftChain 63) but (root:= 72 ∷ fills (row 72 0 0 0 0 1) ∷ []))
+    (D 1 ⇒ ok ∷ W ⇒ more (Right 72) 65 ∷ W ⇒ done (Left 62) 0
+    ∷ [])
+    ∷ entry "12: successor as the 65th node, B below the root" ((leftChain 64) but (root:= 72 ∷ fills (row 72 0 0 0 0 1) ∷ []))
+    (D 1 ⇒ refused 12
     ∷ [])
     ∷ []

@@ -114,6 +114,24 @@ plainLists =
     ∷ writing gave refused 7
     ∷ lists (3 is 30 ∷ 4 is 40 ∷ [])
     ∷ [])
+    ∷ entry "plain list: a delete of a key with a left child only takes it out at its first store"
+    (insertOf 2 20 ++ insertOf 1 10 ++ deleting 2 gave ok ∷ lists (1 is 10 ∷ 2 is 20 ∷ []) ∷ writing gave done Root 1 ∷ lists (1 is 10 ∷ []) ∷ [])
+    ∷ entry "plain list: a delete of a key with a right child only takes it out at its first store"
+    (insertOf 1 10 ++ insertOf 2 20 ++ deleting 1 gave ok ∷ lists (1 is 10 ∷ 2 is 20 ∷ []) ∷ writing gave done Root 1 ∷ lists (2 is 20 ∷ []) ∷ [])
+    ∷ entry "plain list: the deleted key's children count, not the root's: first store"
+    (insertOf 2 20 ++ insertOf 1 10 ++ insertOf 3 30 ++ deleting 3 gave ok ∷ writing gave done Root 1 ∷ lists (1 is 10 ∷ 2 is 20 ∷ []) ∷ [])
+    ∷ entry "plain list: the deleted key's children count, not the root's: second store"
+    (insertOf 3 30
+    ++ insertOf 1 10
+    ++ insertOf 2 20
+    ++ insertOf 4 40
+    ++ insertOf 5 50
+    ++ deleting 4 gave ok
+    ∷ writing gave stored
+    ∷ lists (1 is 10 ∷ 2 is 20 ∷ 3 is 30 ∷ 4 is 40 ∷ 5 is 50 ∷ [])
+    ∷ writing gave done Root 1
+    ∷ lists (1 is 10 ∷ 2 is 20 ∷ 3 is 30 ∷ 5 is 50 ∷ [])
+    ∷ [])
     ∷ []
 
 pub lists-pass : allListed plainLists ≡ true

@@ -187,4 +187,10 @@ readers =
     (slot 0 wants 4 at 0 ∷ []) (row 3 3 30 0 4 5 ∷ row 4 2 20 1 0 0 ∷ row 5 4 40 1 0 0 ∷ [])
     (row 1 4 40 0 2 0 keptBy 1 ∷ row 2 2 20 1 0 3 keptBy 1 ∷ []) (6 ∷ 7 ∷ 8 ∷ []))
     ∷ [])
+    ∷ entry "set up: every other word of every node is 0" (unset 8)
+    (P ⇒ ok
+    ∷ stands (picture (root 0 held 0 awaited 0 stores 0) [] [] [] (1 ∷ 2 ∷ 3 ∷ 4 ∷ 5 ∷ 6 ∷ 7 ∷ 8 ∷ []))
+    ∷ still (row 1 0 0 0 0 0) ∷ still (row 2 0 0 0 0 0) ∷ still (row 3 0 0 0 0 0) ∷ still (row 4 0 0 0 0 0) ∷ still (row 5 0 0 0 0 0) ∷ still (row 6 0 0 0 0 0)
+    ∷ still (row 7 0 0 0 0 0) ∷ still (row 8 0 0 0 0 0)
+    ∷ [])
     ∷ []

@@ -1,7 +1,10 @@
 -- 01, 'When a call is turned down': each number in each call that gives it but 12, the ends of each range, and the order of the tests.
 use mathlib.Core.List.{List, [], _∷_}
+use Rattle.datatypes.specs.declared.Side.the-variants as side
 use Rattle.datatypes.specs.declared.Link.the-variants.{Root, Left, Right}
-use Rattle.datatypes.specs.declared.Step.the-variants.{Vacant, Insert, Unlink, Adopt, Publish, Detach}
+use Rattle.datatypes.specs.declared.Purpose.the-variants.{ForInsert}
+use Rattle.datatypes.specs.declared.Step.the-variants.{Vacant, Insert, DiagLower, DiagRaise, ZigLowerA, ZigLowerC, ZigRaise, Unlink, Adopt, Replace}
+use Rattle.datatypes.specs.declared.Step.the-variants.{Publish, Detach}
 use Rattle.spec.specs.Calls.{ok, go, absent, found, done, refused}
 use Rattle.table.specs.Picture.{row, slot_wants_at_, root_held_awaited_stores_, picture, none, _on_, key, value, left, right, colour, standing}
 use Rattle.table.specs.Picture.{holders, next, _of_:=_, root:=_, first:=_, last:=_, free:=_, held:=_, awaited:=_, count:=_, reader_:=_}
@@ -150,7 +153,7 @@ refusals =
     ∷ stands (picture (root 2 held 3 awaited 0 stores 0)
     [] (row 1 10 100 1 0 0 ∷ row 2 20 200 0 1 3 ∷ row 3 30 300 1 0 0 ∷ []) [] (4 ∷ 5 ∷ 6 ∷ 7 ∷ 8 ∷ []))
     ∷ [])
-    ∷ entry "6: insert and delete with a write in hand, before 8 to 12; 7: none in hand" (three but (free:= 2 ∷ held:= 8 ∷ []))
+    ∷ entry "7: none in hand; 9 and 8 before 10 and 11" (three but (free:= 2 ∷ held:= 8 ∷ []))
     (W ⇒ refused 7 ∷ D 25 ⇒ refused 9 ∷ I 20 5 ⇒ refused 8
     ∷ [])
     ∷ entry "6 before 8, 9, 10, 11" (three but (count:= 1 ∷ store 0 := (Unlink on Root) ∷ free:= 2 ∷ held:= 8 ∷ []))
@@ -159,13 +162,13 @@ refusals =
     ∷ entry "8 before 10 and 11; 10 before 11; 9 before 11" (three but (held:= 4 ∷ free:= 2 ∷ []))
     (I 20 5 ⇒ refused 8 ∷ I 25 5 ⇒ refused 10 ∷ D 25 ⇒ refused 9 ∷ D 20 ⇒ refused 11
     ∷ [])
-    ∷ entry "10: keys held N − 4; N − 5 is fewer" (three but (held:= 4 ∷ []))
+    ∷ entry "10: keys held N − 4; a delete is accepted" (three but (held:= 4 ∷ []))
     (I 25 5 ⇒ refused 10 ∷ D 20 ⇒ ok
     ∷ [])
     ∷ entry "keys held N − 5" (three but (held:= 3 ∷ []))
     (I 25 5 ⇒ ok
     ∷ [])
-    ∷ entry "11: two free nodes for an insert, three for a delete" (three but (free:= 2 ∷ []))
+    ∷ entry "11: two free nodes, in an insert and in a delete" (three but (free:= 2 ∷ []))
     (I 25 5 ⇒ refused 11 ∷ D 20 ⇒ refused 11
     ∷ [])
     ∷ entry "11: three free nodes are enough for an insert, not for a delete" (three but (free:= 3 ∷ []))
@@ -182,5 +185,57 @@ refusals =
     ∷ R 1 ⇒ go ∷ R 1 ⇒ absent ∷ B 2 1 ⇒ ok ∷ R 2 ⇒ go ∷ R 2 ⇒ go ∷ R 2 ⇒ absent ∷ I 0 1 ⇒ refused 8 ∷ I 4294967295 1 ⇒ refused 8 ∷ D 1 ⇒ refused 9
     ∷ D 0 ⇒ ok ∷ W ⇒ done Root 2
     ∷ stands (picture (root 2 held 1 awaited 0 stores 0) [] (row 2 4294967295 0 0 0 0 ∷ []) [] (3 ∷ 4 ∷ 5 ∷ 6 ∷ 7 ∷ 8 ∷ 1 ∷ []))
+    ∷ [])
+    ∷ entry "1 in all seven calls, before 2 and 3: 68 words" (words 68)
+    (P ⇒ refused 1 ∷ I 1 10 ⇒ refused 1 ∷ D 1 ⇒ refused 1 ∷ W ⇒ refused 1 ∷ B 8 1 ⇒ refused 1 ∷ R 8 ⇒ refused 1 ∷ E 8 ⇒ refused 1
+    ∷ [])
+    ∷ entry "2: left one past its range, a node between" (three but (left of 5 := 9 ∷ []))
+    (B 0 5 ⇒ refused 2
+    ∷ [])
+    ∷ entry "2: the node of slot 4 one past its range" (three but (reader 4 := (idle 0 9) ∷ []))
+    (B 1 5 ⇒ refused 2
+    ∷ [])
+    ∷ entry "2: a right link where no store is to come" (three but (store 6 := (Vacant on Right 1) ∷ []))
+    (B 0 5 ⇒ refused 2
+    ∷ [])
+    ∷ entry "2: a link where no store is to come, with a write in hand"
+    (three but (count:= 1 ∷ store 0 := (Unlink on Root) ∷ store 1 := (Vacant on Right 1) ∷ []))
+    (B 0 5 ⇒ refused 2
+    ∷ [])
+    ∷ entry "2: Insert where no store is to come" (three but (store 0 := (Insert 5 50 on Root) ∷ []))
+    (B 0 5 ⇒ refused 2
+    ∷ [])
+    ∷ entry "2: DiagLower where no store is to come" (three but (store 0 := (DiagLower side.L ForInsert on Root) ∷ []))
+    (B 0 5 ⇒ refused 2
+    ∷ [])
+    ∷ entry "2: DiagRaise where no store is to come" (three but (store 0 := (DiagRaise side.L ForInsert on Root) ∷ []))
+    (B 0 5 ⇒ refused 2
+    ∷ [])
+    ∷ entry "2: ZigLowerA where no store is to come" (three but (store 0 := (ZigLowerA side.L ForInsert on Root) ∷ []))
+    (B 0 5 ⇒ refused 2
+    ∷ [])
+    ∷ entry "2: ZigLowerC where no store is to come" (three but (store 0 := (ZigLowerC side.L ForInsert on Root) ∷ []))
+    (B 0 5 ⇒ refused 2
+    ∷ [])
+    ∷ entry "2: ZigRaise where no store is to come" (three but (store 0 := (ZigRaise side.L ForInsert on Root) ∷ []))
+    (B 0 5 ⇒ refused 2
+    ∷ [])
+    ∷ entry "2: Unlink where no store is to come" (three but (store 0 := (Unlink on Root) ∷ []))
+    (B 0 5 ⇒ refused 2
+    ∷ [])
+    ∷ entry "2: Adopt where no store is to come" (three but (store 0 := (Adopt on Root) ∷ []))
+    (B 0 5 ⇒ refused 2
+    ∷ [])
+    ∷ entry "2: Replace where no store is to come" (three but (store 0 := (Replace on Root) ∷ []))
+    (B 0 5 ⇒ refused 2
+    ∷ [])
+    ∷ entry "2: Publish where no store is to come" (three but (store 0 := (Publish 1 on Root) ∷ []))
+    (B 0 5 ⇒ refused 2
+    ∷ [])
+    ∷ entry "10: keys held N − 3" (three but (held:= 5 ∷ []))
+    (I 25 5 ⇒ refused 10
+    ∷ [])
+    ∷ entry "10: keys held N" (three but (held:= 8 ∷ []))
+    (I 25 5 ⇒ refused 10
     ∷ [])
     ∷ []
