@@ -57,6 +57,7 @@ pub fn field_taken(f: Field, b: u8) -> Field
     }
 }
 
+// Answers the command of a letter alone.
 pub fn with_none(l: u8) -> Command
     ensures { λ r. ⌜ r ≡ withNone l ⌝ }
 {
