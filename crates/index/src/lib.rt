@@ -85,7 +85,7 @@ pub fn delete(pool: &[u32], reg: Register, k: u32) -> Reply
 // Writer's turn: makes the next store of the write in hand, one link, and the colour work up to the store after it.
 // Needs: nothing; with no write in hand it is refused.
 // Answers: More or Done with the link stored and the node that it holds now (Done: the write is finished); or Wait, with nothing changed,
-// while an awaited slot reads: these slots need their turns, or a give up, before the next store.
+// while the register has awaited slots: these need their turns, or a give up, before the next store.
 // Refuses, tested in this order: 1 length; 2 a word or field out of range; 7 no write is in hand; and, if it doesn't wait, 12 a step names
 // a node where there is none, or takes one from an empty queue.
 // Leaves: the store made, a node taken or let go where the step says so, the write with one store fewer; refused, both as they were.
@@ -130,8 +130,8 @@ pub fn begin(pool: &[u32], mut reg: Register, s: u32, k: u32) -> Reply
 // Needs: nothing; a slot that isn't reading is refused.
 // Answers: Go, the lookup goes on; Found with the record; or Absent. Found and Absent are right at one moment since the slot's begin.
 // Refuses, tested in this order: 1 length; 2 a word or field out of range; 3 the slot is above 7; 5 the slot is not reading.
-// Leaves: after Go only the slot's node changed; after Found and Absent the slot is no longer reading, awaited or a holder, and a retired
-// node without a holder is freed; refused, both as they were.
+// Leaves: after Go only the slot's node changed; after Found and Absent the slot is no longer reading, awaited or a holder of a retired
+// node, and a retired node without a holder is freed; refused, both as they were.
 pub fn reader_turn(pool: &mut [u32], mut reg: Register, s: u32) -> ReaderReply
     ensures { λ r. ⌜ readerSays (r .answer) ≡ readerTurn (state (now (pool .entry)) reg) s .answer ⌝ }
     ensures { λ r. ⌜ state (now (pool .exit)) (r .register) ≡ readerTurn (state (now (pool .entry)) reg) s .after ⌝ }
@@ -168,7 +168,8 @@ pub fn reader_turn(pool: &mut [u32], mut reg: Register, s: u32) -> ReaderReply
 // Needs: nothing; a slot that isn't reading is refused.
 // Answers: Accepted.
 // Refuses, tested in this order: 1 length; 2 a word or field out of range; 3 the slot is above 7; 5 the slot is not reading.
-// Leaves: the slot no longer reading, awaited or a holder; a retired node without a holder is freed; refused, both as they were.
+// Leaves: the slot no longer reading, awaited or a holder of a retired node; a retired node without a holder is freed; refused, both as they
+// were.
 pub fn give_up(pool: &mut [u32], mut reg: Register, s: u32) -> Reply
     ensures { λ r. ⌜ accepts (r .answer) ≡ giveUp (state (now (pool .entry)) reg) s .answer ⌝ }
     ensures { λ r. ⌜ state (now (pool .exit)) (r .register) ≡ giveUp (state (now (pool .entry)) reg) s .after ⌝ }

@@ -3,40 +3,28 @@
 use mathlib.Core.List.{List, [], _∷_}
 use Rattle.datatypes.specs.declared.Link.the-variants.{Root, Left, Right}
 use Rattle.spec.specs.Calls.{ok, more, done}
-use Rattle.table.specs.Picture.{row, _keptBy_, slot_wants_at_, root_held_awaited_stores_, picture, drawn}
+use Rattle.table.specs.Picture.{row, _keptBy_, slot_wants_at_, root_held_awaited_stores_, picture, nil, red, black, redLeaf, blackLeaf, tree}
 use Rattle.table.specs.Entry.{D, W, B, E, _⇒_, stands, Entry, entry}
 
 abbrev pub deletes : List Entry
 deletes =
-    entry "delete, no child: red"
-    (drawn 8 (picture (root 1 held 2 awaited 0 stores 0) [] (row 1 10 100 0 0 2 ∷ row 2 20 200 1 0 0 ∷ []) [] (3 ∷ 4 ∷ 5 ∷ 6 ∷ 7 ∷ 8 ∷ [])) [])
+    entry "delete, no child: red" (tree 8 (black nil redLeaf))
     (B 2 20 ⇒ ok ∷ D 20 ⇒ ok ∷ W ⇒ done (Right 1) 0
     ∷ stands (picture (root 1 held 1 awaited 0 stores 0)
-    (slot 2 wants 20 at 0 ∷ []) (row 1 10 100 0 0 0 ∷ []) (row 2 20 200 1 0 0 keptBy 4 ∷ []) (3 ∷ 4 ∷ 5 ∷ 6 ∷ 7 ∷ 8 ∷ []))
-    ∷ [])
-    ∷ entry "delete, no child: the only node"
-    (drawn 8 (picture (root 1 held 1 awaited 0 stores 0) [] (row 1 10 100 0 0 0 ∷ []) [] (2 ∷ 3 ∷ 4 ∷ 5 ∷ 6 ∷ 7 ∷ 8 ∷ [])) [])
+    (slot 2 wants 20 at 0 ∷ []) (row 1 10 100 0 0 0 ∷ []) (row 2 20 200 1 0 0 keptBy 4 ∷ []) (3 ∷ 4 ∷ 5 ∷ 6 ∷ 7 ∷ 8 ∷ [])) ∷ [])
+    ∷ entry "delete, no child: the only node" (tree 8 blackLeaf)
     (B 2 10 ⇒ ok ∷ D 10 ⇒ ok ∷ W ⇒ done Root 0
     ∷ stands (picture (root 0 held 0 awaited 0 stores 0)
-    (slot 2 wants 10 at 0 ∷ []) [] (row 1 10 100 0 0 0 keptBy 4 ∷ []) (2 ∷ 3 ∷ 4 ∷ 5 ∷ 6 ∷ 7 ∷ 8 ∷ []))
-    ∷ [])
-    ∷ entry "delete, one child: left, red x turns black"
-    (drawn 8 (picture (root 2 held 2 awaited 0 stores 0) [] (row 1 10 100 1 0 0 ∷ row 2 20 200 0 1 0 ∷ []) [] (3 ∷ 4 ∷ 5 ∷ 6 ∷ 7 ∷ 8 ∷ [])) [])
+    (slot 2 wants 10 at 0 ∷ []) [] (row 1 10 100 0 0 0 keptBy 4 ∷ []) (2 ∷ 3 ∷ 4 ∷ 5 ∷ 6 ∷ 7 ∷ 8 ∷ [])) ∷ [])
+    ∷ entry "delete, one child: left, red x turns black" (tree 8 (black redLeaf nil))
     (B 2 20 ⇒ ok ∷ D 20 ⇒ ok ∷ W ⇒ done Root 1
     ∷ stands (picture (root 1 held 1 awaited 0 stores 0)
-    (slot 2 wants 20 at 0 ∷ []) (row 1 10 100 0 0 0 ∷ []) (row 2 20 200 0 1 0 keptBy 4 ∷ []) (3 ∷ 4 ∷ 5 ∷ 6 ∷ 7 ∷ 8 ∷ []))
-    ∷ [])
-    ∷ entry "delete, one child: right, red x turns black"
-    (drawn 8 (picture (root 1 held 2 awaited 0 stores 0) [] (row 1 10 100 0 0 2 ∷ row 2 20 200 1 0 0 ∷ []) [] (3 ∷ 4 ∷ 5 ∷ 6 ∷ 7 ∷ 8 ∷ [])) [])
+    (slot 2 wants 20 at 0 ∷ []) (row 1 10 100 0 0 0 ∷ []) (row 2 20 200 0 1 0 keptBy 4 ∷ []) (3 ∷ 4 ∷ 5 ∷ 6 ∷ 7 ∷ 8 ∷ [])) ∷ [])
+    ∷ entry "delete, one child: right, red x turns black" (tree 8 (black nil redLeaf))
     (B 2 10 ⇒ ok ∷ D 10 ⇒ ok ∷ W ⇒ done Root 2
     ∷ stands (picture (root 2 held 1 awaited 0 stores 0)
-    (slot 2 wants 10 at 0 ∷ []) (row 2 20 200 0 0 0 ∷ []) (row 1 10 100 0 0 2 keptBy 4 ∷ []) (3 ∷ 4 ∷ 5 ∷ 6 ∷ 7 ∷ 8 ∷ []))
-    ∷ [])
-    ∷ entry "delete, x left: outer nephew red"
-    (drawn 8
-    (picture (root 2 held 4 awaited 0 stores 0)
-    [] (row 1 10 100 0 0 0 ∷ row 2 20 200 0 1 3 ∷ row 3 30 300 0 0 4 ∷ row 4 40 400 1 0 0 ∷ []) [] (5 ∷ 6 ∷ 7 ∷ 8 ∷ []))
-    [])
+    (slot 2 wants 10 at 0 ∷ []) (row 2 20 200 0 0 0 ∷ []) (row 1 10 100 0 0 2 keptBy 4 ∷ []) (3 ∷ 4 ∷ 5 ∷ 6 ∷ 7 ∷ 8 ∷ [])) ∷ [])
+    ∷ entry "delete, x left: outer nephew red" (tree 8 (black blackLeaf (black nil redLeaf)))
     (B 2 10 ⇒ ok ∷ D 10 ⇒ ok ∷ W ⇒ more (Left 2) 0
     ∷ stands (picture (root 2 held 3 awaited 0 stores 2)
     (slot 2 wants 10 at 0 ∷ []) (row 2 20 200 0 0 3 ∷ row 3 30 300 0 0 4 ∷ row 4 40 400 1 0 0 ∷ []) (row 1 10 100 0 0 0 keptBy 4 ∷ [])
@@ -51,13 +39,8 @@ deletes =
     (row 1 10 100 0 0 0 keptBy 4 ∷ row 2 20 200 0 0 3 keptBy 4 ∷ []) (6 ∷ 7 ∷ 8 ∷ []))
     ∷ E 2 ⇒ ok
     ∷ stands (picture (root 3 held 3 awaited 0 stores 0)
-    [] (row 3 30 300 0 5 4 ∷ row 4 40 400 0 0 0 ∷ row 5 20 200 0 0 0 ∷ []) [] (6 ∷ 7 ∷ 8 ∷ 1 ∷ 2 ∷ []))
-    ∷ [])
-    ∷ entry "delete, x left: only inner nephew red"
-    (drawn 8
-    (picture (root 2 held 4 awaited 0 stores 0)
-    [] (row 1 10 100 0 0 0 ∷ row 2 20 200 0 1 4 ∷ row 3 30 300 1 0 0 ∷ row 4 40 400 0 3 0 ∷ []) [] (5 ∷ 6 ∷ 7 ∷ 8 ∷ []))
-    [])
+    [] (row 3 30 300 0 5 4 ∷ row 4 40 400 0 0 0 ∷ row 5 20 200 0 0 0 ∷ []) [] (6 ∷ 7 ∷ 8 ∷ 1 ∷ 2 ∷ [])) ∷ [])
+    ∷ entry "delete, x left: only inner nephew red" (tree 8 (black blackLeaf (black redLeaf nil)))
     (B 2 10 ⇒ ok ∷ D 10 ⇒ ok ∷ W ⇒ more (Left 2) 0
     ∷ stands (picture (root 2 held 3 awaited 0 stores 3)
     (slot 2 wants 10 at 0 ∷ []) (row 2 20 200 0 0 4 ∷ row 3 30 300 1 0 0 ∷ row 4 40 400 0 3 0 ∷ []) (row 1 10 100 0 0 0 keptBy 4 ∷ [])
@@ -68,8 +51,7 @@ deletes =
     (row 1 10 100 0 0 0 keptBy 4 ∷ []) (6 ∷ 7 ∷ 8 ∷ []))
     ∷ W ⇒ more (Left 3) 6
     ∷ stands (picture (root 2 held 3 awaited 0 stores 1)
-    (slot 2 wants 10 at 0 ∷ [])
-    (row 2 20 200 0 0 4 ∷ row 3 30 300 1 6 5 ∷ row 4 40 400 0 3 0 ∷ row 5 40 400 0 0 0 ∷ row 6 20 200 0 0 0 ∷ [])
+    (slot 2 wants 10 at 0 ∷ []) (row 2 20 200 0 0 4 ∷ row 3 30 300 1 6 5 ∷ row 4 40 400 0 3 0 ∷ row 5 40 400 0 0 0 ∷ row 6 20 200 0 0 0 ∷ [])
     (row 1 10 100 0 0 0 keptBy 4 ∷ []) (7 ∷ 8 ∷ []))
     ∷ W ⇒ done Root 3
     ∷ stands (picture (root 3 held 3 awaited 0 stores 0)
@@ -77,14 +59,8 @@ deletes =
     (row 1 10 100 0 0 0 keptBy 4 ∷ row 2 20 200 0 0 4 keptBy 4 ∷ row 4 40 400 0 3 0 keptBy 4 ∷ []) (7 ∷ 8 ∷ []))
     ∷ E 2 ⇒ ok
     ∷ stands (picture (root 3 held 3 awaited 0 stores 0)
-    [] (row 3 30 300 0 6 5 ∷ row 5 40 400 0 0 0 ∷ row 6 20 200 0 0 0 ∷ []) [] (7 ∷ 8 ∷ 1 ∷ 2 ∷ 4 ∷ []))
-    ∷ [])
-    ∷ entry "delete, x left: both nephews red"
-    (drawn 12
-    (picture (root 2 held 5 awaited 0 stores 0)
-    [] (row 1 10 100 0 0 0 ∷ row 2 20 200 0 1 4 ∷ row 3 30 300 1 0 0 ∷ row 4 40 400 0 3 5 ∷ row 5 50 500 1 0 0 ∷ []) []
-    (6 ∷ 7 ∷ 8 ∷ 9 ∷ 10 ∷ 11 ∷ 12 ∷ []))
-    [])
+    [] (row 3 30 300 0 6 5 ∷ row 5 40 400 0 0 0 ∷ row 6 20 200 0 0 0 ∷ []) [] (7 ∷ 8 ∷ 1 ∷ 2 ∷ 4 ∷ [])) ∷ [])
+    ∷ entry "delete, x left: both nephews red" (tree 12 (black blackLeaf (black redLeaf redLeaf)))
     (B 2 10 ⇒ ok ∷ D 10 ⇒ ok ∷ W ⇒ more (Left 2) 0 ∷ W ⇒ more (Left 4) 6 ∷ W ⇒ done Root 4
     ∷ stands (picture (root 4 held 4 awaited 0 stores 0)
     (slot 2 wants 10 at 0 ∷ []) (row 3 30 300 1 0 0 ∷ row 4 40 400 0 6 5 ∷ row 5 50 500 0 0 0 ∷ row 6 20 200 0 0 3 ∷ [])
@@ -93,20 +69,14 @@ deletes =
     ∷ stands (picture (root 4 held 4 awaited 0 stores 0)
     [] (row 3 30 300 1 0 0 ∷ row 4 40 400 0 6 5 ∷ row 5 50 500 0 0 0 ∷ row 6 20 200 0 0 3 ∷ []) [] (7 ∷ 8 ∷ 9 ∷ 10 ∷ 11 ∷ 12 ∷ 1 ∷ 2 ∷ []))
     ∷ [])
-    ∷ entry "delete, x left: red sibling, no red nephew then"
-    (drawn 12
-    (picture (root 2 held 5 awaited 0 stores 0)
-    [] (row 1 10 100 0 0 0 ∷ row 2 20 200 0 1 4 ∷ row 3 30 300 0 0 0 ∷ row 4 40 400 1 3 5 ∷ row 5 50 500 0 0 0 ∷ []) []
-    (6 ∷ 7 ∷ 8 ∷ 9 ∷ 10 ∷ 11 ∷ 12 ∷ []))
-    [])
+    ∷ entry "delete, x left: red sibling, no red nephew then" (tree 12 (black blackLeaf (red blackLeaf blackLeaf)))
     (B 2 10 ⇒ ok ∷ D 10 ⇒ ok ∷ W ⇒ more (Left 2) 0
     ∷ stands (picture (root 2 held 4 awaited 0 stores 2)
     (slot 2 wants 10 at 0 ∷ []) (row 2 20 200 0 0 4 ∷ row 3 30 300 0 0 0 ∷ row 4 40 400 1 3 5 ∷ row 5 50 500 0 0 0 ∷ [])
     (row 1 10 100 0 0 0 keptBy 4 ∷ []) (6 ∷ 7 ∷ 8 ∷ 9 ∷ 10 ∷ 11 ∷ 12 ∷ []))
     ∷ W ⇒ more (Left 4) 6
     ∷ stands (picture (root 2 held 4 awaited 0 stores 1)
-    (slot 2 wants 10 at 0 ∷ [])
-    (row 2 20 200 0 0 4 ∷ row 3 30 300 0 0 0 ∷ row 4 40 400 1 6 5 ∷ row 5 50 500 0 0 0 ∷ row 6 20 200 1 0 3 ∷ [])
+    (slot 2 wants 10 at 0 ∷ []) (row 2 20 200 0 0 4 ∷ row 3 30 300 0 0 0 ∷ row 4 40 400 1 6 5 ∷ row 5 50 500 0 0 0 ∷ row 6 20 200 1 0 3 ∷ [])
     (row 1 10 100 0 0 0 keptBy 4 ∷ []) (7 ∷ 8 ∷ 9 ∷ 10 ∷ 11 ∷ 12 ∷ []))
     ∷ W ⇒ done Root 4
     ∷ stands (picture (root 4 held 4 awaited 0 stores 0)
@@ -116,48 +86,27 @@ deletes =
     ∷ stands (picture (root 4 held 4 awaited 0 stores 0)
     [] (row 3 30 300 1 0 0 ∷ row 4 40 400 0 6 5 ∷ row 5 50 500 0 0 0 ∷ row 6 20 200 0 0 3 ∷ []) [] (7 ∷ 8 ∷ 9 ∷ 10 ∷ 11 ∷ 12 ∷ 1 ∷ 2 ∷ []))
     ∷ [])
-    ∷ entry "delete, x left: red sibling, then outer nephew red"
-    (drawn 12
-    (picture (root 2 held 6 awaited 0 stores 0)
-    [] (row 1 10 100 0 0 0 ∷ row 2 20 200 0 1 5 ∷ row 3 30 300 0 0 4 ∷ row 4 40 400 1 0 0 ∷ row 5 50 500 1 3 6 ∷ row 6 60 600 0 0 0 ∷ []) []
-    (7 ∷ 8 ∷ 9 ∷ 10 ∷ 11 ∷ 12 ∷ []))
-    [])
+    ∷ entry "delete, x left: red sibling, then outer nephew red" (tree 12 (black blackLeaf (red (black nil redLeaf) blackLeaf)))
     (B 2 10 ⇒ ok ∷ D 10 ⇒ ok ∷ W ⇒ more (Left 2) 0 ∷ W ⇒ more (Left 5) 7 ∷ W ⇒ more Root 5 ∷ W ⇒ more (Left 3) 8 ∷ W ⇒ done (Left 5) 3
     ∷ stands (picture (root 5 held 5 awaited 0 stores 0)
-    (slot 2 wants 10 at 0 ∷ [])
-    (row 3 30 300 1 8 4 ∷ row 4 40 400 0 0 0 ∷ row 5 50 500 0 3 6 ∷ row 6 60 600 0 0 0 ∷ row 8 20 200 0 0 0 ∷ [])
+    (slot 2 wants 10 at 0 ∷ []) (row 3 30 300 1 8 4 ∷ row 4 40 400 0 0 0 ∷ row 5 50 500 0 3 6 ∷ row 6 60 600 0 0 0 ∷ row 8 20 200 0 0 0 ∷ [])
     (row 1 10 100 0 0 0 keptBy 4 ∷ row 2 20 200 0 0 5 keptBy 4 ∷ row 7 20 200 1 0 3 keptBy 4 ∷ []) (9 ∷ 10 ∷ 11 ∷ 12 ∷ []))
     ∷ E 2 ⇒ ok
     ∷ stands (picture (root 5 held 5 awaited 0 stores 0)
     [] (row 3 30 300 1 8 4 ∷ row 4 40 400 0 0 0 ∷ row 5 50 500 0 3 6 ∷ row 6 60 600 0 0 0 ∷ row 8 20 200 0 0 0 ∷ []) []
-    (9 ∷ 10 ∷ 11 ∷ 12 ∷ 1 ∷ 2 ∷ 7 ∷ []))
-    ∷ [])
-    ∷ entry "delete, x left: red sibling, then only inner nephew red"
-    (drawn 12
-    (picture (root 2 held 6 awaited 0 stores 0)
-    [] (row 1 10 100 0 0 0 ∷ row 2 20 200 0 1 5 ∷ row 3 30 300 1 0 0 ∷ row 4 40 400 0 3 0 ∷ row 5 50 500 1 4 6 ∷ row 6 60 600 0 0 0 ∷ []) []
-    (7 ∷ 8 ∷ 9 ∷ 10 ∷ 11 ∷ 12 ∷ []))
-    [])
+    (9 ∷ 10 ∷ 11 ∷ 12 ∷ 1 ∷ 2 ∷ 7 ∷ [])) ∷ [])
+    ∷ entry "delete, x left: red sibling, then only inner nephew red" (tree 12 (black blackLeaf (red (black redLeaf nil) blackLeaf)))
     (B 2 10 ⇒ ok ∷ D 10 ⇒ ok ∷ W ⇒ more (Left 2) 0 ∷ W ⇒ more (Left 5) 7 ∷ W ⇒ more Root 5 ∷ W ⇒ more (Right 3) 8 ∷ W ⇒ more (Left 3) 9
     ∷ W ⇒ done (Left 5) 3
     ∷ stands (picture (root 5 held 5 awaited 0 stores 0)
-    (slot 2 wants 10 at 0 ∷ [])
-    (row 3 30 300 1 9 8 ∷ row 5 50 500 0 3 6 ∷ row 6 60 600 0 0 0 ∷ row 8 40 400 0 0 0 ∷ row 9 20 200 0 0 0 ∷ [])
+    (slot 2 wants 10 at 0 ∷ []) (row 3 30 300 1 9 8 ∷ row 5 50 500 0 3 6 ∷ row 6 60 600 0 0 0 ∷ row 8 40 400 0 0 0 ∷ row 9 20 200 0 0 0 ∷ [])
     (row 1 10 100 0 0 0 keptBy 4 ∷ row 2 20 200 0 0 5 keptBy 4 ∷ row 4 40 400 0 3 0 keptBy 4 ∷ row 7 20 200 1 0 4 keptBy 4 ∷ [])
     (10 ∷ 11 ∷ 12 ∷ []))
     ∷ E 2 ⇒ ok
     ∷ stands (picture (root 5 held 5 awaited 0 stores 0)
     [] (row 3 30 300 1 9 8 ∷ row 5 50 500 0 3 6 ∷ row 6 60 600 0 0 0 ∷ row 8 40 400 0 0 0 ∷ row 9 20 200 0 0 0 ∷ []) []
-    (10 ∷ 11 ∷ 12 ∷ 1 ∷ 2 ∷ 4 ∷ 7 ∷ []))
-    ∷ [])
-    ∷ entry "delete, x left: red sibling, then both nephews red"
-    (drawn 12
-    (picture (root 2 held 7 awaited 0 stores 0)
-    []
-    (row 1 10 100 0 0 0 ∷ row 2 20 200 0 1 6 ∷ row 3 30 300 1 0 0 ∷ row 4 40 400 0 3 5 ∷ row 5 50 500 1 0 0 ∷ row 6 60 600 1 4 7
-    ∷ row 7 70 700 0 0 0 ∷ [])
-    [] (8 ∷ 9 ∷ 10 ∷ 11 ∷ 12 ∷ []))
-    [])
+    (10 ∷ 11 ∷ 12 ∷ 1 ∷ 2 ∷ 4 ∷ 7 ∷ [])) ∷ [])
+    ∷ entry "delete, x left: red sibling, then both nephews red" (tree 12 (black blackLeaf (red (black redLeaf redLeaf) blackLeaf)))
     (B 2 10 ⇒ ok ∷ D 10 ⇒ ok ∷ W ⇒ more (Left 2) 0 ∷ W ⇒ more (Left 6) 8 ∷ W ⇒ more Root 6 ∷ W ⇒ more (Left 4) 9 ∷ W ⇒ done (Left 6) 4
     ∷ stands (picture (root 6 held 6 awaited 0 stores 0)
     (slot 2 wants 10 at 0 ∷ [])
@@ -165,34 +114,19 @@ deletes =
     (row 1 10 100 0 0 0 keptBy 4 ∷ row 2 20 200 0 0 6 keptBy 4 ∷ row 8 20 200 1 0 4 keptBy 4 ∷ []) (10 ∷ 11 ∷ 12 ∷ []))
     ∷ E 2 ⇒ ok
     ∷ stands (picture (root 6 held 6 awaited 0 stores 0)
-    [] (row 3 30 300 1 0 0 ∷ row 4 40 400 1 9 5 ∷ row 5 50 500 0 0 0 ∷ row 6 60 600 0 4 7 ∷ row 7 70 700 0 0 0 ∷ row 9 20 200 0 0 3 ∷ [])
-    [] (10 ∷ 11 ∷ 12 ∷ 1 ∷ 2 ∷ 8 ∷ []))
-    ∷ [])
-    ∷ entry "delete, x left: no red nephew, red parent"
-    (drawn 12
-    (picture (root 2 held 5 awaited 0 stores 0)
-    [] (row 1 10 100 0 0 0 ∷ row 2 20 200 0 1 4 ∷ row 3 30 300 0 0 0 ∷ row 4 40 400 1 3 5 ∷ row 5 50 500 0 0 0 ∷ []) []
-    (6 ∷ 7 ∷ 8 ∷ 9 ∷ 10 ∷ 11 ∷ 12 ∷ []))
-    [])
+    [] (row 3 30 300 1 0 0 ∷ row 4 40 400 1 9 5 ∷ row 5 50 500 0 0 0 ∷ row 6 60 600 0 4 7 ∷ row 7 70 700 0 0 0 ∷ row 9 20 200 0 0 3 ∷ []) []
+    (10 ∷ 11 ∷ 12 ∷ 1 ∷ 2 ∷ 8 ∷ [])) ∷ [])
+    ∷ entry "delete, x left: no red nephew, red parent" (tree 12 (black blackLeaf (red blackLeaf blackLeaf)))
     (B 2 30 ⇒ ok ∷ D 30 ⇒ ok ∷ W ⇒ done (Left 4) 0
     ∷ stands (picture (root 2 held 4 awaited 0 stores 0)
     (slot 2 wants 30 at 0 ∷ []) (row 1 10 100 0 0 0 ∷ row 2 20 200 0 1 4 ∷ row 4 40 400 0 0 5 ∷ row 5 50 500 1 0 0 ∷ [])
-    (row 3 30 300 0 0 0 keptBy 4 ∷ []) (6 ∷ 7 ∷ 8 ∷ 9 ∷ 10 ∷ 11 ∷ 12 ∷ []))
-    ∷ [])
-    ∷ entry "delete, x left: no red nephew, up to the root"
-    (drawn 8
-    (picture (root 2 held 3 awaited 0 stores 0)
-    [] (row 1 10 100 0 0 0 ∷ row 2 20 200 0 1 3 ∷ row 3 30 300 0 0 0 ∷ []) [] (4 ∷ 5 ∷ 6 ∷ 7 ∷ 8 ∷ []))
-    [])
+    (row 3 30 300 0 0 0 keptBy 4 ∷ []) (6 ∷ 7 ∷ 8 ∷ 9 ∷ 10 ∷ 11 ∷ 12 ∷ [])) ∷ [])
+    ∷ entry "delete, x left: no red nephew, up to the root" (tree 8 (black blackLeaf blackLeaf))
     (B 2 10 ⇒ ok ∷ D 10 ⇒ ok ∷ W ⇒ done (Left 2) 0
     ∷ stands (picture (root 2 held 2 awaited 0 stores 0)
     (slot 2 wants 10 at 0 ∷ []) (row 2 20 200 0 0 3 ∷ row 3 30 300 1 0 0 ∷ []) (row 1 10 100 0 0 0 keptBy 4 ∷ []) (4 ∷ 5 ∷ 6 ∷ 7 ∷ 8 ∷ []))
     ∷ [])
-    ∷ entry "delete, x right: outer nephew red"
-    (drawn 8
-    (picture (root 3 held 4 awaited 0 stores 0)
-    [] (row 1 10 100 1 0 0 ∷ row 2 20 200 0 1 0 ∷ row 3 30 300 0 2 4 ∷ row 4 40 400 0 0 0 ∷ []) [] (5 ∷ 6 ∷ 7 ∷ 8 ∷ []))
-    [])
+    ∷ entry "delete, x right: outer nephew red" (tree 8 (black (black redLeaf nil) blackLeaf))
     (B 2 40 ⇒ ok ∷ D 40 ⇒ ok ∷ W ⇒ more (Right 3) 0
     ∷ stands (picture (root 3 held 3 awaited 0 stores 2)
     (slot 2 wants 40 at 0 ∷ []) (row 1 10 100 1 0 0 ∷ row 2 20 200 0 1 0 ∷ row 3 30 300 0 2 0 ∷ []) (row 4 40 400 0 0 0 keptBy 4 ∷ [])
@@ -207,13 +141,8 @@ deletes =
     (row 3 30 300 0 2 0 keptBy 4 ∷ row 4 40 400 0 0 0 keptBy 4 ∷ []) (6 ∷ 7 ∷ 8 ∷ []))
     ∷ E 2 ⇒ ok
     ∷ stands (picture (root 2 held 3 awaited 0 stores 0)
-    [] (row 1 10 100 0 0 0 ∷ row 2 20 200 0 1 5 ∷ row 5 30 300 0 0 0 ∷ []) [] (6 ∷ 7 ∷ 8 ∷ 3 ∷ 4 ∷ []))
-    ∷ [])
-    ∷ entry "delete, x right: only inner nephew red"
-    (drawn 8
-    (picture (root 3 held 4 awaited 0 stores 0)
-    [] (row 1 10 100 0 0 2 ∷ row 2 20 200 1 0 0 ∷ row 3 30 300 0 1 4 ∷ row 4 40 400 0 0 0 ∷ []) [] (5 ∷ 6 ∷ 7 ∷ 8 ∷ []))
-    [])
+    [] (row 1 10 100 0 0 0 ∷ row 2 20 200 0 1 5 ∷ row 5 30 300 0 0 0 ∷ []) [] (6 ∷ 7 ∷ 8 ∷ 3 ∷ 4 ∷ [])) ∷ [])
+    ∷ entry "delete, x right: only inner nephew red" (tree 8 (black (black nil redLeaf) blackLeaf))
     (B 2 40 ⇒ ok ∷ D 40 ⇒ ok ∷ W ⇒ more (Right 3) 0
     ∷ stands (picture (root 3 held 3 awaited 0 stores 3)
     (slot 2 wants 40 at 0 ∷ []) (row 1 10 100 0 0 2 ∷ row 2 20 200 1 0 0 ∷ row 3 30 300 0 1 0 ∷ []) (row 4 40 400 0 0 0 keptBy 4 ∷ [])
@@ -224,8 +153,7 @@ deletes =
     (row 4 40 400 0 0 0 keptBy 4 ∷ []) (6 ∷ 7 ∷ 8 ∷ []))
     ∷ W ⇒ more (Right 2) 6
     ∷ stands (picture (root 3 held 3 awaited 0 stores 1)
-    (slot 2 wants 40 at 0 ∷ [])
-    (row 1 10 100 0 0 2 ∷ row 2 20 200 1 5 6 ∷ row 3 30 300 0 1 0 ∷ row 5 10 100 0 0 0 ∷ row 6 30 300 0 0 0 ∷ [])
+    (slot 2 wants 40 at 0 ∷ []) (row 1 10 100 0 0 2 ∷ row 2 20 200 1 5 6 ∷ row 3 30 300 0 1 0 ∷ row 5 10 100 0 0 0 ∷ row 6 30 300 0 0 0 ∷ [])
     (row 4 40 400 0 0 0 keptBy 4 ∷ []) (7 ∷ 8 ∷ []))
     ∷ W ⇒ done Root 2
     ∷ stands (picture (root 2 held 3 awaited 0 stores 0)
@@ -233,14 +161,8 @@ deletes =
     (row 1 10 100 0 0 2 keptBy 4 ∷ row 3 30 300 0 1 0 keptBy 4 ∷ row 4 40 400 0 0 0 keptBy 4 ∷ []) (7 ∷ 8 ∷ []))
     ∷ E 2 ⇒ ok
     ∷ stands (picture (root 2 held 3 awaited 0 stores 0)
-    [] (row 2 20 200 0 5 6 ∷ row 5 10 100 0 0 0 ∷ row 6 30 300 0 0 0 ∷ []) [] (7 ∷ 8 ∷ 1 ∷ 3 ∷ 4 ∷ []))
-    ∷ [])
-    ∷ entry "delete, x right: both nephews red"
-    (drawn 12
-    (picture (root 4 held 5 awaited 0 stores 0)
-    [] (row 1 10 100 1 0 0 ∷ row 2 20 200 0 1 3 ∷ row 3 30 300 1 0 0 ∷ row 4 40 400 0 2 5 ∷ row 5 50 500 0 0 0 ∷ []) []
-    (6 ∷ 7 ∷ 8 ∷ 9 ∷ 10 ∷ 11 ∷ 12 ∷ []))
-    [])
+    [] (row 2 20 200 0 5 6 ∷ row 5 10 100 0 0 0 ∷ row 6 30 300 0 0 0 ∷ []) [] (7 ∷ 8 ∷ 1 ∷ 3 ∷ 4 ∷ [])) ∷ [])
+    ∷ entry "delete, x right: both nephews red" (tree 12 (black (black redLeaf redLeaf) blackLeaf))
     (B 2 50 ⇒ ok ∷ D 50 ⇒ ok ∷ W ⇒ more (Right 4) 0 ∷ W ⇒ more (Right 2) 6 ∷ W ⇒ done Root 2
     ∷ stands (picture (root 2 held 4 awaited 0 stores 0)
     (slot 2 wants 50 at 0 ∷ []) (row 1 10 100 0 0 0 ∷ row 2 20 200 0 1 6 ∷ row 3 30 300 1 0 0 ∷ row 6 40 400 0 3 0 ∷ [])
@@ -249,20 +171,14 @@ deletes =
     ∷ stands (picture (root 2 held 4 awaited 0 stores 0)
     [] (row 1 10 100 0 0 0 ∷ row 2 20 200 0 1 6 ∷ row 3 30 300 1 0 0 ∷ row 6 40 400 0 3 0 ∷ []) [] (7 ∷ 8 ∷ 9 ∷ 10 ∷ 11 ∷ 12 ∷ 4 ∷ 5 ∷ []))
     ∷ [])
-    ∷ entry "delete, x right: red sibling, no red nephew then"
-    (drawn 12
-    (picture (root 4 held 5 awaited 0 stores 0)
-    [] (row 1 10 100 0 0 0 ∷ row 2 20 200 1 1 3 ∷ row 3 30 300 0 0 0 ∷ row 4 40 400 0 2 5 ∷ row 5 50 500 0 0 0 ∷ []) []
-    (6 ∷ 7 ∷ 8 ∷ 9 ∷ 10 ∷ 11 ∷ 12 ∷ []))
-    [])
+    ∷ entry "delete, x right: red sibling, no red nephew then" (tree 12 (black (red blackLeaf blackLeaf) blackLeaf))
     (B 2 50 ⇒ ok ∷ D 50 ⇒ ok ∷ W ⇒ more (Right 4) 0
     ∷ stands (picture (root 4 held 4 awaited 0 stores 2)
     (slot 2 wants 50 at 0 ∷ []) (row 1 10 100 0 0 0 ∷ row 2 20 200 1 1 3 ∷ row 3 30 300 0 0 0 ∷ row 4 40 400 0 2 0 ∷ [])
     (row 5 50 500 0 0 0 keptBy 4 ∷ []) (6 ∷ 7 ∷ 8 ∷ 9 ∷ 10 ∷ 11 ∷ 12 ∷ []))
     ∷ W ⇒ more (Right 2) 6
     ∷ stands (picture (root 4 held 4 awaited 0 stores 1)
-    (slot 2 wants 50 at 0 ∷ [])
-    (row 1 10 100 0 0 0 ∷ row 2 20 200 1 1 6 ∷ row 3 30 300 0 0 0 ∷ row 4 40 400 0 2 0 ∷ row 6 40 400 1 3 0 ∷ [])
+    (slot 2 wants 50 at 0 ∷ []) (row 1 10 100 0 0 0 ∷ row 2 20 200 1 1 6 ∷ row 3 30 300 0 0 0 ∷ row 4 40 400 0 2 0 ∷ row 6 40 400 1 3 0 ∷ [])
     (row 5 50 500 0 0 0 keptBy 4 ∷ []) (7 ∷ 8 ∷ 9 ∷ 10 ∷ 11 ∷ 12 ∷ []))
     ∷ W ⇒ done Root 2
     ∷ stands (picture (root 2 held 4 awaited 0 stores 0)
@@ -272,48 +188,27 @@ deletes =
     ∷ stands (picture (root 2 held 4 awaited 0 stores 0)
     [] (row 1 10 100 0 0 0 ∷ row 2 20 200 0 1 6 ∷ row 3 30 300 1 0 0 ∷ row 6 40 400 0 3 0 ∷ []) [] (7 ∷ 8 ∷ 9 ∷ 10 ∷ 11 ∷ 12 ∷ 4 ∷ 5 ∷ []))
     ∷ [])
-    ∷ entry "delete, x right: red sibling, then outer nephew red"
-    (drawn 12
-    (picture (root 5 held 6 awaited 0 stores 0)
-    [] (row 1 10 100 0 0 0 ∷ row 2 20 200 1 1 4 ∷ row 3 30 300 1 0 0 ∷ row 4 40 400 0 3 0 ∷ row 5 50 500 0 2 6 ∷ row 6 60 600 0 0 0 ∷ []) []
-    (7 ∷ 8 ∷ 9 ∷ 10 ∷ 11 ∷ 12 ∷ []))
-    [])
+    ∷ entry "delete, x right: red sibling, then outer nephew red" (tree 12 (black (red blackLeaf (black redLeaf nil)) blackLeaf))
     (B 2 60 ⇒ ok ∷ D 60 ⇒ ok ∷ W ⇒ more (Right 5) 0 ∷ W ⇒ more (Right 2) 7 ∷ W ⇒ more Root 2 ∷ W ⇒ more (Right 4) 8 ∷ W ⇒ done (Right 2) 4
     ∷ stands (picture (root 2 held 5 awaited 0 stores 0)
-    (slot 2 wants 60 at 0 ∷ [])
-    (row 1 10 100 0 0 0 ∷ row 2 20 200 0 1 4 ∷ row 3 30 300 0 0 0 ∷ row 4 40 400 1 3 8 ∷ row 8 50 500 0 0 0 ∷ [])
+    (slot 2 wants 60 at 0 ∷ []) (row 1 10 100 0 0 0 ∷ row 2 20 200 0 1 4 ∷ row 3 30 300 0 0 0 ∷ row 4 40 400 1 3 8 ∷ row 8 50 500 0 0 0 ∷ [])
     (row 5 50 500 0 2 0 keptBy 4 ∷ row 6 60 600 0 0 0 keptBy 4 ∷ row 7 50 500 1 4 0 keptBy 4 ∷ []) (9 ∷ 10 ∷ 11 ∷ 12 ∷ []))
     ∷ E 2 ⇒ ok
     ∷ stands (picture (root 2 held 5 awaited 0 stores 0)
     [] (row 1 10 100 0 0 0 ∷ row 2 20 200 0 1 4 ∷ row 3 30 300 0 0 0 ∷ row 4 40 400 1 3 8 ∷ row 8 50 500 0 0 0 ∷ []) []
-    (9 ∷ 10 ∷ 11 ∷ 12 ∷ 5 ∷ 6 ∷ 7 ∷ []))
-    ∷ [])
-    ∷ entry "delete, x right: red sibling, then only inner nephew red"
-    (drawn 12
-    (picture (root 5 held 6 awaited 0 stores 0)
-    [] (row 1 10 100 0 0 0 ∷ row 2 20 200 1 1 3 ∷ row 3 30 300 0 0 4 ∷ row 4 40 400 1 0 0 ∷ row 5 50 500 0 2 6 ∷ row 6 60 600 0 0 0 ∷ []) []
-    (7 ∷ 8 ∷ 9 ∷ 10 ∷ 11 ∷ 12 ∷ []))
-    [])
+    (9 ∷ 10 ∷ 11 ∷ 12 ∷ 5 ∷ 6 ∷ 7 ∷ [])) ∷ [])
+    ∷ entry "delete, x right: red sibling, then only inner nephew red" (tree 12 (black (red blackLeaf (black nil redLeaf)) blackLeaf))
     (B 2 60 ⇒ ok ∷ D 60 ⇒ ok ∷ W ⇒ more (Right 5) 0 ∷ W ⇒ more (Right 2) 7 ∷ W ⇒ more Root 2 ∷ W ⇒ more (Left 4) 8 ∷ W ⇒ more (Right 4) 9
     ∷ W ⇒ done (Right 2) 4
     ∷ stands (picture (root 2 held 5 awaited 0 stores 0)
-    (slot 2 wants 60 at 0 ∷ [])
-    (row 1 10 100 0 0 0 ∷ row 2 20 200 0 1 4 ∷ row 4 40 400 1 8 9 ∷ row 8 30 300 0 0 0 ∷ row 9 50 500 0 0 0 ∷ [])
+    (slot 2 wants 60 at 0 ∷ []) (row 1 10 100 0 0 0 ∷ row 2 20 200 0 1 4 ∷ row 4 40 400 1 8 9 ∷ row 8 30 300 0 0 0 ∷ row 9 50 500 0 0 0 ∷ [])
     (row 3 30 300 0 0 4 keptBy 4 ∷ row 5 50 500 0 2 0 keptBy 4 ∷ row 6 60 600 0 0 0 keptBy 4 ∷ row 7 50 500 1 3 0 keptBy 4 ∷ [])
     (10 ∷ 11 ∷ 12 ∷ []))
     ∷ E 2 ⇒ ok
     ∷ stands (picture (root 2 held 5 awaited 0 stores 0)
     [] (row 1 10 100 0 0 0 ∷ row 2 20 200 0 1 4 ∷ row 4 40 400 1 8 9 ∷ row 8 30 300 0 0 0 ∷ row 9 50 500 0 0 0 ∷ []) []
-    (10 ∷ 11 ∷ 12 ∷ 3 ∷ 5 ∷ 6 ∷ 7 ∷ []))
-    ∷ [])
-    ∷ entry "delete, x right: red sibling, then both nephews red"
-    (drawn 12
-    (picture (root 6 held 7 awaited 0 stores 0)
-    []
-    (row 1 10 100 0 0 0 ∷ row 2 20 200 1 1 4 ∷ row 3 30 300 1 0 0 ∷ row 4 40 400 0 3 5 ∷ row 5 50 500 1 0 0 ∷ row 6 60 600 0 2 7
-    ∷ row 7 70 700 0 0 0 ∷ [])
-    [] (8 ∷ 9 ∷ 10 ∷ 11 ∷ 12 ∷ []))
-    [])
+    (10 ∷ 11 ∷ 12 ∷ 3 ∷ 5 ∷ 6 ∷ 7 ∷ [])) ∷ [])
+    ∷ entry "delete, x right: red sibling, then both nephews red" (tree 12 (black (red blackLeaf (black redLeaf redLeaf)) blackLeaf))
     (B 2 70 ⇒ ok ∷ D 70 ⇒ ok ∷ W ⇒ more (Right 6) 0 ∷ W ⇒ more (Right 2) 8 ∷ W ⇒ more Root 2 ∷ W ⇒ more (Right 4) 9 ∷ W ⇒ done (Right 2) 4
     ∷ stands (picture (root 2 held 6 awaited 0 stores 0)
     (slot 2 wants 70 at 0 ∷ [])
@@ -321,37 +216,20 @@ deletes =
     (row 6 60 600 0 2 0 keptBy 4 ∷ row 7 70 700 0 0 0 keptBy 4 ∷ row 8 60 600 1 4 0 keptBy 4 ∷ []) (10 ∷ 11 ∷ 12 ∷ []))
     ∷ E 2 ⇒ ok
     ∷ stands (picture (root 2 held 6 awaited 0 stores 0)
-    [] (row 1 10 100 0 0 0 ∷ row 2 20 200 0 1 4 ∷ row 3 30 300 0 0 0 ∷ row 4 40 400 1 3 9 ∷ row 5 50 500 1 0 0 ∷ row 9 60 600 0 5 0 ∷ [])
-    [] (10 ∷ 11 ∷ 12 ∷ 6 ∷ 7 ∷ 8 ∷ []))
-    ∷ [])
-    ∷ entry "delete, x right: no red nephew, red parent"
-    (drawn 12
-    (picture (root 2 held 5 awaited 0 stores 0)
-    [] (row 1 10 100 0 0 0 ∷ row 2 20 200 0 1 4 ∷ row 3 30 300 0 0 0 ∷ row 4 40 400 1 3 5 ∷ row 5 50 500 0 0 0 ∷ []) []
-    (6 ∷ 7 ∷ 8 ∷ 9 ∷ 10 ∷ 11 ∷ 12 ∷ []))
-    [])
+    [] (row 1 10 100 0 0 0 ∷ row 2 20 200 0 1 4 ∷ row 3 30 300 0 0 0 ∷ row 4 40 400 1 3 9 ∷ row 5 50 500 1 0 0 ∷ row 9 60 600 0 5 0 ∷ []) []
+    (10 ∷ 11 ∷ 12 ∷ 6 ∷ 7 ∷ 8 ∷ [])) ∷ [])
+    ∷ entry "delete, x right: no red nephew, red parent" (tree 12 (black blackLeaf (red blackLeaf blackLeaf)))
     (B 2 50 ⇒ ok ∷ D 50 ⇒ ok ∷ W ⇒ done (Right 4) 0
     ∷ stands (picture (root 2 held 4 awaited 0 stores 0)
     (slot 2 wants 50 at 0 ∷ []) (row 1 10 100 0 0 0 ∷ row 2 20 200 0 1 4 ∷ row 3 30 300 1 0 0 ∷ row 4 40 400 0 3 0 ∷ [])
-    (row 5 50 500 0 0 0 keptBy 4 ∷ []) (6 ∷ 7 ∷ 8 ∷ 9 ∷ 10 ∷ 11 ∷ 12 ∷ []))
-    ∷ [])
-    ∷ entry "delete, x right: no red nephew, up to the root"
-    (drawn 8
-    (picture (root 2 held 3 awaited 0 stores 0)
-    [] (row 1 10 100 0 0 0 ∷ row 2 20 200 0 1 3 ∷ row 3 30 300 0 0 0 ∷ []) [] (4 ∷ 5 ∷ 6 ∷ 7 ∷ 8 ∷ []))
-    [])
+    (row 5 50 500 0 0 0 keptBy 4 ∷ []) (6 ∷ 7 ∷ 8 ∷ 9 ∷ 10 ∷ 11 ∷ 12 ∷ [])) ∷ [])
+    ∷ entry "delete, x right: no red nephew, up to the root" (tree 8 (black blackLeaf blackLeaf))
     (B 2 30 ⇒ ok ∷ D 30 ⇒ ok ∷ W ⇒ done (Right 2) 0
     ∷ stands (picture (root 2 held 2 awaited 0 stores 0)
     (slot 2 wants 30 at 0 ∷ []) (row 1 10 100 1 0 0 ∷ row 2 20 200 0 1 0 ∷ []) (row 3 30 300 0 0 0 keptBy 4 ∷ []) (4 ∷ 5 ∷ 6 ∷ 7 ∷ 8 ∷ []))
     ∷ [])
     ∷ entry "delete, x left: no red nephew, then x right with outer nephew red"
-    (drawn 16
-    (picture (root 6 held 9 awaited 0 stores 0)
-    []
-    (row 1 10 100 0 0 0 ∷ row 2 20 200 1 1 3 ∷ row 3 30 300 0 0 0 ∷ row 4 40 400 0 2 5 ∷ row 5 50 500 0 0 0 ∷ row 6 60 600 0 4 8
-    ∷ row 7 70 700 0 0 0 ∷ row 8 80 800 0 7 9 ∷ row 9 90 900 0 0 0 ∷ [])
-    [] (10 ∷ 11 ∷ 12 ∷ 13 ∷ 14 ∷ 15 ∷ 16 ∷ []))
-    [])
+    (tree 16 (black (black (red blackLeaf blackLeaf) blackLeaf) (black blackLeaf blackLeaf)))
     (B 2 70 ⇒ ok ∷ D 70 ⇒ ok ∷ W ⇒ more (Left 8) 0 ∷ W ⇒ more (Right 4) 10 ∷ W ⇒ done Root 4
     ∷ stands (picture (root 4 held 8 awaited 0 stores 0)
     (slot 2 wants 70 at 0 ∷ [])
@@ -363,42 +241,22 @@ deletes =
     []
     (row 1 10 100 0 0 0 ∷ row 2 20 200 0 1 3 ∷ row 3 30 300 0 0 0 ∷ row 4 40 400 0 2 10 ∷ row 5 50 500 0 0 0 ∷ row 8 80 800 0 0 9
     ∷ row 9 90 900 1 0 0 ∷ row 10 60 600 0 5 8 ∷ [])
-    [] (11 ∷ 12 ∷ 13 ∷ 14 ∷ 15 ∷ 16 ∷ 6 ∷ 7 ∷ []))
-    ∷ [])
+    [] (11 ∷ 12 ∷ 13 ∷ 14 ∷ 15 ∷ 16 ∷ 6 ∷ 7 ∷ [])) ∷ [])
     ∷ entry "delete, x right: no red nephew, then x left with only inner nephew red, none reading"
-    (drawn 16
-    (picture (root 4 held 9 awaited 0 stores 0)
-    []
-    (row 1 10 100 0 0 0 ∷ row 2 20 200 0 1 3 ∷ row 3 30 300 0 0 0 ∷ row 4 40 400 0 2 8 ∷ row 5 50 500 0 0 0 ∷ row 6 60 600 1 5 7
-    ∷ row 7 70 700 0 0 0 ∷ row 8 80 800 0 6 9 ∷ row 9 90 900 0 0 0 ∷ [])
-    [] (10 ∷ 11 ∷ 12 ∷ 13 ∷ 14 ∷ 15 ∷ 16 ∷ []))
-    [])
+    (tree 16 (black (black blackLeaf blackLeaf) (black (red blackLeaf blackLeaf) blackLeaf)))
     (D 30 ⇒ ok ∷ W ⇒ more (Right 2) 0 ∷ W ⇒ more (Right 6) 10 ∷ W ⇒ more (Left 6) 11 ∷ W ⇒ done Root 6
     ∷ stands (picture (root 6 held 8 awaited 0 stores 0)
     []
     (row 1 10 100 1 0 0 ∷ row 2 20 200 0 1 0 ∷ row 5 50 500 0 0 0 ∷ row 6 60 600 0 11 10 ∷ row 7 70 700 0 0 0 ∷ row 9 90 900 0 0 0
     ∷ row 10 80 800 0 7 9 ∷ row 11 40 400 0 2 5 ∷ [])
-    [] (12 ∷ 13 ∷ 14 ∷ 15 ∷ 16 ∷ 3 ∷ 4 ∷ 8 ∷ []))
-    ∷ [])
-    ∷ entry "delete, no red nephew twice, up to the root"
-    (drawn 12
-    (picture (root 4 held 7 awaited 0 stores 0)
-    []
-    (row 1 10 100 0 0 0 ∷ row 2 20 200 0 1 3 ∷ row 3 30 300 0 0 0 ∷ row 4 40 400 0 2 6 ∷ row 5 50 500 0 0 0 ∷ row 6 60 600 0 5 7
-    ∷ row 7 70 700 0 0 0 ∷ [])
-    [] (8 ∷ 9 ∷ 10 ∷ 11 ∷ 12 ∷ []))
-    [])
+    [] (12 ∷ 13 ∷ 14 ∷ 15 ∷ 16 ∷ 3 ∷ 4 ∷ 8 ∷ [])) ∷ [])
+    ∷ entry "delete, no red nephew twice, up to the root" (tree 12 (black (black blackLeaf blackLeaf) (black blackLeaf blackLeaf)))
     (B 2 50 ⇒ ok ∷ D 50 ⇒ ok ∷ W ⇒ done (Left 6) 0
     ∷ stands (picture (root 4 held 6 awaited 0 stores 0)
     (slot 2 wants 50 at 0 ∷ [])
     (row 1 10 100 0 0 0 ∷ row 2 20 200 1 1 3 ∷ row 3 30 300 0 0 0 ∷ row 4 40 400 0 2 6 ∷ row 6 60 600 0 0 7 ∷ row 7 70 700 1 0 0 ∷ [])
-    (row 5 50 500 0 0 0 keptBy 4 ∷ []) (8 ∷ 9 ∷ 10 ∷ 11 ∷ 12 ∷ []))
-    ∷ [])
-    ∷ entry "delete, right child without left child: red"
-    (drawn 8
-    (picture (root 2 held 3 awaited 0 stores 0)
-    [] (row 1 10 100 1 0 0 ∷ row 2 20 200 0 1 3 ∷ row 3 30 300 1 0 0 ∷ []) [] (4 ∷ 5 ∷ 6 ∷ 7 ∷ 8 ∷ []))
-    [])
+    (row 5 50 500 0 0 0 keptBy 4 ∷ []) (8 ∷ 9 ∷ 10 ∷ 11 ∷ 12 ∷ [])) ∷ [])
+    ∷ entry "delete, right child without left child: red" (tree 8 (black redLeaf redLeaf))
     (B 2 20 ⇒ ok ∷ D 20 ⇒ ok ∷ W ⇒ more (Left 3) 1
     ∷ stands (picture (root 2 held 3 awaited 0 stores 1)
     (slot 2 wants 20 at 0 ∷ []) (row 1 10 100 1 0 0 ∷ row 2 20 200 0 1 3 ∷ row 3 30 300 1 1 0 ∷ []) [] (4 ∷ 5 ∷ 6 ∷ 7 ∷ 8 ∷ []))
@@ -406,23 +264,14 @@ deletes =
     ∷ stands (picture (root 3 held 2 awaited 0 stores 0)
     (slot 2 wants 20 at 0 ∷ []) (row 1 10 100 1 0 0 ∷ row 3 30 300 0 1 0 ∷ []) (row 2 20 200 0 1 3 keptBy 4 ∷ []) (4 ∷ 5 ∷ 6 ∷ 7 ∷ 8 ∷ []))
     ∷ [])
-    ∷ entry "delete, right child without left child: red x turns black, none reading"
-    (drawn 8
-    (picture (root 2 held 4 awaited 0 stores 0)
-    [] (row 1 10 100 0 0 0 ∷ row 2 20 200 0 1 3 ∷ row 3 30 300 0 0 4 ∷ row 4 40 400 1 0 0 ∷ []) [] (5 ∷ 6 ∷ 7 ∷ 8 ∷ []))
-    [])
+    ∷ entry "delete, right child without left child: red x turns black, none reading" (tree 8 (black blackLeaf (black nil redLeaf)))
     (D 20 ⇒ ok ∷ W ⇒ more (Left 3) 1
     ∷ stands (picture (root 2 held 4 awaited 0 stores 1)
     [] (row 1 10 100 0 0 0 ∷ row 2 20 200 0 1 3 ∷ row 3 30 300 0 1 4 ∷ row 4 40 400 1 0 0 ∷ []) [] (5 ∷ 6 ∷ 7 ∷ 8 ∷ []))
     ∷ W ⇒ done Root 3
     ∷ stands (picture (root 3 held 3 awaited 0 stores 0)
-    [] (row 1 10 100 0 0 0 ∷ row 3 30 300 0 1 4 ∷ row 4 40 400 0 0 0 ∷ []) [] (5 ∷ 6 ∷ 7 ∷ 8 ∷ 2 ∷ []))
-    ∷ [])
-    ∷ entry "delete, right child without left child: outer nephew red"
-    (drawn 8
-    (picture (root 3 held 4 awaited 0 stores 0)
-    [] (row 1 10 100 1 0 0 ∷ row 2 20 200 0 1 0 ∷ row 3 30 300 0 2 4 ∷ row 4 40 400 0 0 0 ∷ []) [] (5 ∷ 6 ∷ 7 ∷ 8 ∷ []))
-    [])
+    [] (row 1 10 100 0 0 0 ∷ row 3 30 300 0 1 4 ∷ row 4 40 400 0 0 0 ∷ []) [] (5 ∷ 6 ∷ 7 ∷ 8 ∷ 2 ∷ [])) ∷ [])
+    ∷ entry "delete, right child without left child: outer nephew red" (tree 8 (black (black redLeaf nil) blackLeaf))
     (B 2 30 ⇒ ok ∷ D 30 ⇒ ok ∷ W ⇒ more (Left 4) 2
     ∷ stands (picture (root 3 held 4 awaited 0 stores 3)
     (slot 2 wants 30 at 0 ∷ []) (row 1 10 100 1 0 0 ∷ row 2 20 200 0 1 0 ∷ row 3 30 300 0 2 4 ∷ row 4 40 400 0 2 0 ∷ []) []
@@ -441,13 +290,8 @@ deletes =
     (row 3 30 300 0 2 4 keptBy 4 ∷ row 4 40 400 0 2 0 keptBy 4 ∷ []) (6 ∷ 7 ∷ 8 ∷ []))
     ∷ E 2 ⇒ ok
     ∷ stands (picture (root 2 held 3 awaited 0 stores 0)
-    [] (row 1 10 100 0 0 0 ∷ row 2 20 200 0 1 5 ∷ row 5 40 400 0 0 0 ∷ []) [] (6 ∷ 7 ∷ 8 ∷ 3 ∷ 4 ∷ []))
-    ∷ [])
-    ∷ entry "delete, right child without left child: only inner nephew red"
-    (drawn 8
-    (picture (root 3 held 4 awaited 0 stores 0)
-    [] (row 1 10 100 0 0 2 ∷ row 2 20 200 1 0 0 ∷ row 3 30 300 0 1 4 ∷ row 4 40 400 0 0 0 ∷ []) [] (5 ∷ 6 ∷ 7 ∷ 8 ∷ []))
-    [])
+    [] (row 1 10 100 0 0 0 ∷ row 2 20 200 0 1 5 ∷ row 5 40 400 0 0 0 ∷ []) [] (6 ∷ 7 ∷ 8 ∷ 3 ∷ 4 ∷ [])) ∷ [])
+    ∷ entry "delete, right child without left child: only inner nephew red" (tree 8 (black (black nil redLeaf) blackLeaf))
     (B 2 30 ⇒ ok ∷ D 30 ⇒ ok ∷ W ⇒ more (Left 4) 1
     ∷ stands (picture (root 3 held 4 awaited 0 stores 4)
     (slot 2 wants 30 at 0 ∷ []) (row 1 10 100 0 0 2 ∷ row 2 20 200 1 0 0 ∷ row 3 30 300 0 1 4 ∷ row 4 40 400 0 1 0 ∷ []) []
@@ -462,8 +306,7 @@ deletes =
     (row 3 30 300 0 1 4 keptBy 4 ∷ []) (6 ∷ 7 ∷ 8 ∷ []))
     ∷ W ⇒ more (Right 2) 6
     ∷ stands (picture (root 4 held 3 awaited 0 stores 1)
-    (slot 2 wants 30 at 0 ∷ [])
-    (row 1 10 100 0 0 2 ∷ row 2 20 200 1 5 6 ∷ row 4 40 400 0 1 0 ∷ row 5 10 100 0 0 0 ∷ row 6 40 400 0 0 0 ∷ [])
+    (slot 2 wants 30 at 0 ∷ []) (row 1 10 100 0 0 2 ∷ row 2 20 200 1 5 6 ∷ row 4 40 400 0 1 0 ∷ row 5 10 100 0 0 0 ∷ row 6 40 400 0 0 0 ∷ [])
     (row 3 30 300 0 1 4 keptBy 4 ∷ []) (7 ∷ 8 ∷ []))
     ∷ W ⇒ done Root 2
     ∷ stands (picture (root 2 held 3 awaited 0 stores 0)
@@ -471,14 +314,8 @@ deletes =
     (row 1 10 100 0 0 2 keptBy 4 ∷ row 3 30 300 0 1 4 keptBy 4 ∷ row 4 40 400 0 1 0 keptBy 4 ∷ []) (7 ∷ 8 ∷ []))
     ∷ E 2 ⇒ ok
     ∷ stands (picture (root 2 held 3 awaited 0 stores 0)
-    [] (row 2 20 200 0 5 6 ∷ row 5 10 100 0 0 0 ∷ row 6 40 400 0 0 0 ∷ []) [] (7 ∷ 8 ∷ 1 ∷ 3 ∷ 4 ∷ []))
-    ∷ [])
-    ∷ entry "delete, right child without left child: red sibling, no red nephew then"
-    (drawn 12
-    (picture (root 4 held 5 awaited 0 stores 0)
-    [] (row 1 10 100 0 0 0 ∷ row 2 20 200 1 1 3 ∷ row 3 30 300 0 0 0 ∷ row 4 40 400 0 2 5 ∷ row 5 50 500 0 0 0 ∷ []) []
-    (6 ∷ 7 ∷ 8 ∷ 9 ∷ 10 ∷ 11 ∷ 12 ∷ []))
-    [])
+    [] (row 2 20 200 0 5 6 ∷ row 5 10 100 0 0 0 ∷ row 6 40 400 0 0 0 ∷ []) [] (7 ∷ 8 ∷ 1 ∷ 3 ∷ 4 ∷ [])) ∷ [])
+    ∷ entry "delete, right child without left child: red sibling, no red nephew then" (tree 12 (black (red blackLeaf blackLeaf) blackLeaf))
     (B 2 40 ⇒ ok ∷ D 40 ⇒ ok ∷ W ⇒ more (Left 5) 2 ∷ W ⇒ more Root 5 ∷ W ⇒ more (Right 2) 6 ∷ W ⇒ done Root 2
     ∷ stands (picture (root 2 held 4 awaited 0 stores 0)
     (slot 2 wants 40 at 0 ∷ []) (row 1 10 100 0 0 0 ∷ row 2 20 200 0 1 6 ∷ row 3 30 300 1 0 0 ∷ row 6 50 500 0 3 0 ∷ [])
@@ -487,83 +324,48 @@ deletes =
     ∷ stands (picture (root 2 held 4 awaited 0 stores 0)
     [] (row 1 10 100 0 0 0 ∷ row 2 20 200 0 1 6 ∷ row 3 30 300 1 0 0 ∷ row 6 50 500 0 3 0 ∷ []) [] (7 ∷ 8 ∷ 9 ∷ 10 ∷ 11 ∷ 12 ∷ 4 ∷ 5 ∷ []))
     ∷ [])
-    ∷ entry "delete, right child without left child: seven stores"
-    (drawn 12
-    (picture (root 5 held 6 awaited 0 stores 0)
-    [] (row 1 10 100 0 0 0 ∷ row 2 20 200 1 1 3 ∷ row 3 30 300 0 0 4 ∷ row 4 40 400 1 0 0 ∷ row 5 50 500 0 2 6 ∷ row 6 60 600 0 0 0 ∷ []) []
-    (7 ∷ 8 ∷ 9 ∷ 10 ∷ 11 ∷ 12 ∷ []))
-    [])
+    ∷ entry "delete, right child without left child: seven stores" (tree 12 (black (red blackLeaf (black nil redLeaf)) blackLeaf))
     (B 2 50 ⇒ ok ∷ D 50 ⇒ ok ∷ W ⇒ more (Left 6) 2 ∷ W ⇒ more Root 6 ∷ W ⇒ more (Right 2) 7 ∷ W ⇒ more Root 2 ∷ W ⇒ more (Left 4) 8
     ∷ W ⇒ more (Right 4) 9 ∷ W ⇒ done (Right 2) 4
     ∷ stands (picture (root 2 held 5 awaited 0 stores 0)
-    (slot 2 wants 50 at 0 ∷ [])
-    (row 1 10 100 0 0 0 ∷ row 2 20 200 0 1 4 ∷ row 4 40 400 1 8 9 ∷ row 8 30 300 0 0 0 ∷ row 9 60 600 0 0 0 ∷ [])
+    (slot 2 wants 50 at 0 ∷ []) (row 1 10 100 0 0 0 ∷ row 2 20 200 0 1 4 ∷ row 4 40 400 1 8 9 ∷ row 8 30 300 0 0 0 ∷ row 9 60 600 0 0 0 ∷ [])
     (row 3 30 300 0 0 4 keptBy 4 ∷ row 5 50 500 0 2 6 keptBy 4 ∷ row 6 60 600 0 2 0 keptBy 4 ∷ row 7 60 600 1 3 0 keptBy 4 ∷ [])
     (10 ∷ 11 ∷ 12 ∷ []))
     ∷ E 2 ⇒ ok
     ∷ stands (picture (root 2 held 5 awaited 0 stores 0)
     [] (row 1 10 100 0 0 0 ∷ row 2 20 200 0 1 4 ∷ row 4 40 400 1 8 9 ∷ row 8 30 300 0 0 0 ∷ row 9 60 600 0 0 0 ∷ []) []
-    (10 ∷ 11 ∷ 12 ∷ 3 ∷ 5 ∷ 6 ∷ 7 ∷ []))
-    ∷ [])
-    ∷ entry "delete, right child without left child: no red nephew, red node in its place"
-    (drawn 12
-    (picture (root 2 held 5 awaited 0 stores 0)
-    [] (row 1 10 100 0 0 0 ∷ row 2 20 200 0 1 4 ∷ row 3 30 300 0 0 0 ∷ row 4 40 400 1 3 5 ∷ row 5 50 500 0 0 0 ∷ []) []
-    (6 ∷ 7 ∷ 8 ∷ 9 ∷ 10 ∷ 11 ∷ 12 ∷ []))
-    [])
+    (10 ∷ 11 ∷ 12 ∷ 3 ∷ 5 ∷ 6 ∷ 7 ∷ [])) ∷ [])
+    ∷ entry "delete, right child without left child: no red nephew, red node in its place" (tree 12 (black blackLeaf (red blackLeaf blackLeaf)))
     (B 2 40 ⇒ ok ∷ D 40 ⇒ ok ∷ W ⇒ more (Left 5) 3 ∷ W ⇒ done (Right 2) 5
     ∷ stands (picture (root 2 held 4 awaited 0 stores 0)
     (slot 2 wants 40 at 0 ∷ []) (row 1 10 100 0 0 0 ∷ row 2 20 200 0 1 5 ∷ row 3 30 300 1 0 0 ∷ row 5 50 500 0 3 0 ∷ [])
-    (row 4 40 400 1 3 5 keptBy 4 ∷ []) (6 ∷ 7 ∷ 8 ∷ 9 ∷ 10 ∷ 11 ∷ 12 ∷ []))
-    ∷ [])
-    ∷ entry "delete, right child without left child: no red nephew, up to the root"
-    (drawn 8
-    (picture (root 2 held 3 awaited 0 stores 0)
-    [] (row 1 10 100 0 0 0 ∷ row 2 20 200 0 1 3 ∷ row 3 30 300 0 0 0 ∷ []) [] (4 ∷ 5 ∷ 6 ∷ 7 ∷ 8 ∷ []))
-    [])
+    (row 4 40 400 1 3 5 keptBy 4 ∷ []) (6 ∷ 7 ∷ 8 ∷ 9 ∷ 10 ∷ 11 ∷ 12 ∷ [])) ∷ [])
+    ∷ entry "delete, right child without left child: no red nephew, up to the root" (tree 8 (black blackLeaf blackLeaf))
     (B 2 20 ⇒ ok ∷ D 20 ⇒ ok ∷ W ⇒ more (Left 3) 1 ∷ W ⇒ done Root 3
     ∷ stands (picture (root 3 held 2 awaited 0 stores 0)
     (slot 2 wants 20 at 0 ∷ []) (row 1 10 100 1 0 0 ∷ row 3 30 300 0 1 0 ∷ []) (row 2 20 200 0 1 3 keptBy 4 ∷ []) (4 ∷ 5 ∷ 6 ∷ 7 ∷ 8 ∷ []))
     ∷ [])
-    ∷ entry "delete, other: red"
-    (drawn 8
-    (picture (root 2 held 4 awaited 0 stores 0)
-    [] (row 1 10 100 0 0 0 ∷ row 2 20 200 0 1 4 ∷ row 3 30 300 1 0 0 ∷ row 4 40 400 0 3 0 ∷ []) [] (5 ∷ 6 ∷ 7 ∷ 8 ∷ []))
-    [])
+    ∷ entry "delete, other: red" (tree 8 (black blackLeaf (black redLeaf nil)))
     (D 20 ⇒ ok ∷ W ⇒ more Root 5
     ∷ stands (picture (root 5 held 3 awaited 0 stores 1)
     [] (row 1 10 100 0 0 0 ∷ row 3 30 300 1 0 0 ∷ row 4 40 400 0 3 0 ∷ row 5 30 300 0 1 4 ∷ []) [] (6 ∷ 7 ∷ 8 ∷ 2 ∷ []))
     ∷ B 2 20 ⇒ ok ∷ W ⇒ done (Left 4) 0
     ∷ stands (picture (root 5 held 3 awaited 0 stores 0)
     (slot 2 wants 20 at 0 ∷ []) (row 1 10 100 0 0 0 ∷ row 4 40 400 0 0 0 ∷ row 5 30 300 0 1 4 ∷ []) (row 3 30 300 1 0 0 keptBy 4 ∷ [])
-    (6 ∷ 7 ∷ 8 ∷ 2 ∷ []))
-    ∷ [])
-    ∷ entry "delete, other: red x turns black"
-    (drawn 12
-    (picture (root 2 held 6 awaited 0 stores 0)
-    [] (row 1 10 100 0 0 0 ∷ row 2 20 200 0 1 5 ∷ row 3 30 300 0 0 4 ∷ row 4 40 400 1 0 0 ∷ row 5 50 500 1 3 6 ∷ row 6 60 600 0 0 0 ∷ []) []
-    (7 ∷ 8 ∷ 9 ∷ 10 ∷ 11 ∷ 12 ∷ []))
-    [])
+    (6 ∷ 7 ∷ 8 ∷ 2 ∷ [])) ∷ [])
+    ∷ entry "delete, other: red x turns black" (tree 12 (black blackLeaf (red (black nil redLeaf) blackLeaf)))
     (D 20 ⇒ ok ∷ W ⇒ more Root 7 ∷ B 2 20 ⇒ ok ∷ W ⇒ done (Left 5) 4
     ∷ stands (picture (root 7 held 5 awaited 0 stores 0)
-    (slot 2 wants 20 at 0 ∷ [])
-    (row 1 10 100 0 0 0 ∷ row 4 40 400 0 0 0 ∷ row 5 50 500 1 4 6 ∷ row 6 60 600 0 0 0 ∷ row 7 30 300 0 1 5 ∷ [])
-    (row 3 30 300 0 0 4 keptBy 4 ∷ []) (8 ∷ 9 ∷ 10 ∷ 11 ∷ 12 ∷ 2 ∷ []))
-    ∷ [])
-    ∷ entry "delete, other: outer nephew red; the rotation moves to the copy"
-    (drawn 12
-    (picture (root 2 held 6 awaited 0 stores 0)
-    [] (row 1 10 100 0 0 0 ∷ row 2 20 200 0 1 4 ∷ row 3 30 300 0 0 0 ∷ row 4 40 400 1 3 5 ∷ row 5 50 500 0 0 6 ∷ row 6 60 600 1 0 0 ∷ []) []
-    (7 ∷ 8 ∷ 9 ∷ 10 ∷ 11 ∷ 12 ∷ []))
-    [])
+    (slot 2 wants 20 at 0 ∷ []) (row 1 10 100 0 0 0 ∷ row 4 40 400 0 0 0 ∷ row 5 50 500 1 4 6 ∷ row 6 60 600 0 0 0 ∷ row 7 30 300 0 1 5 ∷ [])
+    (row 3 30 300 0 0 4 keptBy 4 ∷ []) (8 ∷ 9 ∷ 10 ∷ 11 ∷ 12 ∷ 2 ∷ [])) ∷ [])
+    ∷ entry "delete, other: outer nephew red; the rotation moves to the copy" (tree 12 (black blackLeaf (red blackLeaf (black nil redLeaf))))
     (D 20 ⇒ ok ∷ W ⇒ more Root 7
     ∷ stands (picture (root 7 held 5 awaited 0 stores 3)
-    [] (row 1 10 100 0 0 0 ∷ row 3 30 300 0 0 0 ∷ row 4 40 400 1 3 5 ∷ row 5 50 500 0 0 6 ∷ row 6 60 600 1 0 0 ∷ row 7 30 300 0 1 4 ∷ [])
-    [] (8 ∷ 9 ∷ 10 ∷ 11 ∷ 12 ∷ 2 ∷ []))
+    [] (row 1 10 100 0 0 0 ∷ row 3 30 300 0 0 0 ∷ row 4 40 400 1 3 5 ∷ row 5 50 500 0 0 6 ∷ row 6 60 600 1 0 0 ∷ row 7 30 300 0 1 4 ∷ []) []
+    (8 ∷ 9 ∷ 10 ∷ 11 ∷ 12 ∷ 2 ∷ []))
     ∷ B 2 20 ⇒ ok ∷ W ⇒ more (Left 4) 0
     ∷ stands (picture (root 7 held 5 awaited 0 stores 2)
-    (slot 2 wants 20 at 0 ∷ [])
-    (row 1 10 100 0 0 0 ∷ row 4 40 400 1 0 5 ∷ row 5 50 500 0 0 6 ∷ row 6 60 600 1 0 0 ∷ row 7 30 300 0 1 4 ∷ [])
+    (slot 2 wants 20 at 0 ∷ []) (row 1 10 100 0 0 0 ∷ row 4 40 400 1 0 5 ∷ row 5 50 500 0 0 6 ∷ row 6 60 600 1 0 0 ∷ row 7 30 300 0 1 4 ∷ [])
     (row 3 30 300 0 0 0 keptBy 4 ∷ []) (8 ∷ 9 ∷ 10 ∷ 11 ∷ 12 ∷ 2 ∷ []))
     ∷ W ⇒ more (Left 5) 8
     ∷ stands (picture (root 7 held 5 awaited 0 stores 1)
@@ -572,28 +374,20 @@ deletes =
     (row 3 30 300 0 0 0 keptBy 4 ∷ []) (9 ∷ 10 ∷ 11 ∷ 12 ∷ 2 ∷ []))
     ∷ W ⇒ done (Right 7) 5
     ∷ stands (picture (root 7 held 5 awaited 0 stores 0)
-    (slot 2 wants 20 at 0 ∷ [])
-    (row 1 10 100 0 0 0 ∷ row 5 50 500 1 8 6 ∷ row 6 60 600 0 0 0 ∷ row 7 30 300 0 1 5 ∷ row 8 40 400 0 0 0 ∷ [])
+    (slot 2 wants 20 at 0 ∷ []) (row 1 10 100 0 0 0 ∷ row 5 50 500 1 8 6 ∷ row 6 60 600 0 0 0 ∷ row 7 30 300 0 1 5 ∷ row 8 40 400 0 0 0 ∷ [])
     (row 3 30 300 0 0 0 keptBy 4 ∷ row 4 40 400 1 0 5 keptBy 4 ∷ []) (9 ∷ 10 ∷ 11 ∷ 12 ∷ 2 ∷ []))
     ∷ E 2 ⇒ ok
     ∷ stands (picture (root 7 held 5 awaited 0 stores 0)
     [] (row 1 10 100 0 0 0 ∷ row 5 50 500 1 8 6 ∷ row 6 60 600 0 0 0 ∷ row 7 30 300 0 1 5 ∷ row 8 40 400 0 0 0 ∷ []) []
-    (9 ∷ 10 ∷ 11 ∷ 12 ∷ 2 ∷ 3 ∷ 4 ∷ []))
-    ∷ [])
-    ∷ entry "delete, other: only inner nephew red; the rotation moves to the copy"
-    (drawn 12
-    (picture (root 2 held 6 awaited 0 stores 0)
-    [] (row 1 10 100 0 0 0 ∷ row 2 20 200 0 1 4 ∷ row 3 30 300 0 0 0 ∷ row 4 40 400 1 3 6 ∷ row 5 50 500 1 0 0 ∷ row 6 60 600 0 5 0 ∷ []) []
-    (7 ∷ 8 ∷ 9 ∷ 10 ∷ 11 ∷ 12 ∷ []))
-    [])
+    (9 ∷ 10 ∷ 11 ∷ 12 ∷ 2 ∷ 3 ∷ 4 ∷ [])) ∷ [])
+    ∷ entry "delete, other: only inner nephew red; the rotation moves to the copy" (tree 12 (black blackLeaf (red blackLeaf (black redLeaf nil))))
     (D 20 ⇒ ok ∷ W ⇒ more Root 7
     ∷ stands (picture (root 7 held 5 awaited 0 stores 4)
-    [] (row 1 10 100 0 0 0 ∷ row 3 30 300 0 0 0 ∷ row 4 40 400 1 3 6 ∷ row 5 50 500 1 0 0 ∷ row 6 60 600 0 5 0 ∷ row 7 30 300 0 1 4 ∷ [])
-    [] (8 ∷ 9 ∷ 10 ∷ 11 ∷ 12 ∷ 2 ∷ []))
+    [] (row 1 10 100 0 0 0 ∷ row 3 30 300 0 0 0 ∷ row 4 40 400 1 3 6 ∷ row 5 50 500 1 0 0 ∷ row 6 60 600 0 5 0 ∷ row 7 30 300 0 1 4 ∷ []) []
+    (8 ∷ 9 ∷ 10 ∷ 11 ∷ 12 ∷ 2 ∷ []))
     ∷ B 2 20 ⇒ ok ∷ W ⇒ more (Left 4) 0
     ∷ stands (picture (root 7 held 5 awaited 0 stores 3)
-    (slot 2 wants 20 at 0 ∷ [])
-    (row 1 10 100 0 0 0 ∷ row 4 40 400 1 0 6 ∷ row 5 50 500 1 0 0 ∷ row 6 60 600 0 5 0 ∷ row 7 30 300 0 1 4 ∷ [])
+    (slot 2 wants 20 at 0 ∷ []) (row 1 10 100 0 0 0 ∷ row 4 40 400 1 0 6 ∷ row 5 50 500 1 0 0 ∷ row 6 60 600 0 5 0 ∷ row 7 30 300 0 1 4 ∷ [])
     (row 3 30 300 0 0 0 keptBy 4 ∷ []) (8 ∷ 9 ∷ 10 ∷ 11 ∷ 12 ∷ 2 ∷ []))
     ∷ W ⇒ more (Right 5) 8
     ∷ stands (picture (root 7 held 5 awaited 0 stores 2)
@@ -608,22 +402,14 @@ deletes =
     (row 3 30 300 0 0 0 keptBy 4 ∷ []) (10 ∷ 11 ∷ 12 ∷ 2 ∷ []))
     ∷ W ⇒ done (Right 7) 5
     ∷ stands (picture (root 7 held 5 awaited 0 stores 0)
-    (slot 2 wants 20 at 0 ∷ [])
-    (row 1 10 100 0 0 0 ∷ row 5 50 500 1 9 8 ∷ row 7 30 300 0 1 5 ∷ row 8 60 600 0 0 0 ∷ row 9 40 400 0 0 0 ∷ [])
+    (slot 2 wants 20 at 0 ∷ []) (row 1 10 100 0 0 0 ∷ row 5 50 500 1 9 8 ∷ row 7 30 300 0 1 5 ∷ row 8 60 600 0 0 0 ∷ row 9 40 400 0 0 0 ∷ [])
     (row 3 30 300 0 0 0 keptBy 4 ∷ row 4 40 400 1 0 6 keptBy 4 ∷ row 6 60 600 0 5 0 keptBy 4 ∷ []) (10 ∷ 11 ∷ 12 ∷ 2 ∷ []))
     ∷ E 2 ⇒ ok
     ∷ stands (picture (root 7 held 5 awaited 0 stores 0)
     [] (row 1 10 100 0 0 0 ∷ row 5 50 500 1 9 8 ∷ row 7 30 300 0 1 5 ∷ row 8 60 600 0 0 0 ∷ row 9 40 400 0 0 0 ∷ []) []
-    (10 ∷ 11 ∷ 12 ∷ 2 ∷ 3 ∷ 4 ∷ 6 ∷ []))
-    ∷ [])
+    (10 ∷ 11 ∷ 12 ∷ 2 ∷ 3 ∷ 4 ∷ 6 ∷ [])) ∷ [])
     ∷ entry "delete, other: red sibling, no red nephew then"
-    (drawn 16
-    (picture (root 4 held 9 awaited 0 stores 0)
-    []
-    (row 1 10 100 0 0 0 ∷ row 2 20 200 0 1 3 ∷ row 3 30 300 0 0 0 ∷ row 4 40 400 0 2 6 ∷ row 5 50 500 0 0 0 ∷ row 6 60 600 0 5 8
-    ∷ row 7 70 700 0 0 0 ∷ row 8 80 800 1 7 9 ∷ row 9 90 900 0 0 0 ∷ [])
-    [] (10 ∷ 11 ∷ 12 ∷ 13 ∷ 14 ∷ 15 ∷ 16 ∷ []))
-    [])
+    (tree 16 (black (black blackLeaf blackLeaf) (black blackLeaf (red blackLeaf blackLeaf))))
     (D 40 ⇒ ok ∷ W ⇒ more Root 10
     ∷ stands (picture (root 10 held 8 awaited 0 stores 3)
     []
@@ -653,16 +439,8 @@ deletes =
     []
     (row 1 10 100 0 0 0 ∷ row 2 20 200 0 1 3 ∷ row 3 30 300 0 0 0 ∷ row 7 70 700 1 0 0 ∷ row 8 80 800 0 11 9 ∷ row 9 90 900 0 0 0
     ∷ row 10 50 500 0 2 8 ∷ row 11 60 600 0 0 7 ∷ [])
-    [] (12 ∷ 13 ∷ 14 ∷ 15 ∷ 16 ∷ 4 ∷ 5 ∷ 6 ∷ []))
-    ∷ [])
-    ∷ entry "delete, other: seven stores"
-    (drawn 16
-    (picture (root 4 held 10 awaited 0 stores 0)
-    []
-    (row 1 10 100 0 0 0 ∷ row 2 20 200 0 1 3 ∷ row 3 30 300 0 0 0 ∷ row 4 40 400 0 2 6 ∷ row 5 50 500 0 0 0 ∷ row 6 60 600 0 5 9
-    ∷ row 7 70 700 1 0 0 ∷ row 8 80 800 0 7 0 ∷ row 9 90 900 1 8 10 ∷ row 10 100 1000 0 0 0 ∷ [])
-    [] (11 ∷ 12 ∷ 13 ∷ 14 ∷ 15 ∷ 16 ∷ []))
-    [])
+    [] (12 ∷ 13 ∷ 14 ∷ 15 ∷ 16 ∷ 4 ∷ 5 ∷ 6 ∷ [])) ∷ [])
+    ∷ entry "delete, other: seven stores" (tree 16 (black (black blackLeaf blackLeaf) (black blackLeaf (red (black redLeaf nil) blackLeaf))))
     (D 40 ⇒ ok ∷ W ⇒ more Root 11 ∷ B 2 40 ⇒ ok ∷ W ⇒ more (Left 6) 0 ∷ W ⇒ more (Left 9) 12 ∷ W ⇒ more (Right 11) 9 ∷ W ⇒ more (Right 7) 13
     ∷ W ⇒ more (Left 7) 14 ∷ W ⇒ done (Left 9) 7
     ∷ stands (picture (root 11 held 9 awaited 0 stores 0)
@@ -676,26 +454,14 @@ deletes =
     []
     (row 1 10 100 0 0 0 ∷ row 2 20 200 0 1 3 ∷ row 3 30 300 0 0 0 ∷ row 7 70 700 1 14 13 ∷ row 9 90 900 0 7 10 ∷ row 10 100 1000 0 0 0
     ∷ row 11 50 500 0 2 9 ∷ row 13 80 800 0 0 0 ∷ row 14 60 600 0 0 0 ∷ [])
-    [] (15 ∷ 16 ∷ 4 ∷ 5 ∷ 6 ∷ 8 ∷ 12 ∷ []))
-    ∷ [])
-    ∷ entry "delete, other: no red nephew, red parent, none reading"
-    (drawn 12
-    (picture (root 2 held 5 awaited 0 stores 0)
-    [] (row 1 10 100 0 0 0 ∷ row 2 20 200 0 1 4 ∷ row 3 30 300 0 0 0 ∷ row 4 40 400 1 3 5 ∷ row 5 50 500 0 0 0 ∷ []) []
-    (6 ∷ 7 ∷ 8 ∷ 9 ∷ 10 ∷ 11 ∷ 12 ∷ []))
-    [])
+    [] (15 ∷ 16 ∷ 4 ∷ 5 ∷ 6 ∷ 8 ∷ 12 ∷ [])) ∷ [])
+    ∷ entry "delete, other: no red nephew, red parent, none reading" (tree 12 (black blackLeaf (red blackLeaf blackLeaf)))
     (D 20 ⇒ ok ∷ W ⇒ more Root 6 ∷ W ⇒ done (Left 4) 0
     ∷ stands (picture (root 6 held 4 awaited 0 stores 0)
     [] (row 1 10 100 0 0 0 ∷ row 4 40 400 0 0 5 ∷ row 5 50 500 1 0 0 ∷ row 6 30 300 0 1 4 ∷ []) [] (7 ∷ 8 ∷ 9 ∷ 10 ∷ 11 ∷ 12 ∷ 2 ∷ 3 ∷ []))
     ∷ [])
     ∷ entry "delete, other: no red nephew, then x right with outer nephew red"
-    (drawn 16
-    (picture (root 6 held 9 awaited 0 stores 0)
-    []
-    (row 1 10 100 0 0 0 ∷ row 2 20 200 1 1 3 ∷ row 3 30 300 0 0 0 ∷ row 4 40 400 0 2 5 ∷ row 5 50 500 0 0 0 ∷ row 6 60 600 0 4 8
-    ∷ row 7 70 700 0 0 0 ∷ row 8 80 800 0 7 9 ∷ row 9 90 900 0 0 0 ∷ [])
-    [] (10 ∷ 11 ∷ 12 ∷ 13 ∷ 14 ∷ 15 ∷ 16 ∷ []))
-    [])
+    (tree 16 (black (black (red blackLeaf blackLeaf) blackLeaf) (black blackLeaf blackLeaf)))
     (D 60 ⇒ ok ∷ W ⇒ more Root 10 ∷ B 2 60 ⇒ ok ∷ W ⇒ more (Left 8) 0 ∷ W ⇒ more (Right 4) 11 ∷ W ⇒ done Root 4
     ∷ stands (picture (root 4 held 8 awaited 0 stores 0)
     (slot 2 wants 60 at 0 ∷ [])
@@ -707,112 +473,58 @@ deletes =
     []
     (row 1 10 100 0 0 0 ∷ row 2 20 200 0 1 3 ∷ row 3 30 300 0 0 0 ∷ row 4 40 400 0 2 11 ∷ row 5 50 500 0 0 0 ∷ row 8 80 800 0 0 9
     ∷ row 9 90 900 1 0 0 ∷ row 11 70 700 0 5 8 ∷ [])
-    [] (12 ∷ 13 ∷ 14 ∷ 15 ∷ 16 ∷ 6 ∷ 7 ∷ 10 ∷ []))
-    ∷ [])
-    ∷ entry "delete, other: the successor two lefts below"
-    (drawn 12
-    (picture (root 2 held 6 awaited 0 stores 0)
-    [] (row 1 10 100 0 0 0 ∷ row 2 20 200 0 1 5 ∷ row 3 30 300 1 0 0 ∷ row 4 40 400 0 3 0 ∷ row 5 50 500 1 4 6 ∷ row 6 60 600 0 0 0 ∷ []) []
-    (7 ∷ 8 ∷ 9 ∷ 10 ∷ 11 ∷ 12 ∷ []))
-    [])
+    [] (12 ∷ 13 ∷ 14 ∷ 15 ∷ 16 ∷ 6 ∷ 7 ∷ 10 ∷ [])) ∷ [])
+    ∷ entry "delete, other: the successor two lefts below" (tree 12 (black blackLeaf (red (black redLeaf nil) blackLeaf)))
     (D 20 ⇒ ok ∷ W ⇒ more Root 7 ∷ B 2 20 ⇒ ok ∷ W ⇒ done (Left 4) 0
     ∷ stands (picture (root 7 held 5 awaited 0 stores 0)
-    (slot 2 wants 20 at 0 ∷ [])
-    (row 1 10 100 0 0 0 ∷ row 4 40 400 0 0 0 ∷ row 5 50 500 1 4 6 ∷ row 6 60 600 0 0 0 ∷ row 7 30 300 0 1 5 ∷ [])
-    (row 3 30 300 1 0 0 keptBy 4 ∷ []) (8 ∷ 9 ∷ 10 ∷ 11 ∷ 12 ∷ 2 ∷ []))
-    ∷ [])
+    (slot 2 wants 20 at 0 ∷ []) (row 1 10 100 0 0 0 ∷ row 4 40 400 0 0 0 ∷ row 5 50 500 1 4 6 ∷ row 6 60 600 0 0 0 ∷ row 7 30 300 0 1 5 ∷ [])
+    (row 3 30 300 1 0 0 keptBy 4 ∷ []) (8 ∷ 9 ∷ 10 ∷ 11 ∷ 12 ∷ 2 ∷ [])) ∷ [])
     ∷ entry "delete, no red nephew, then a red sibling, none reading"
-    (drawn 16
-    (picture (root 4 held 11 awaited 0 stores 0)
-    []
-    (row 1 10 100 0 0 0 ∷ row 2 20 200 0 1 3 ∷ row 3 30 300 0 0 0 ∷ row 4 40 400 0 2 8 ∷ row 5 50 500 0 0 0 ∷ row 6 60 600 0 5 7 ∷ row 7 70 700 0 0 0
-    ∷ row 8 80 800 1 6 10 ∷ row 9 90 900 0 0 0 ∷ row 10 100 1000 0 9 11 ∷ row 11 110 1100 0 0 0 ∷ [])
-    [] (12 ∷ 13 ∷ 14 ∷ 15 ∷ 16 ∷ []))
-    [])
+    (tree 16 (black (black blackLeaf blackLeaf) (red (black blackLeaf blackLeaf) (black blackLeaf blackLeaf))))
     (D 10 ⇒ ok ∷ W ⇒ more (Left 2) 0 ∷ W ⇒ more (Left 8) 12 ∷ W ⇒ done Root 8
     ∷ stands (picture (root 8 held 10 awaited 0 stores 0)
     []
-    (row 2 20 200 0 0 3 ∷ row 3 30 300 1 0 0 ∷ row 5 50 500 0 0 0 ∷ row 6 60 600 1 5 7 ∷ row 7 70 700 0 0 0 ∷ row 8 80 800 0 12 10 ∷ row 9 90 900 0 0 0
-    ∷ row 10 100 1000 0 9 11 ∷ row 11 110 1100 0 0 0 ∷ row 12 40 400 0 2 6 ∷ [])
-    [] (13 ∷ 14 ∷ 15 ∷ 16 ∷ 1 ∷ 4 ∷ []))
-    ∷ [])
+    (row 2 20 200 0 0 3 ∷ row 3 30 300 1 0 0 ∷ row 5 50 500 0 0 0 ∷ row 6 60 600 1 5 7 ∷ row 7 70 700 0 0 0 ∷ row 8 80 800 0 12 10
+    ∷ row 9 90 900 0 0 0 ∷ row 10 100 1000 0 9 11 ∷ row 11 110 1100 0 0 0 ∷ row 12 40 400 0 2 6 ∷ [])
+    [] (13 ∷ 14 ∷ 15 ∷ 16 ∷ 1 ∷ 4 ∷ [])) ∷ [])
     ∷ entry "delete, no red nephew twice, then a red parent, none reading"
-    (drawn 16
-    (picture (root 8 held 11 awaited 0 stores 0)
-    []
-    (row 1 10 100 0 0 0 ∷ row 2 20 200 0 1 3 ∷ row 3 30 300 0 0 0 ∷ row 4 40 400 1 2 6 ∷ row 5 50 500 0 0 0 ∷ row 6 60 600 0 5 7 ∷ row 7 70 700 0 0 0
-    ∷ row 8 80 800 0 4 10 ∷ row 9 90 900 0 0 0 ∷ row 10 100 1000 0 9 11 ∷ row 11 110 1100 0 0 0 ∷ [])
-    [] (12 ∷ 13 ∷ 14 ∷ 15 ∷ 16 ∷ []))
-    [])
+    (tree 16 (black (red (black blackLeaf blackLeaf) (black blackLeaf blackLeaf)) (black blackLeaf blackLeaf)))
     (D 10 ⇒ ok ∷ W ⇒ done (Left 2) 0
     ∷ stands (picture (root 8 held 10 awaited 0 stores 0)
     []
-    (row 2 20 200 0 0 3 ∷ row 3 30 300 1 0 0 ∷ row 4 40 400 0 2 6 ∷ row 5 50 500 0 0 0 ∷ row 6 60 600 1 5 7 ∷ row 7 70 700 0 0 0 ∷ row 8 80 800 0 4 10
-    ∷ row 9 90 900 0 0 0 ∷ row 10 100 1000 0 9 11 ∷ row 11 110 1100 0 0 0 ∷ [])
-    [] (12 ∷ 13 ∷ 14 ∷ 15 ∷ 16 ∷ 1 ∷ []))
-    ∷ [])
+    (row 2 20 200 0 0 3 ∷ row 3 30 300 1 0 0 ∷ row 4 40 400 0 2 6 ∷ row 5 50 500 0 0 0 ∷ row 6 60 600 1 5 7 ∷ row 7 70 700 0 0 0
+    ∷ row 8 80 800 0 4 10 ∷ row 9 90 900 0 0 0 ∷ row 10 100 1000 0 9 11 ∷ row 11 110 1100 0 0 0 ∷ [])
+    [] (12 ∷ 13 ∷ 14 ∷ 15 ∷ 16 ∷ 1 ∷ [])) ∷ [])
     ∷ entry "delete, right child without left child: on a left link, no red nephew twice, up to the root"
-    (drawn 12
-    (picture (root 4 held 7 awaited 0 stores 0)
-    []
-    (row 1 10 100 0 0 0 ∷ row 2 20 200 0 1 3 ∷ row 3 30 300 0 0 0 ∷ row 4 40 400 0 2 6 ∷ row 5 50 500 0 0 0 ∷ row 6 60 600 0 5 7 ∷ row 7 70 700 0 0 0 ∷ [])
-    [] (8 ∷ 9 ∷ 10 ∷ 11 ∷ 12 ∷ []))
-    [])
+    (tree 12 (black (black blackLeaf blackLeaf) (black blackLeaf blackLeaf)))
     (B 2 20 ⇒ ok ∷ D 20 ⇒ ok ∷ W ⇒ more (Left 3) 1 ∷ W ⇒ done (Left 4) 3
     ∷ stands (picture (root 4 held 6 awaited 0 stores 0)
     (slot 2 wants 20 at 0 ∷ [])
     (row 1 10 100 1 0 0 ∷ row 3 30 300 0 1 0 ∷ row 4 40 400 0 3 6 ∷ row 5 50 500 0 0 0 ∷ row 6 60 600 1 5 7 ∷ row 7 70 700 0 0 0 ∷ [])
-    (row 2 20 200 0 1 3 keptBy 4 ∷ []) (8 ∷ 9 ∷ 10 ∷ 11 ∷ 12 ∷ []))
-    ∷ [])
+    (row 2 20 200 0 1 3 keptBy 4 ∷ []) (8 ∷ 9 ∷ 10 ∷ 11 ∷ 12 ∷ [])) ∷ [])
     ∷ entry "delete, right child without left child: a red node, C takes its red, none reading"
-    (drawn 12
-    (picture (root 2 held 6 awaited 0 stores 0)
-    [] (row 1 10 100 0 0 0 ∷ row 2 20 200 0 1 4 ∷ row 3 30 300 0 0 0 ∷ row 4 40 400 1 3 5 ∷ row 5 50 500 0 0 6 ∷ row 6 60 600 1 0 0 ∷ []) []
-    (7 ∷ 8 ∷ 9 ∷ 10 ∷ 11 ∷ 12 ∷ []))
-    [])
+    (tree 12 (black blackLeaf (red blackLeaf (black nil redLeaf))))
     (D 40 ⇒ ok ∷ W ⇒ more (Left 5) 3 ∷ W ⇒ done (Right 2) 5
     ∷ stands (picture (root 2 held 5 awaited 0 stores 0)
     [] (row 1 10 100 0 0 0 ∷ row 2 20 200 0 1 5 ∷ row 3 30 300 0 0 0 ∷ row 5 50 500 1 3 6 ∷ row 6 60 600 0 0 0 ∷ []) []
-    (7 ∷ 8 ∷ 9 ∷ 10 ∷ 11 ∷ 12 ∷ 4 ∷ []))
-    ∷ [])
-    ∷ entry "delete, other: a red node on a left link, the copy red"
-    (drawn 12
-    (picture (root 5 held 6 awaited 0 stores 0)
-    [] (row 1 10 100 0 0 0 ∷ row 2 20 200 1 1 4 ∷ row 3 30 300 1 0 0 ∷ row 4 40 400 0 3 0 ∷ row 5 50 500 0 2 6 ∷ row 6 60 600 0 0 0 ∷ []) []
-    (7 ∷ 8 ∷ 9 ∷ 10 ∷ 11 ∷ 12 ∷ []))
-    [])
+    (7 ∷ 8 ∷ 9 ∷ 10 ∷ 11 ∷ 12 ∷ 4 ∷ [])) ∷ [])
+    ∷ entry "delete, other: a red node on a left link, the copy red" (tree 12 (black (red blackLeaf (black redLeaf nil)) blackLeaf))
     (D 20 ⇒ ok ∷ W ⇒ more (Left 5) 7 ∷ B 2 20 ⇒ ok ∷ W ⇒ done (Left 4) 0
     ∷ stands (picture (root 5 held 5 awaited 0 stores 0)
-    (slot 2 wants 20 at 0 ∷ [])
-    (row 1 10 100 0 0 0 ∷ row 4 40 400 0 0 0 ∷ row 5 50 500 0 7 6 ∷ row 6 60 600 0 0 0 ∷ row 7 30 300 1 1 4 ∷ [])
-    (row 3 30 300 1 0 0 keptBy 4 ∷ []) (8 ∷ 9 ∷ 10 ∷ 11 ∷ 12 ∷ 2 ∷ []))
-    ∷ [])
-    ∷ entry "delete, other: a red node on a right link, none reading"
-    (drawn 12
-    (picture (root 2 held 6 awaited 0 stores 0)
-    [] (row 1 10 100 0 0 0 ∷ row 2 20 200 0 1 4 ∷ row 3 30 300 0 0 0 ∷ row 4 40 400 1 3 6 ∷ row 5 50 500 1 0 0 ∷ row 6 60 600 0 5 0 ∷ []) []
-    (7 ∷ 8 ∷ 9 ∷ 10 ∷ 11 ∷ 12 ∷ []))
-    [])
+    (slot 2 wants 20 at 0 ∷ []) (row 1 10 100 0 0 0 ∷ row 4 40 400 0 0 0 ∷ row 5 50 500 0 7 6 ∷ row 6 60 600 0 0 0 ∷ row 7 30 300 1 1 4 ∷ [])
+    (row 3 30 300 1 0 0 keptBy 4 ∷ []) (8 ∷ 9 ∷ 10 ∷ 11 ∷ 12 ∷ 2 ∷ [])) ∷ [])
+    ∷ entry "delete, other: a red node on a right link, none reading" (tree 12 (black blackLeaf (red blackLeaf (black redLeaf nil))))
     (D 40 ⇒ ok ∷ W ⇒ more (Right 2) 7 ∷ W ⇒ done (Left 6) 0
     ∷ stands (picture (root 2 held 5 awaited 0 stores 0)
     [] (row 1 10 100 0 0 0 ∷ row 2 20 200 0 1 7 ∷ row 3 30 300 0 0 0 ∷ row 6 60 600 0 0 0 ∷ row 7 50 500 1 3 6 ∷ []) []
-    (8 ∷ 9 ∷ 10 ∷ 11 ∷ 12 ∷ 4 ∷ 5 ∷ []))
-    ∷ [])
+    (8 ∷ 9 ∷ 10 ∷ 11 ∷ 12 ∷ 4 ∷ 5 ∷ [])) ∷ [])
     ∷ entry "delete, other: on a left link, no red nephew three times, up to the root, none reading"
-    (drawn 20
-    (picture (root 8 held 15 awaited 0 stores 0)
-    []
-    (row 1 10 100 0 0 0 ∷ row 2 20 200 0 1 3 ∷ row 3 30 300 0 0 0 ∷ row 4 40 400 0 2 6 ∷ row 5 50 500 0 0 0 ∷ row 6 60 600 0 5 7 ∷ row 7 70 700 0 0 0
-    ∷ row 8 80 800 0 4 12 ∷ row 9 90 900 0 0 0 ∷ row 10 100 1000 0 9 11 ∷ row 11 110 1100 0 0 0 ∷ row 12 120 1200 0 10 14 ∷ row 13 130 1300 0 0 0
-    ∷ row 14 140 1400 0 13 15 ∷ row 15 150 1500 0 0 0 ∷ [])
-    [] (16 ∷ 17 ∷ 18 ∷ 19 ∷ 20 ∷ []))
-    [])
+    (tree 20 (black (black (black blackLeaf blackLeaf) (black blackLeaf blackLeaf)) (black (black blackLeaf blackLeaf) (black blackLeaf blackLeaf))))
     (D 40 ⇒ ok ∷ W ⇒ more (Left 8) 16 ∷ W ⇒ done (Left 6) 0
     ∷ stands (picture (root 8 held 14 awaited 0 stores 0)
     []
-    (row 1 10 100 0 0 0 ∷ row 2 20 200 1 1 3 ∷ row 3 30 300 0 0 0 ∷ row 6 60 600 0 0 7 ∷ row 7 70 700 1 0 0 ∷ row 8 80 800 0 16 12 ∷ row 9 90 900 0 0 0
-    ∷ row 10 100 1000 0 9 11 ∷ row 11 110 1100 0 0 0 ∷ row 12 120 1200 1 10 14 ∷ row 13 130 1300 0 0 0 ∷ row 14 140 1400 0 13 15 ∷ row 15 150 1500 0 0 0
-    ∷ row 16 50 500 0 2 6 ∷ [])
-    [] (17 ∷ 18 ∷ 19 ∷ 20 ∷ 4 ∷ 5 ∷ []))
-    ∷ [])
+    (row 1 10 100 0 0 0 ∷ row 2 20 200 1 1 3 ∷ row 3 30 300 0 0 0 ∷ row 6 60 600 0 0 7 ∷ row 7 70 700 1 0 0 ∷ row 8 80 800 0 16 12
+    ∷ row 9 90 900 0 0 0 ∷ row 10 100 1000 0 9 11 ∷ row 11 110 1100 0 0 0 ∷ row 12 120 1200 1 10 14 ∷ row 13 130 1300 0 0 0
+    ∷ row 14 140 1400 0 13 15 ∷ row 15 150 1500 0 0 0 ∷ row 16 50 500 0 2 6 ∷ [])
+    [] (17 ∷ 18 ∷ 19 ∷ 20 ∷ 4 ∷ 5 ∷ [])) ∷ [])
     ∷ []

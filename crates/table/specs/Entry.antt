@@ -66,6 +66,10 @@ pub record Entry : Type 0 where
 abbrev pub entry : String → State → List Line → Entry
 entry title lent lines = record { title = title; lent = lent; lines = lines }
 
+-- a writer's turn that is refused by 12
+abbrev pub gives12 : String → State → Entry
+gives12 title lent = entry title lent (W ⇒ refused 12 ∷ [])
+
 -- Answers, registers and states as numbers: equal numbers are equal things. One number for the kind, then its values.
 abbrev linkNumbers : Link → List ℕ
 linkNumbers Root = 0 ∷ 0 ∷ []

@@ -1,34 +1,24 @@
 -- Pools with their registers that several entries are lent.
-use mathlib.Core.List.{[], _∷_}
 use lib.ListN.{replicate}
+use mathlib.Core.List.{[], _∷_}
 use Rattle.datatypes.specs.declared.Side.the-variants as side
 use Rattle.datatypes.specs.declared.Link.the-variants.{Root, Right}
 use Rattle.datatypes.specs.declared.Purpose.the-variants.{RedSibling}
 use Rattle.datatypes.specs.declared.Step.the-variants.{DiagRaise, Unlink}
 use Rattle.spec.specs.Register.{State}
-use Rattle.table.specs.Picture.{row, root_held_awaited_stores_, picture, drawn, _on_}
+use Rattle.table.specs.Picture.{row, root_held_awaited_stores_, picture, drawn, black, redLeaf, blackLeaf, tree, _on_}
 
 -- keys 20 over 10 and 30
 abbrev pub three : State
-three =
-    drawn 8
-    (picture (root 2 held 3 awaited 0 stores 0)
-    [] (row 1 10 100 1 0 0 ∷ row 2 20 200 0 1 3 ∷ row 3 30 300 1 0 0 ∷ []) [] (4 ∷ 5 ∷ 6 ∷ 7 ∷ 8 ∷ []))
-    []
+three = tree 8 (black redLeaf redLeaf)
 
 -- the key 10 alone
 abbrev pub single : State
-single =
-    drawn 8 (picture (root 1 held 1 awaited 0 stores 0) [] (row 1 10 100 0 0 0 ∷ []) [] (2 ∷ 3 ∷ 4 ∷ 5 ∷ 6 ∷ 7 ∷ 8 ∷ [])) []
+single = tree 8 blackLeaf
 
 -- keys 20 over 10 and 40, which is over 30 and 50
 abbrev pub five : State
-five =
-    drawn 12
-    (picture (root 2 held 5 awaited 0 stores 0)
-    [] (row 1 10 100 0 0 0 ∷ row 2 20 200 0 1 4 ∷ row 3 30 300 1 0 0 ∷ row 4 40 400 0 3 5 ∷ row 5 50 500 1 0 0 ∷ []) []
-    (6 ∷ 7 ∷ 8 ∷ 9 ∷ 10 ∷ 11 ∷ 12 ∷ []))
-    []
+five = tree 12 (black blackLeaf (black redLeaf redLeaf))
 
 -- seven stores to come
 abbrev pub planned : State

@@ -7,14 +7,9 @@ use Rattle.datatypes.specs.declared.Link.the-variants.{Root, Left, Right}
 use Rattle.datatypes.specs.declared.Step.the-variants.{Insert, Detach}
 use Rattle.spec.specs.Register.{State}
 use Rattle.spec.specs.Calls.{ok, go, more, done, refused}
-use Rattle.table.specs.Picture.{Row, row, root_held_awaited_stores_, picture, drawn, _on_, right, colour, _of_:=_, root:=_, free:=_, held:=_}
-use Rattle.table.specs.Picture.{count:=_, fills, reader_:=_, store_:=_, reads, _but_}
-use Rattle.table.specs.Entry.{I, D, W, R, E, _⇒_, Entry, entry}
-
--- the numbers from n on, so many
-abbrev rising : ℕ → ℕ → List ℕ
-rising zero n = []
-rising (suc k) n = n ∷ rising k (n + 1)
+use Rattle.table.specs.Picture.{Row, row, root_held_awaited_stores_, picture, drawn, rising, _on_, right, colour, _of_:=_, root:=_, free:=_}
+use Rattle.table.specs.Picture.{held:=_, hand, fills, reader_:=_, reads, _but_}
+use Rattle.table.specs.Entry.{I, D, W, R, E, _⇒_, Entry, entry, gives12}
 
 -- the k nodes from n on, each the right child of the one before, with its number as key and record; all black but the last
 abbrev rightRows : ℕ → ℕ → List Row
@@ -41,50 +36,32 @@ leftChain k =
 abbrev pub paths : List Entry
 paths =
     entry "insert below 64 nodes" (rightChain 64)
-    (I 65 5 ⇒ ok ∷ W ⇒ more (Right 64) 65 ∷ W ⇒ more (Left 64) 66 ∷ W ⇒ done (Right 62) 64
-    ∷ [])
+    (I 65 5 ⇒ ok ∷ W ⇒ more (Right 64) 65 ∷ W ⇒ more (Left 64) 66 ∷ W ⇒ done (Right 62) 64 ∷ [])
     ∷ entry "delete of the 64th node" (rightChain 64)
-    (D 64 ⇒ ok ∷ W ⇒ done (Right 63) 0
-    ∷ [])
-    ∷ entry "12: the 65th node, before 9, 10 and 11, held or not; the 64th is found" ((rightChain 65) but (free:= 2 ∷ held:= 72 ∷ []))
-    (I 66 5 ⇒ refused 12 ∷ I 65 5 ⇒ refused 12 ∷ D 65 ⇒ refused 12 ∷ D 66 ⇒ refused 12 ∷ D 64 ⇒ refused 11 ∷ I 64 5 ⇒ refused 8
-    ∷ [])
+    (D 64 ⇒ ok ∷ W ⇒ done (Right 63) 0 ∷ [])
+    ∷ entry "12: the 65th node, before 9, 10 and 11, held or not; the 64th is found" (rightChain 65 but (free:= 2 ∷ held:= 72 ∷ []))
+    (I 66 5 ⇒ refused 12 ∷ I 65 5 ⇒ refused 12 ∷ D 65 ⇒ refused 12 ∷ D 66 ⇒ refused 12 ∷ D 64 ⇒ refused 11 ∷ I 64 5 ⇒ refused 8 ∷ [])
     ∷ entry "delete of the 64th node with a child" (rightChain 65)
-    (D 64 ⇒ ok ∷ W ⇒ done (Right 63) 65
-    ∷ [])
+    (D 64 ⇒ ok ∷ W ⇒ done (Right 63) 65 ∷ [])
     ∷ entry "successor as the 64th node" (leftChain 64)
-    (D 1 ⇒ ok ∷ W ⇒ more Root 66 ∷ W ⇒ done (Left 63) 0
-    ∷ [])
+    (D 1 ⇒ ok ∷ W ⇒ more Root 66 ∷ W ⇒ done (Left 63) 0 ∷ [])
     ∷ entry "12: successor as the 65th node, after 11" (leftChain 65)
-    (D 1 ⇒ refused 12
-    ∷ [])
-    ∷ entry "12: successor as the 65th node; with three free nodes 11 comes before it" ((leftChain 65) but (free:= 3 ∷ []))
-    (D 1 ⇒ refused 11
-    ∷ [])
-    ∷ entry "12 in a turn: the path of an insert below 65 nodes under a red parent"
-    ((rightChain 65) but (count:= 1 ∷ store 0 := (Insert 66 5 on Right 65) ∷ []))
-    (W ⇒ refused 12
-    ∷ [])
+    (D 1 ⇒ refused 12 ∷ [])
+    ∷ entry "12: successor as the 65th node; with three free nodes 11 comes before it" (leftChain 65 but (free:= 3 ∷ []))
+    (D 1 ⇒ refused 11 ∷ [])
+    ∷ gives12 "12 in a turn: the path of an insert below 65 nodes under a red parent" (rightChain 65 but (hand (Insert 66 5 on Right 65) ∷ []))
     ∷ entry "an insert below 65 nodes under a black parent goes by no path"
-    ((rightChain 65) but (count:= 1 ∷ store 0 := (Insert 66 5 on Right 65) ∷ colour of 65 := 0 ∷ []))
-    (W ⇒ done (Right 65) 66
-    ∷ [])
-    ∷ entry "12 in a turn: a detach of the 65th node" ((leftChain 65) but (count:= 1 ∷ store 0 := (Detach 1 on Root) ∷ []))
-    (W ⇒ refused 12
-    ∷ [])
-    ∷ entry "a detach of the 64th node" ((leftChain 64) but (count:= 1 ∷ store 0 := (Detach 1 on Root) ∷ []))
-    (W ⇒ done (Left 63) 0
-    ∷ [])
-    ∷ entry "readers have no bound" ((rightChain 64) but (reader 0 := (reads 70 64) ∷ right of 64 := 1 ∷ []))
-    (R 0 ⇒ go ∷ R 0 ⇒ go ∷ E 0 ⇒ ok
-    ∷ [])
-    ∷ entry "6 before 12 of the search, in an insert and in a delete" ((rightChain 65) but (count:= 1 ∷ store 0 := (Insert 66 5 on Right 65) ∷ []))
-    (I 66 5 ⇒ refused 6 ∷ D 66 ⇒ refused 6
-    ∷ [])
-    ∷ entry "successor as the 64th node, B below the root" ((leftChain 63) but (root:= 72 ∷ fills (row 72 0 0 0 0 1) ∷ []))
-    (D 1 ⇒ ok ∷ W ⇒ more (Right 72) 65 ∷ W ⇒ done (Left 62) 0
-    ∷ [])
-    ∷ entry "12: successor as the 65th node, B below the root" ((leftChain 64) but (root:= 72 ∷ fills (row 72 0 0 0 0 1) ∷ []))
-    (D 1 ⇒ refused 12
-    ∷ [])
+    (rightChain 65 but (hand (Insert 66 5 on Right 65) ∷ colour of 65 := 0 ∷ []))
+    (W ⇒ done (Right 65) 66 ∷ [])
+    ∷ gives12 "12 in a turn: a detach of the 65th node" (leftChain 65 but (hand (Detach 1 on Root) ∷ []))
+    ∷ entry "a detach of the 64th node" (leftChain 64 but (hand (Detach 1 on Root) ∷ []))
+    (W ⇒ done (Left 63) 0 ∷ [])
+    ∷ entry "readers have no bound" (rightChain 64 but (reader 0 := (reads 70 64) ∷ right of 64 := 1 ∷ []))
+    (R 0 ⇒ go ∷ R 0 ⇒ go ∷ E 0 ⇒ ok ∷ [])
+    ∷ entry "6 before 12 of the search, in an insert and in a delete" (rightChain 65 but (hand (Insert 66 5 on Right 65) ∷ []))
+    (I 66 5 ⇒ refused 6 ∷ D 66 ⇒ refused 6 ∷ [])
+    ∷ entry "successor as the 64th node, B below the root" (leftChain 63 but (root:= 72 ∷ fills (row 72 0 0 0 0 1) ∷ []))
+    (D 1 ⇒ ok ∷ W ⇒ more (Right 72) 65 ∷ W ⇒ done (Left 62) 0 ∷ [])
+    ∷ entry "12: successor as the 65th node, B below the root" (leftChain 64 but (root:= 72 ∷ fills (row 72 0 0 0 0 1) ∷ []))
+    (D 1 ⇒ refused 12 ∷ [])
     ∷ []

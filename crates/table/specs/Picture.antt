@@ -128,6 +128,50 @@ drawn N x l =
       write = record { stores = take 7 (l ++ replicate 7 none); count = length l };
     })
 
+-- the numbers from n on, so many
+abbrev pub rising : ℕ → ℕ → List ℕ
+rising zero n = []
+rising (suc k) n = n ∷ rising k (n + 1)
+
+-- The shape of a tree: its nodes' colours, each with a left and a right subtree.
+pub data Shape : Type 0 where
+  nil : Shape
+  node : (colour : ℕ) (l r : Shape) → Shape
+
+abbrev pub red : Shape → Shape → Shape
+red l r = node 1 l r
+
+abbrev pub black : Shape → Shape → Shape
+black l r = node 0 l r
+
+abbrev pub redLeaf : Shape
+redLeaf = red nil nil
+
+abbrev pub blackLeaf : Shape
+blackLeaf = black nil nil
+
+abbrev size : Shape → ℕ
+size nil = 0
+size (node c l r) = size l + size r + 1
+
+-- Nodes are numbered from left to right, here from n on: the top's number, 0 for none, and the nodes' rows. A node's key is ten times its
+-- number, its record a hundred times.
+abbrev topFrom : Shape → ℕ → ℕ
+topFrom nil n = 0
+topFrom (node c l r) n = n + size l
+
+abbrev rowsFrom : Shape → ℕ → List Row
+rowsFrom nil n = []
+rowsFrom (node c l r) n =
+    let m = n + size l in
+    rowsFrom l n ++ row m (m * 10) (m * 100) c (topFrom l n) (topFrom r (m + 1)) ∷ rowsFrom r (m + 1)
+
+-- an index of N nodes at rest that holds a tree of this shape, the other nodes queued in rising number
+abbrev pub tree : ℕ → Shape → State
+tree N t =
+    let k = size t in
+    drawn N (picture (root (topFrom t 1) held k awaited 0 stores 0) [] (rowsFrom t 1) [] (rising (N - k) (k + 1))) []
+
 infix 70 _on_
 abbrev pub _on_ : Step → Link → Store
 x on l = record { link = l; step = x }
@@ -157,8 +201,8 @@ holders = 6
 abbrev pub next : ℕ
 next = 7
 
--- A change of a word or field: node n's word f, a number of the register, a slot's record, a planned store; or a node filled anew, which
--- stands linked; or no write in hand.
+-- A change of a word or field: node n's word f, a number of the register, a slot's record, a planned store; or one store in hand; or a node
+-- filled anew, which stands linked; or no write in hand.
 infix 70 _of_:=_
 infix 70 root:=_
 infix 70 first:=_
@@ -174,6 +218,7 @@ pub data Change : Type 0 where
   root:=_ first:=_ last:=_ free:=_ held:=_ awaited:=_ count:=_ : (v : ℕ) → Change
   reader_:=_ : (s : ℕ) (x : Reader) → Change
   store_:=_ : (i : ℕ) (x : Store) → Change
+  hand : (x : Store) → Change
   fills : (r : Row) → Change
   atRest : Change
 
@@ -220,6 +265,8 @@ registerWith r (awaited:= v) = withNumbers r (r .root) (r .first) (r .last) (r .
 registerWith r (count:= v) = withNumbers r (r .root) (r .first) (r .last) (r .free) (r .held) (r .awaited) v
 registerWith r (reader s := x) = withLists r (set (r .readers) s x) (r .write .stores)
 registerWith r (store i := x) = withLists r (r .readers) (set (r .write .stores) i x)
+registerWith r (hand x) =
+    withLists (withNumbers r (r .root) (r .first) (r .last) (r .free) (r .held) (r .awaited) 1) (r .readers) (set (r .write .stores) 0 x)
 registerWith r (fills x) = r
 registerWith r atRest =
     withLists (withNumbers r (r .root) (r .first) (r .last) (r .free) (r .held) (r .awaited) 0) (r .readers) (replicate 7 none)
@@ -235,6 +282,7 @@ poolWith p (awaited:= v) = p
 poolWith p (count:= v) = p
 poolWith p (reader s := x) = p
 poolWith p (store i := x) = p
+poolWith p (hand x) = p
 poolWith p (fills r) = take (r .node * 8 - 8) p ++ rowWords r 1 0 ++ drop (r .node * 8) p
 poolWith p atRest = p
 

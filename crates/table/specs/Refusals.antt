@@ -1,140 +1,83 @@
 -- 01, 'When a call is turned down': each number in each call that gives it but 12, the ends of each range, and the order of the tests.
+use Prim.Native.Nat.{ℕ}
+use Prim.Native.String.{String}
 use mathlib.Core.List.{List, [], _∷_}
 use Rattle.datatypes.specs.declared.Side.the-variants as side
 use Rattle.datatypes.specs.declared.Link.the-variants.{Root, Left, Right}
 use Rattle.datatypes.specs.declared.Purpose.the-variants.{ForInsert}
 use Rattle.datatypes.specs.declared.Step.the-variants.{Vacant, Insert, DiagLower, DiagRaise, ZigLowerA, ZigLowerC, ZigRaise, Unlink, Adopt, Replace}
 use Rattle.datatypes.specs.declared.Step.the-variants.{Publish, Detach}
+use Rattle.spec.specs.Register.{State}
 use Rattle.spec.specs.Calls.{ok, go, absent, found, done, refused}
 use Rattle.table.specs.Picture.{row, slot_wants_at_, root_held_awaited_stores_, picture, none, _on_, key, value, left, right, colour, standing}
-use Rattle.table.specs.Picture.{holders, next, _of_:=_, root:=_, first:=_, last:=_, free:=_, held:=_, awaited:=_, count:=_, reader_:=_}
-use Rattle.table.specs.Picture.{store_:=_, reads, idle, _but_, words, unset}
+use Rattle.table.specs.Picture.{holders, next, Change, _of_:=_, root:=_, first:=_, last:=_, free:=_, held:=_, awaited:=_, count:=_, hand}
+use Rattle.table.specs.Picture.{reader_:=_, store_:=_, reads, idle, _but_, words, unset}
 use Rattle.table.specs.Entry.{P, I, D, W, B, R, E, _⇒_, stands, Entry, entry}
 use Rattle.table.specs.Lent.{three, planned}
 
+-- n words: refused by 1 in all seven calls, before 2 and 3
+abbrev gives1 : String → ℕ → Entry
+gives1 title n =
+    entry title (words n)
+    (P ⇒ refused 1 ∷ I 1 10 ⇒ refused 1 ∷ D 1 ⇒ refused 1 ∷ W ⇒ refused 1 ∷ B 8 1 ⇒ refused 1 ∷ R 8 ⇒ refused 1 ∷ E 8 ⇒ refused 1 ∷ [])
+
+-- a begin that is refused by 2
+abbrev gives2 : String → State → List Change → Entry
+gives2 title lent cs = entry title (lent but cs) (B 0 5 ⇒ refused 2 ∷ [])
+
 abbrev pub refusals : List Entry
 refusals =
-    entry "1 in all seven calls, before 2 and 3: no words" (words 0)
-    (P ⇒ refused 1 ∷ I 1 10 ⇒ refused 1 ∷ D 1 ⇒ refused 1 ∷ W ⇒ refused 1 ∷ B 8 1 ⇒ refused 1 ∷ R 8 ⇒ refused 1 ∷ E 8 ⇒ refused 1
-    ∷ [])
-    ∷ entry "1 in all seven calls, before 2 and 3: 7 nodes" (words 56)
-    (P ⇒ refused 1 ∷ I 1 10 ⇒ refused 1 ∷ D 1 ⇒ refused 1 ∷ W ⇒ refused 1 ∷ B 8 1 ⇒ refused 1 ∷ R 8 ⇒ refused 1 ∷ E 8 ⇒ refused 1
-    ∷ [])
-    ∷ entry "1 in all seven calls, before 2 and 3: 63 words" (words 63)
-    (P ⇒ refused 1 ∷ I 1 10 ⇒ refused 1 ∷ D 1 ⇒ refused 1 ∷ W ⇒ refused 1 ∷ B 8 1 ⇒ refused 1 ∷ R 8 ⇒ refused 1 ∷ E 8 ⇒ refused 1
-    ∷ [])
-    ∷ entry "1 in all seven calls, before 2 and 3: 65 words" (words 65)
-    (P ⇒ refused 1 ∷ I 1 10 ⇒ refused 1 ∷ D 1 ⇒ refused 1 ∷ W ⇒ refused 1 ∷ B 8 1 ⇒ refused 1 ∷ R 8 ⇒ refused 1 ∷ E 8 ⇒ refused 1
-    ∷ [])
-    ∷ entry "1 in all seven calls, before 2 and 3: 1,024 nodes" (words 8192)
-    (P ⇒ refused 1 ∷ I 1 10 ⇒ refused 1 ∷ D 1 ⇒ refused 1 ∷ W ⇒ refused 1 ∷ B 8 1 ⇒ refused 1 ∷ R 8 ⇒ refused 1 ∷ E 8 ⇒ refused 1
-    ∷ [])
+    gives1 "1 in all seven calls, before 2 and 3: no words" 0
+    ∷ gives1 "1 in all seven calls, before 2 and 3: 7 nodes" 56
+    ∷ gives1 "1 in all seven calls, before 2 and 3: 63 words" 63
+    ∷ gives1 "1 in all seven calls, before 2 and 3: 65 words" 65
+    ∷ gives1 "1 in all seven calls, before 2 and 3: 1,024 nodes" 8192
     ∷ entry "2 in six calls, before 3, 7 and the search; set up tests 1 only" (three but (left of 1 := 9 ∷ []))
     (I 20 5 ⇒ refused 2 ∷ D 25 ⇒ refused 2 ∷ W ⇒ refused 2 ∷ B 8 1 ⇒ refused 2 ∷ R 8 ⇒ refused 2 ∷ E 8 ⇒ refused 2 ∷ P ⇒ ok
-    ∷ stands (picture (root 0 held 0 awaited 0 stores 0) [] [] [] (1 ∷ 2 ∷ 3 ∷ 4 ∷ 5 ∷ 6 ∷ 7 ∷ 8 ∷ []))
-    ∷ [])
-    ∷ entry "2 before 4, 5 and 6" (three but (reader 0 := (reads 5 0) ∷ count:= 1 ∷ store 0 := (Unlink on Root) ∷ last:= 9 ∷ []))
-    (B 0 1 ⇒ refused 2 ∷ R 1 ⇒ refused 2 ∷ E 1 ⇒ refused 2 ∷ I 20 5 ⇒ refused 2 ∷ D 25 ⇒ refused 2
-    ∷ [])
+    ∷ stands (picture (root 0 held 0 awaited 0 stores 0) [] [] [] (1 ∷ 2 ∷ 3 ∷ 4 ∷ 5 ∷ 6 ∷ 7 ∷ 8 ∷ [])) ∷ [])
+    ∷ entry "2 before 4, 5 and 6" (three but (reader 0 := (reads 5 0) ∷ hand (Unlink on Root) ∷ last:= 9 ∷ []))
+    (B 0 1 ⇒ refused 2 ∷ R 1 ⇒ refused 2 ∷ E 1 ⇒ refused 2 ∷ I 20 5 ⇒ refused 2 ∷ D 25 ⇒ refused 2 ∷ [])
     ∷ entry "each word of a node at its largest"
     (three but (key of 8 := 4294967295 ∷ value of 8 := 4294967295 ∷ left of 8 := 8 ∷ right of 8 := 8 ∷ colour of 8 := 1 ∷ standing of 8 := 2 ∷ holders of 8 := 255
     ∷ next of 8 := 8 ∷ []))
-    (B 0 5 ⇒ ok
-    ∷ [])
-    ∷ entry "2: left one past its range, last node" (three but (left of 8 := 9 ∷ []))
-    (B 0 5 ⇒ refused 2
-    ∷ [])
-    ∷ entry "2: right one past its range, last node" (three but (right of 8 := 9 ∷ []))
-    (B 0 5 ⇒ refused 2
-    ∷ [])
-    ∷ entry "2: colour one past its range, last node" (three but (colour of 8 := 2 ∷ []))
-    (B 0 5 ⇒ refused 2
-    ∷ [])
-    ∷ entry "2: standing one past its range, last node" (three but (standing of 8 := 3 ∷ []))
-    (B 0 5 ⇒ refused 2
-    ∷ [])
-    ∷ entry "2: holders one past its range, last node" (three but (holders of 8 := 256 ∷ []))
-    (B 0 5 ⇒ refused 2
-    ∷ [])
-    ∷ entry "2: next one past its range, last node" (three but (next of 8 := 9 ∷ []))
-    (B 0 5 ⇒ refused 2
-    ∷ [])
-    ∷ entry "2: right one past its range, first node" (three but (right of 1 := 9 ∷ []))
-    (B 0 5 ⇒ refused 2
-    ∷ [])
-    ∷ entry "2: next one past its range, first node" (three but (next of 1 := 9 ∷ []))
-    (B 0 5 ⇒ refused 2
-    ∷ [])
+    (B 0 5 ⇒ ok ∷ [])
+    ∷ gives2 "2: left one past its range, last node" three (left of 8 := 9 ∷ [])
+    ∷ gives2 "2: right one past its range, last node" three (right of 8 := 9 ∷ [])
+    ∷ gives2 "2: colour one past its range, last node" three (colour of 8 := 2 ∷ [])
+    ∷ gives2 "2: standing one past its range, last node" three (standing of 8 := 3 ∷ [])
+    ∷ gives2 "2: holders one past its range, last node" three (holders of 8 := 256 ∷ [])
+    ∷ gives2 "2: next one past its range, last node" three (next of 8 := 9 ∷ [])
+    ∷ gives2 "2: right one past its range, first node" three (right of 1 := 9 ∷ [])
+    ∷ gives2 "2: next one past its range, first node" three (next of 1 := 9 ∷ [])
     ∷ entry "each number of the register at its largest"
-    (three but (root:= 8 ∷ first:= 8 ∷ last:= 8 ∷ free:= 8 ∷ held:= 8 ∷ awaited:= 255 ∷ reader 0 := (idle 4294967295 8) ∷ reader 7 := (reads 4294967295 8) ∷ []
-    ))
-    (B 0 5 ⇒ ok
-    ∷ [])
-    ∷ entry "2: root one past its range" (three but (root:= 9 ∷ []))
-    (B 0 5 ⇒ refused 2
-    ∷ [])
-    ∷ entry "2: first one past its range" (three but (first:= 9 ∷ []))
-    (B 0 5 ⇒ refused 2
-    ∷ [])
-    ∷ entry "2: last one past its range" (three but (last:= 9 ∷ []))
-    (B 0 5 ⇒ refused 2
-    ∷ [])
-    ∷ entry "2: free one past its range" (three but (free:= 9 ∷ []))
-    (B 0 5 ⇒ refused 2
-    ∷ [])
-    ∷ entry "2: held one past its range" (three but (held:= 9 ∷ []))
-    (B 0 5 ⇒ refused 2
-    ∷ [])
-    ∷ entry "2: awaited one past its range" (three but (awaited:= 256 ∷ []))
-    (B 0 5 ⇒ refused 2
-    ∷ [])
+    (three but (root:= 8 ∷ first:= 8 ∷ last:= 8 ∷ free:= 8 ∷ held:= 8 ∷ awaited:= 255 ∷ reader 0 := (idle 4294967295 8) ∷ reader 7 := (reads 4294967295 8) ∷ []))
+    (B 0 5 ⇒ ok ∷ [])
+    ∷ gives2 "2: root one past its range" three (root:= 9 ∷ [])
+    ∷ gives2 "2: first one past its range" three (first:= 9 ∷ [])
+    ∷ gives2 "2: last one past its range" three (last:= 9 ∷ [])
+    ∷ gives2 "2: free one past its range" three (free:= 9 ∷ [])
+    ∷ gives2 "2: held one past its range" three (held:= 9 ∷ [])
+    ∷ gives2 "2: awaited one past its range" three (awaited:= 256 ∷ [])
     ∷ entry "2: the node of slot 0 one past its range" (three but (reader 0 := (idle 0 9) ∷ []))
-    (B 1 5 ⇒ refused 2
-    ∷ [])
+    (B 1 5 ⇒ refused 2 ∷ [])
     ∷ entry "2: the node of slot 7 one past its range" (three but (reader 7 := (reads 0 9) ∷ []))
-    (B 1 5 ⇒ refused 2
-    ∷ [])
+    (B 1 5 ⇒ refused 2 ∷ [])
     ∷ entry "seven stores to come, links and nodes at both ends of their range"
     (planned but (store 0 := (Publish 8 on Left 8) ∷ store 1 := (Publish 1 on Left 1) ∷ store 2 := (Insert 4294967295 4294967295 on Right 1)
     ∷ store 3 := (Detach 4294967295 on Root) ∷ []))
-    (B 0 5 ⇒ ok
-    ∷ [])
-    ∷ entry "2: eight stores to come" (planned but (count:= 8 ∷ []))
-    (B 0 5 ⇒ refused 2
-    ∷ [])
-    ∷ entry "2: a store after the last to come" (planned but (count:= 6 ∷ []))
-    (B 0 5 ⇒ refused 2
-    ∷ [])
-    ∷ entry "2: no store at the first place" (planned but (store 0 := none ∷ []))
-    (B 0 5 ⇒ refused 2
-    ∷ [])
-    ∷ entry "2: no store at the last place" (planned but (store 6 := none ∷ []))
-    (B 0 5 ⇒ refused 2
-    ∷ [])
-    ∷ entry "2: a store on node 0, left" (planned but (store 6 := (Adopt on Left 0) ∷ []))
-    (B 0 5 ⇒ refused 2
-    ∷ [])
-    ∷ entry "2: a store on node 9, left" (planned but (store 6 := (Adopt on Left 9) ∷ []))
-    (B 0 5 ⇒ refused 2
-    ∷ [])
-    ∷ entry "2: a store on node 0, right" (planned but (store 6 := (Adopt on Right 0) ∷ []))
-    (B 0 5 ⇒ refused 2
-    ∷ [])
-    ∷ entry "2: a store on node 9, right" (planned but (store 6 := (Adopt on Right 9) ∷ []))
-    (B 0 5 ⇒ refused 2
-    ∷ [])
-    ∷ entry "2: a publish of node 0" (planned but (store 3 := (Publish 0 on Root) ∷ []))
-    (B 0 5 ⇒ refused 2
-    ∷ [])
-    ∷ entry "2: a publish of node 9" (planned but (store 3 := (Publish 9 on Root) ∷ []))
-    (B 0 5 ⇒ refused 2
-    ∷ [])
-    ∷ entry "2: a link where no store is to come" (three but (store 6 := (Vacant on Left 1) ∷ []))
-    (B 0 5 ⇒ refused 2
-    ∷ [])
-    ∷ entry "2: a step where no store is to come" (three but (store 0 := (Detach 5 on Root) ∷ []))
-    (B 0 5 ⇒ refused 2
-    ∷ [])
+    (B 0 5 ⇒ ok ∷ [])
+    ∷ gives2 "2: eight stores to come" planned (count:= 8 ∷ [])
+    ∷ gives2 "2: a store after the last to come" planned (count:= 6 ∷ [])
+    ∷ gives2 "2: no store at the first place" planned (store 0 := none ∷ [])
+    ∷ gives2 "2: no store at the last place" planned (store 6 := none ∷ [])
+    ∷ gives2 "2: a store on node 0, left" planned (store 6 := (Adopt on Left 0) ∷ [])
+    ∷ gives2 "2: a store on node 9, left" planned (store 6 := (Adopt on Left 9) ∷ [])
+    ∷ gives2 "2: a store on node 0, right" planned (store 6 := (Adopt on Right 0) ∷ [])
+    ∷ gives2 "2: a store on node 9, right" planned (store 6 := (Adopt on Right 9) ∷ [])
+    ∷ gives2 "2: a publish of node 0" planned (store 3 := (Publish 0 on Root) ∷ [])
+    ∷ gives2 "2: a publish of node 9" planned (store 3 := (Publish 9 on Root) ∷ [])
+    ∷ gives2 "2: a link where no store is to come" three (store 6 := (Vacant on Left 1) ∷ [])
+    ∷ gives2 "2: a step where no store is to come" three (store 0 := (Detach 5 on Root) ∷ [])
     ∷ entry "3: slots 8 and 4,294,967,295, in begin, turn and give up; slot 7 is one" three
     (B 8 1 ⇒ refused 3 ∷ R 8 ⇒ refused 3 ∷ E 8 ⇒ refused 3 ∷ B 4294967295 1 ⇒ refused 3 ∷ R 4294967295 ⇒ refused 3 ∷ E 4294967295 ⇒ refused 3
     ∷ B 7 1 ⇒ ok
@@ -145,38 +88,28 @@ refusals =
     (slot 7 wants 1 at 2 ∷ []) (row 1 10 100 1 0 0 ∷ row 2 20 200 0 1 3 ∷ row 3 30 300 1 0 0 ∷ []) [] (4 ∷ 5 ∷ 6 ∷ 7 ∷ 8 ∷ []))
     ∷ E 7 ⇒ ok
     ∷ stands (picture (root 2 held 3 awaited 0 stores 0)
-    [] (row 1 10 100 1 0 0 ∷ row 2 20 200 0 1 3 ∷ row 3 30 300 1 0 0 ∷ []) [] (4 ∷ 5 ∷ 6 ∷ 7 ∷ 8 ∷ []))
-    ∷ [])
+    [] (row 1 10 100 1 0 0 ∷ row 2 20 200 0 1 3 ∷ row 3 30 300 1 0 0 ∷ []) [] (4 ∷ 5 ∷ 6 ∷ 7 ∷ 8 ∷ [])) ∷ [])
     ∷ entry "4 and 5: begin on a reading slot, turn and give up on one that reads no more" three
     (R 0 ⇒ refused 5 ∷ E 0 ⇒ refused 5 ∷ B 0 20 ⇒ ok ∷ B 0 20 ⇒ refused 4 ∷ B 0 5 ⇒ refused 4 ∷ R 0 ⇒ go ∷ R 0 ⇒ found 200 ∷ R 0 ⇒ refused 5
     ∷ E 0 ⇒ refused 5 ∷ B 0 5 ⇒ ok ∷ E 0 ⇒ ok ∷ E 0 ⇒ refused 5
     ∷ stands (picture (root 2 held 3 awaited 0 stores 0)
-    [] (row 1 10 100 1 0 0 ∷ row 2 20 200 0 1 3 ∷ row 3 30 300 1 0 0 ∷ []) [] (4 ∷ 5 ∷ 6 ∷ 7 ∷ 8 ∷ []))
-    ∷ [])
+    [] (row 1 10 100 1 0 0 ∷ row 2 20 200 0 1 3 ∷ row 3 30 300 1 0 0 ∷ []) [] (4 ∷ 5 ∷ 6 ∷ 7 ∷ 8 ∷ [])) ∷ [])
     ∷ entry "7: none in hand; 9 and 8 before 10 and 11" (three but (free:= 2 ∷ held:= 8 ∷ []))
-    (W ⇒ refused 7 ∷ D 25 ⇒ refused 9 ∷ I 20 5 ⇒ refused 8
-    ∷ [])
-    ∷ entry "6 before 8, 9, 10, 11" (three but (count:= 1 ∷ store 0 := (Unlink on Root) ∷ free:= 2 ∷ held:= 8 ∷ []))
-    (I 20 5 ⇒ refused 6 ∷ I 25 5 ⇒ refused 6 ∷ D 25 ⇒ refused 6 ∷ D 20 ⇒ refused 6
-    ∷ [])
+    (W ⇒ refused 7 ∷ D 25 ⇒ refused 9 ∷ I 20 5 ⇒ refused 8 ∷ [])
+    ∷ entry "6 before 8, 9, 10, 11" (three but (hand (Unlink on Root) ∷ free:= 2 ∷ held:= 8 ∷ []))
+    (I 20 5 ⇒ refused 6 ∷ I 25 5 ⇒ refused 6 ∷ D 25 ⇒ refused 6 ∷ D 20 ⇒ refused 6 ∷ [])
     ∷ entry "8 before 10 and 11; 10 before 11; 9 before 11" (three but (held:= 4 ∷ free:= 2 ∷ []))
-    (I 20 5 ⇒ refused 8 ∷ I 25 5 ⇒ refused 10 ∷ D 25 ⇒ refused 9 ∷ D 20 ⇒ refused 11
-    ∷ [])
+    (I 20 5 ⇒ refused 8 ∷ I 25 5 ⇒ refused 10 ∷ D 25 ⇒ refused 9 ∷ D 20 ⇒ refused 11 ∷ [])
     ∷ entry "10: keys held N − 4; a delete is accepted" (three but (held:= 4 ∷ []))
-    (I 25 5 ⇒ refused 10 ∷ D 20 ⇒ ok
-    ∷ [])
+    (I 25 5 ⇒ refused 10 ∷ D 20 ⇒ ok ∷ [])
     ∷ entry "keys held N − 5" (three but (held:= 3 ∷ []))
-    (I 25 5 ⇒ ok
-    ∷ [])
+    (I 25 5 ⇒ ok ∷ [])
     ∷ entry "11: two free nodes, in an insert and in a delete" (three but (free:= 2 ∷ []))
-    (I 25 5 ⇒ refused 11 ∷ D 20 ⇒ refused 11
-    ∷ [])
+    (I 25 5 ⇒ refused 11 ∷ D 20 ⇒ refused 11 ∷ [])
     ∷ entry "11: three free nodes are enough for an insert, not for a delete" (three but (free:= 3 ∷ []))
-    (D 20 ⇒ refused 11 ∷ I 25 5 ⇒ ok
-    ∷ [])
+    (D 20 ⇒ refused 11 ∷ I 25 5 ⇒ ok ∷ [])
     ∷ entry "four free nodes are enough for a delete" (three but (free:= 4 ∷ []))
-    (D 20 ⇒ ok
-    ∷ [])
+    (D 20 ⇒ ok ∷ [])
     ∷ entry "keys 0 and 4,294,967,295 with the largest record; a lookup of each and of their neighbours" (unset 8)
     (P ⇒ ok ∷ I 0 4294967295 ⇒ ok ∷ W ⇒ done Root 1 ∷ I 4294967295 0 ⇒ ok ∷ W ⇒ done (Right 1) 2
     ∷ stands (picture (root 1 held 2 awaited 0 stores 0)
@@ -184,58 +117,25 @@ refusals =
     ∷ B 7 4294967295 ⇒ ok ∷ R 7 ⇒ go ∷ R 7 ⇒ go ∷ R 7 ⇒ found 0 ∷ B 0 0 ⇒ ok ∷ R 0 ⇒ go ∷ R 0 ⇒ found 4294967295 ∷ B 1 4294967294 ⇒ ok ∷ R 1 ⇒ go
     ∷ R 1 ⇒ go ∷ R 1 ⇒ absent ∷ B 2 1 ⇒ ok ∷ R 2 ⇒ go ∷ R 2 ⇒ go ∷ R 2 ⇒ absent ∷ I 0 1 ⇒ refused 8 ∷ I 4294967295 1 ⇒ refused 8 ∷ D 1 ⇒ refused 9
     ∷ D 0 ⇒ ok ∷ W ⇒ done Root 2
-    ∷ stands (picture (root 2 held 1 awaited 0 stores 0) [] (row 2 4294967295 0 0 0 0 ∷ []) [] (3 ∷ 4 ∷ 5 ∷ 6 ∷ 7 ∷ 8 ∷ 1 ∷ []))
-    ∷ [])
-    ∷ entry "1 in all seven calls, before 2 and 3: 68 words" (words 68)
-    (P ⇒ refused 1 ∷ I 1 10 ⇒ refused 1 ∷ D 1 ⇒ refused 1 ∷ W ⇒ refused 1 ∷ B 8 1 ⇒ refused 1 ∷ R 8 ⇒ refused 1 ∷ E 8 ⇒ refused 1
-    ∷ [])
-    ∷ entry "2: left one past its range, a node between" (three but (left of 5 := 9 ∷ []))
-    (B 0 5 ⇒ refused 2
-    ∷ [])
+    ∷ stands (picture (root 2 held 1 awaited 0 stores 0) [] (row 2 4294967295 0 0 0 0 ∷ []) [] (3 ∷ 4 ∷ 5 ∷ 6 ∷ 7 ∷ 8 ∷ 1 ∷ [])) ∷ [])
+    ∷ gives1 "1 in all seven calls, before 2 and 3: 68 words" 68
+    ∷ gives2 "2: left one past its range, a node between" three (left of 5 := 9 ∷ [])
     ∷ entry "2: the node of slot 4 one past its range" (three but (reader 4 := (idle 0 9) ∷ []))
-    (B 1 5 ⇒ refused 2
-    ∷ [])
-    ∷ entry "2: a right link where no store is to come" (three but (store 6 := (Vacant on Right 1) ∷ []))
-    (B 0 5 ⇒ refused 2
-    ∷ [])
-    ∷ entry "2: a link where no store is to come, with a write in hand"
-    (three but (count:= 1 ∷ store 0 := (Unlink on Root) ∷ store 1 := (Vacant on Right 1) ∷ []))
-    (B 0 5 ⇒ refused 2
-    ∷ [])
-    ∷ entry "2: Insert where no store is to come" (three but (store 0 := (Insert 5 50 on Root) ∷ []))
-    (B 0 5 ⇒ refused 2
-    ∷ [])
-    ∷ entry "2: DiagLower where no store is to come" (three but (store 0 := (DiagLower side.L ForInsert on Root) ∷ []))
-    (B 0 5 ⇒ refused 2
-    ∷ [])
-    ∷ entry "2: DiagRaise where no store is to come" (three but (store 0 := (DiagRaise side.L ForInsert on Root) ∷ []))
-    (B 0 5 ⇒ refused 2
-    ∷ [])
-    ∷ entry "2: ZigLowerA where no store is to come" (three but (store 0 := (ZigLowerA side.L ForInsert on Root) ∷ []))
-    (B 0 5 ⇒ refused 2
-    ∷ [])
-    ∷ entry "2: ZigLowerC where no store is to come" (three but (store 0 := (ZigLowerC side.L ForInsert on Root) ∷ []))
-    (B 0 5 ⇒ refused 2
-    ∷ [])
-    ∷ entry "2: ZigRaise where no store is to come" (three but (store 0 := (ZigRaise side.L ForInsert on Root) ∷ []))
-    (B 0 5 ⇒ refused 2
-    ∷ [])
-    ∷ entry "2: Unlink where no store is to come" (three but (store 0 := (Unlink on Root) ∷ []))
-    (B 0 5 ⇒ refused 2
-    ∷ [])
-    ∷ entry "2: Adopt where no store is to come" (three but (store 0 := (Adopt on Root) ∷ []))
-    (B 0 5 ⇒ refused 2
-    ∷ [])
-    ∷ entry "2: Replace where no store is to come" (three but (store 0 := (Replace on Root) ∷ []))
-    (B 0 5 ⇒ refused 2
-    ∷ [])
-    ∷ entry "2: Publish where no store is to come" (three but (store 0 := (Publish 1 on Root) ∷ []))
-    (B 0 5 ⇒ refused 2
-    ∷ [])
+    (B 1 5 ⇒ refused 2 ∷ [])
+    ∷ gives2 "2: a right link where no store is to come" three (store 6 := (Vacant on Right 1) ∷ [])
+    ∷ gives2 "2: a link where no store is to come, with a write in hand" three (hand (Unlink on Root) ∷ store 1 := (Vacant on Right 1) ∷ [])
+    ∷ gives2 "2: Insert where no store is to come" three (store 0 := (Insert 5 50 on Root) ∷ [])
+    ∷ gives2 "2: DiagLower where no store is to come" three (store 0 := (DiagLower side.L ForInsert on Root) ∷ [])
+    ∷ gives2 "2: DiagRaise where no store is to come" three (store 0 := (DiagRaise side.L ForInsert on Root) ∷ [])
+    ∷ gives2 "2: ZigLowerA where no store is to come" three (store 0 := (ZigLowerA side.L ForInsert on Root) ∷ [])
+    ∷ gives2 "2: ZigLowerC where no store is to come" three (store 0 := (ZigLowerC side.L ForInsert on Root) ∷ [])
+    ∷ gives2 "2: ZigRaise where no store is to come" three (store 0 := (ZigRaise side.L ForInsert on Root) ∷ [])
+    ∷ gives2 "2: Unlink where no store is to come" three (store 0 := (Unlink on Root) ∷ [])
+    ∷ gives2 "2: Adopt where no store is to come" three (store 0 := (Adopt on Root) ∷ [])
+    ∷ gives2 "2: Replace where no store is to come" three (store 0 := (Replace on Root) ∷ [])
+    ∷ gives2 "2: Publish where no store is to come" three (store 0 := (Publish 1 on Root) ∷ [])
     ∷ entry "10: keys held N − 3" (three but (held:= 5 ∷ []))
-    (I 25 5 ⇒ refused 10
-    ∷ [])
+    (I 25 5 ⇒ refused 10 ∷ [])
     ∷ entry "10: keys held N" (three but (held:= 8 ∷ []))
-    (I 25 5 ⇒ refused 10
-    ∷ [])
+    (I 25 5 ⇒ refused 10 ∷ [])
     ∷ []
