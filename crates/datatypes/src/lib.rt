@@ -72,6 +72,20 @@ pub struct Write {
     pub count: u32,
 }
 
+// What a reader slot searches for (document 02, C-11).
+// Lookup: the record of the given key.
+// Next: the ticket with the smallest key greater than the given one.
+pub enum Kind {
+    Lookup,
+    Next,
+}
+
+// What a search for the next ticket remembers: nothing yet, or the key and record of the last node with a greater key than the given one.
+pub enum Remembered {
+    Nothing,
+    Ticket(u32, u32),
+}
+
 // A reader slot's record: reading or not, the wanted key, the node it is at (0 before its first turn).
 pub struct Reader {
     pub reading: bool,
