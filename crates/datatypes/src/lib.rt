@@ -86,11 +86,14 @@ pub enum Remembered {
     Ticket(u32, u32),
 }
 
-// A reader slot's record: reading or not, the wanted key, the node it is at (0 before its first turn).
+// A reader slot's record: reading or not, the kind of search, the given key, the node it is at (0 before its first turn), and what it
+// remembers (a lookup: nothing).
 pub struct Reader {
     pub reading: bool,
+    pub kind: Kind,
     pub key: u32,
     pub node: u32,
+    pub remembered: Remembered,
 }
 
 // The register: root, free queue, counts, readers, awaited slots (one bit for each slot), the write in hand.
@@ -162,10 +165,12 @@ pub enum WriterAnswer {
     Refused(u32),
 }
 
-// The answer of a reader's turn; found has the record.
+// The answer of a reader's turn; found has the record, next the key and record of the next ticket. Absent: the key of a lookup is not held,
+// or a search for the next ticket met none.
 pub enum ReaderAnswer {
     Go,
     Found(u32),
+    Next(u32, u32),
     Absent,
     Refused(u32),
 }

@@ -1,8 +1,9 @@
-// The seven calls of the ticket index. A call takes the pool as lent words and the register by value; its reply has the answer and the
+// The eight calls of the ticket index. A call takes the pool as lent words and the register by value; its reply has the answer and the
 // register to use from then on. No call has a precondition, and every call returns.
 // Each one's promise: answer, register and every pool word are what the definition of document 01's call (crate spec, Calls) makes of what
 // was lent; a refused call leaves both as they were. Above each call: what it needs, answers, refuses and leaves.
 use datatypes::Head;
+use datatypes::Kind;
 use datatypes::Link;
 use datatypes::Place;
 use datatypes::ReaderReply;
@@ -10,6 +11,7 @@ use datatypes::Register;
 use datatypes::Reply;
 use datatypes::WriterReply;
 ghost use mathlib.Core.Path.{_≡_};
+ghost use Rattle.datatypes.specs.declared.Kind.the-variants as kind;
 ghost use Rattle.spec.specs.Register.{state};
 ghost use Rattle.spec.specs.Calls.{accepts, writerSays, readerSays, setUp, insert, delete, writerTurn, begin, readerTurn, giveUp};
 
@@ -107,14 +109,10 @@ pub fn writer_turn(pool: &mut [u32], reg: Register) -> WriterReply
     turns::make_first(pool, reg)
 }
 
-// Begin: starts a lookup of the key k in the slot s. It loads no node yet.
-// Needs: one caller for each slot. Nothing tests this.
-// Answers: Accepted. Then reader_turn is to be called until it answers Found or Absent; give_up ends the lookup before.
-// Refuses, tested in this order: 1 length; 2 a word or field out of range; 3 the slot is above 7; 4 the slot is reading.
-// Leaves: the pool as it was, and in the register the slot's reader record; refused, both as they were.
-pub fn begin(pool: &[u32], mut reg: Register, s: u32, k: u32) -> Reply
-    ensures { λ r. ⌜ accepts (r .answer) ≡ begin (state (now (pool .entry)) reg) s k .answer ⌝ }
-    ensures { λ r. ⌜ state (now (pool .entry)) (r .register) ≡ begin (state (now (pool .entry)) reg) s k .after ⌝ }
+// Begins a search of this kind.
+fn begin_search(pool: &[u32], mut reg: Register, kind: Kind, s: u32, k: u32) -> Reply
+    ensures { λ r. ⌜ accepts (r .answer) ≡ begin kind (state (now (pool .entry)) reg) s k .answer ⌝ }
+    ensures { λ r. ⌜ state (now (pool .entry)) (r .register) ≡ begin kind (state (now (pool .entry)) reg) s k .after ⌝ }
 {
     let lent = refusals::lent_refusal(pool, reg);
     let i = refusals::slot_index(s);
@@ -122,16 +120,42 @@ pub fn begin(pool: &[u32], mut reg: Register, s: u32, k: u32) -> Reply
     if why != 0 {
         return replies::refused(why, reg);
     }
-    reg.readers[i] = register::begun_reader(k);
+    reg.readers[i] = register::begun_reader(kind, k);
     replies::accepted(reg)
 }
 
-// Reader's turn: loads one node more for the lookup of the slot s, first the root, then a child; or ends the lookup.
+// Begin: starts a lookup of the key k in the slot s. It loads no node yet.
+// Needs: one caller for each slot. Nothing tests this.
+// Answers: Accepted. Then reader_turn is to be called until it answers Found or Absent; give_up ends the lookup before.
+// Refuses, tested in this order: 1 length; 2 a word or field out of range; 3 the slot is above 7; 4 the slot is reading.
+// Leaves: the pool as it was, and in the register the slot's reader record; refused, both as they were.
+pub fn begin(pool: &[u32], reg: Register, s: u32, k: u32) -> Reply
+    ensures { λ r. ⌜ accepts (r .answer) ≡ begin kind.Lookup (state (now (pool .entry)) reg) s k .answer ⌝ }
+    ensures { λ r. ⌜ state (now (pool .entry)) (r .register) ≡ begin kind.Lookup (state (now (pool .entry)) reg) s k .after ⌝ }
+{
+    begin_search(pool, reg, Kind::Lookup, s, k)
+}
+
+// Begin a search for the next ticket: starts, in the slot s, a search for the ticket with the smallest key greater than k. It loads no node
+// yet.
+// Needs: one caller for each slot. Nothing tests this.
+// Answers: Accepted. Then reader_turn is to be called until it answers Next or Absent; give_up ends the search before.
+// Refuses and leaves: as begin.
+pub fn begin_next(pool: &[u32], reg: Register, s: u32, k: u32) -> Reply
+    ensures { λ r. ⌜ accepts (r .answer) ≡ begin kind.Next (state (now (pool .entry)) reg) s k .answer ⌝ }
+    ensures { λ r. ⌜ state (now (pool .entry)) (r .register) ≡ begin kind.Next (state (now (pool .entry)) reg) s k .after ⌝ }
+{
+    begin_search(pool, reg, Kind::Next, s, k)
+}
+
+// Reader's turn: loads one node more for the search of the slot s, first the root, then a child; or ends the search.
 // Needs: nothing; a slot that isn't reading is refused.
-// Answers: Go, the lookup goes on; Found with the record; or Absent. Found and Absent are right at one moment since the slot's begin.
+// Answers: Go, the search goes on. A lookup ends with Found and the record, or with Absent, right at one moment since the slot's begin. A
+// search for the next ticket ends with Next and the ticket's key and record, or with Absent: the ticket was held at a moment since the begin,
+// and no key between the given one and it (after Absent: no greater key) was held all the time since.
 // Refuses, tested in this order: 1 length; 2 a word or field out of range; 3 the slot is above 7; 5 the slot is not reading.
-// Leaves: after Go only the slot's node changed; after Found and Absent the slot is no longer reading, awaited or a holder of a retired
-// node, and a retired node without a holder is freed; refused, both as they were.
+// Leaves: after Go only the slot's node and what it remembers changed; after Found, Next and Absent the slot is no longer reading, awaited or
+// a holder of a retired node, and a retired node without a holder is freed; refused, both as they were.
 pub fn reader_turn(pool: &mut [u32], mut reg: Register, s: u32) -> ReaderReply
     ensures { λ r. ⌜ readerSays (r .answer) ≡ readerTurn (state (now (pool .entry)) reg) s .answer ⌝ }
     ensures { λ r. ⌜ state (now (pool .exit)) (r .register) ≡ readerTurn (state (now (pool .entry)) reg) s .after ⌝ }
@@ -143,7 +167,7 @@ pub fn reader_turn(pool: &mut [u32], mut reg: Register, s: u32) -> ReaderReply
     if why != 0 {
         return replies::refuses_reader(why, reg);
     }
-    let looked = lookups::look(pool, reg.root, x.key, x.node);
+    let looked = lookups::look(pool, reg.root, x);
     let h = Head {
         root: reg.root,
         first: reg.first,
@@ -159,12 +183,13 @@ pub fn reader_turn(pool: &mut [u32], mut reg: Register, s: u32) -> ReaderReply
     reg.free = left.free;
     reg.held = left.held;
     reg.awaited = left.awaited;
-    reg.readers[i] = lookups::reader_at(x, looked.node);
+    let remembered = looked.remembered;
+    reg.readers[i] = lookups::reader_at(x, remembered, looked.node);
     let answer = looked.answer;
     replies::answers_reader(answer, reg)
 }
 
-// Give up: ends the lookup of the slot s without an answer.
+// Give up: ends the lookup, or the search for the next ticket, of the slot s without an answer.
 // Needs: nothing; a slot that isn't reading is refused.
 // Answers: Accepted.
 // Refuses, tested in this order: 1 length; 2 a word or field out of range; 3 the slot is above 7; 5 the slot is not reading.

@@ -14,6 +14,9 @@ use Rattle.datatypes.specs.declared.Side.the-variants.{L, R}
 use Rattle.datatypes.specs.declared.Link.{Link}
 use Rattle.datatypes.specs.declared.Link.the-variants.{Root, Left, Right}
 use Rattle.datatypes.specs.declared.Step.{Step}
+use Rattle.datatypes.specs.declared.Kind.{Kind}
+use Rattle.datatypes.specs.declared.Kind.the-variants as kind
+use Rattle.datatypes.specs.declared.Remembered.the-variants.{Nothing}
 use Rattle.sequential.specs.Tree.{Colour, red, black, Tree, leaf, node}
 use Rattle.sequential.specs.Delete.{changedBy}
 use Rattle.base.specs.Lists.{_∈_, Distinct}
@@ -22,28 +25,39 @@ use Rattle.spec.specs.Pool.{word, child, nodes, keyWord, recordAt, colourWord, 
 use Rattle.spec.specs.Pool.{standingFree, standingLinked, standingRetired, blackColour, redColour}
 use Rattle.spec.specs.Register.{State, state, withReader, readerOf, storeOf, linkNode, hasSlot, readingAt}
 use Rattle.spec.specs.Turn.{profile}
-use Rattle.spec.specs.Calls.{Answer, go, absent, found, more, done, wait, refused, Outcome, Call, writing, call, reading, writeInHand, readerStep}
+use Rattle.spec.specs.Calls.{Answer, go, absent, found, next, more, done, wait, refused, Outcome, Call, writing, call, reading, writeInHand, readerStep}
 use Rattle.spec.specs.PlainList.{carriedOut, noticeOf, recordFor, acceptedWrites}
 use Rattle.spec.specs.FreeQueue.{Queue}
-use Rattle.promise.specs.Run.{Start, justSetUp, Reads, callAt, indexAfter, plainAfter, ticketsAfter, Gives, Turns, Reading, Lookup}
+use Rattle.promise.specs.Run.{Start, justSetUp, Reads, callAt, indexAfter, plainAfter, ticketsAfter, Gives, Turns, Reading, Lookup, NextSearch}
 
 -- 'Lookup': found means that at one of the lookup's moments the plain list has the wanted key with just this record, absent that at one of
 -- them it doesn't have the key.
 abbrev pub AtOneMoment : Start → List Call → ℕ → ℕ → ℕ → Option ℕ → Type 0
 AtOneMoment S cs k i j o = (t : ℕ) × (i < t) × (t ≤ j + 1) × (recordFor k (ticketsAfter S cs t) ≡ o)
 
--- slot s, wanted key k, begun by call i, ended by call j
+-- slot s, wanted key k, begun by call i, ended by call j; a lookup doesn't answer the next ticket
 pub record LookupsRight (S : Start) (cs : List Call) : Type 0 where
   pub whenFound : (s k i j v : ℕ) → Lookup S cs s k i j → Turns S cs s j (found v) → AtOneMoment S cs k i j (some v)
   pub whenAbsent : (s k i j : ℕ) → Lookup S cs s k i j → Turns S cs s j absent → AtOneMoment S cs k i j none
-  -- in its lookup a slot reads, with the wanted key; and a reading slot is in a lookup
-  pub reads : (s k i j : ℕ) → Reading S cs s k i j → (s < slots) × Reads (indexAfter S cs j) s × (readerOf (indexAfter S cs j .register) s .key ≡ k)
-  pub inLookup : (s j : ℕ) → s < slots → Reads (indexAfter S cs j) s → (k : ℕ) × (i : ℕ) × Reading S cs s k i j
+  pub notNext : (s k i j q v : ℕ) → Lookup S cs s k i j → ¬ (Turns S cs s j (next q v))
+  -- in its reading, of either kind, a slot reads, with its kind and the given key; and a reading slot is in a reading
+  pub reads : (κ : Kind) (s k i j : ℕ) → Reading S cs κ s k i j
+      → (s < slots) × Reads (indexAfter S cs j) s × (readerOf (indexAfter S cs j .register) s .key ≡ k) × (readerOf (indexAfter S cs j .register) s .kind ≡ κ)
+  pub inLookup : (s j : ℕ) → s < slots → Reads (indexAfter S cs j) s → (κ : Kind) × (k : ℕ) × (i : ℕ) × Reading S cs κ s k i j
+
+-- 02, C-11: a search of slot s for the next ticket after the key g. The key k answered is greater than g and was held with its record at some
+-- moment of the search, and no key strictly between was held all through it: at one of its moments the plain list doesn't have that key. After
+-- none (absent) no greater key was held all through. Such a search doesn't answer found.
+pub record NextSearchesRight (S : Start) (cs : List Call) : Type 0 where
+  pub whenNext : (s g i j k v : ℕ) → NextSearch S cs s g i j → Turns S cs s j (next k v)
+      → (g < k) × AtOneMoment S cs k i j (some v) × ((q : ℕ) → g < q → q < k → AtOneMoment S cs q i j none)
+  pub whenNone : (s g i j : ℕ) → NextSearch S cs s g i j → Turns S cs s j absent → (q : ℕ) → g < q → AtOneMoment S cs q i j none
+  pub notFound : (s g i j v : ℕ) → NextSearch S cs s g i j → ¬ (Turns S cs s j (found v))
 
 -- 'Holds': going from the root as a reader's turns do, with no other call between. It is the reader's own step: what it answers with the
 -- key k at node n (0 before any), made of the same pool and root again and again. Which slot's record it goes by does not matter: slot 0.
 abbrev pub turnAt : State → ℕ → ℕ → Outcome
-turnAt st k n = readerStep (state (st .pool) (withReader (st .register) 0 (readingAt k n))) 0
+turnAt st k n = readerStep (state (st .pool) (withReader (st .register) 0 (readingAt kind.Lookup k Nothing n))) 0
 
 -- from node n the turns for the key k end with the answer a
 pub data Going (st : State) (k : ℕ) : ℕ → Answer → Type 0 where
@@ -91,17 +105,18 @@ pub record Takes (st : State) (c : Call) (m : ℕ) : Type 0 where
 abbrev pub standingAt : State → ℕ → ℕ
 standingAt st n = word (st .pool) n standingWord
 
--- A node m that a reading slot reached at a moment of its lookup (after t calls) doesn't stand free and is not taken by any call, from that
--- moment until the lookup ends: not at a moment u, and not by call u.
+-- A node m that a reading slot reached at a moment of its lookup, or of its search for the next ticket (after t calls), doesn't stand free and
+-- is not taken by any call, from that moment until the reading ends: not at a moment u, and not by call u.
 pub record NodesKept (S : Start) (cs : List Call) : Type 0 where
-  pub notFree : (s k i j t m u : ℕ) → Reading S cs s k i j → i < t → Reaches (indexAfter S cs t) s m → t ≤ u → u ≤ j
+  pub notFree : (κ : Kind) (s k i j t m u : ℕ) → Reading S cs κ s k i j → i < t → Reaches (indexAfter S cs t) s m → t ≤ u → u ≤ j
       → standingAt (indexAfter S cs u) m ≢ standingFree
-  pub notTaken : (s k i j t m u : ℕ) (c : Call) → Reading S cs s k i j → i < t → Reaches (indexAfter S cs t) s m → t ≤ u → u < j → callAt cs u ≡ some c
+  pub notTaken : (κ : Kind) (s k i j t m u : ℕ) (c : Call) → Reading S cs κ s k i j → i < t → Reaches (indexAfter S cs t) s m → t ≤ u → u < j → callAt cs u ≡ some c
       → ¬ (Takes (indexAfter S cs u) c m)
 
 -- Demand 3 is a single claim about the whole list of calls.
 pub record Demand3 (S : Start) (cs : List Call) : Type 0 where
   pub lookups : LookupsRight S cs
+  pub nextSearches : NextSearchesRight S cs
   pub holds : TreeHolds S cs
   pub kept : NodesKept S cs
 

@@ -1,15 +1,18 @@
 -- 01, 'What demand 3 speaks of': a list of calls, made one after the other from a start. What stands after each of them, what each call
--- answered, and the plain list beside it; what a lookup is. 01's runs start on a pool of any N just set up, with any arguments.
+-- answered, and the plain list beside it; what a lookup is, and a search for the next ticket (02, C-11). 01's runs start on a pool of any N just
+-- set up, with any arguments.
 use Prim.Native.Nat.{ℕ, zero, suc, _<_}
 use mathlib.Core.Path.{_≡_}
 use mathlib.Core.Logic.{_⊎_}
 use mathlib.Core.Bool.{true}
 use mathlib.Core.List.{List, [], _∷_}
 use mathlib.Core.Option.{Option, none, some}
+use Rattle.datatypes.specs.declared.Kind.{Kind}
+use Rattle.datatypes.specs.declared.Kind.the-variants as kind
 use Rattle.sequential.specs.Tree.{Tree, leaf}
 use Rattle.spec.specs.Pool.{nodes}
 use Rattle.spec.specs.Register.{State, fresh}
-use Rattle.spec.specs.Calls.{Answer, ok, absent, found, Call, beginning, turning, givingUp, call, reading, setUp}
+use Rattle.spec.specs.Calls.{Answer, ok, absent, found, next, Call, beginning, turning, givingUp, call, reading, setUp}
 use Rattle.spec.specs.PlainList.{Ticket, Plain, noneAccepted, noticeOf, feed}
 
 -- Where a run starts: N, pool and register, the sequential tree that stands there, and the plain list's tickets. 01's own start is `justSetUp N`.
@@ -76,26 +79,30 @@ module _ (S : Start) (cs : List Call) where
   abbrev pub Gives : ℕ → Call → Answer → Type 0
   Gives j c a = (callAt cs j ≡ some c) × (call (indexAfter j) c .answer ≡ a)
 
-  -- Call i is an accepted begin of slot s with the key k.
-  abbrev pub Begins : ℕ → ℕ → ℕ → Type 0
-  Begins s k i = Gives i (beginning s k) ok
+  -- Call i is an accepted begin of slot s, of this kind, with the key k.
+  abbrev pub Begins : Kind → ℕ → ℕ → ℕ → Type 0
+  Begins κ s k i = Gives i (beginning κ s k) ok
 
   -- Call j is a turn of slot s and answers a.
   abbrev pub Turns : ℕ → ℕ → Answer → Type 0
   Turns s j a = Gives j (turning s) a
 
-  -- Call j ends the reading of slot s: its turn that answers found or absent, or its accepted give up.
+  -- Call j ends the reading of slot s: its turn that answers found, the next ticket or absent, or its accepted give up.
   abbrev pub Ends : ℕ → ℕ → Type 0
-  Ends s j = Turns s j absent ⊎ (((v : ℕ) × Turns s j (found v)) ⊎ Gives j (givingUp s) ok)
+  Ends s j = Turns s j absent ⊎ (((v : ℕ) × Turns s j (found v)) ⊎ (((k : ℕ) × (v : ℕ) × Turns s j (next k v)) ⊎ Gives j (givingUp s) ok))
 
-  -- Call i begins a reading of slot s with the key k, which has not ended when call j comes. So its moments up to then are those after
-  -- i + 1, i + 2, .. j calls; and if call j ends it, that after j + 1 calls too.
-  pub record Reading (s k i j : ℕ) : Type 0 where
-    pub begins : Begins s k i
+  -- Call i begins a reading of slot s, of this kind, with the key k, which has not ended when call j comes. So its moments up to then are
+  -- those after i + 1, i + 2, .. j calls; and if call j ends it, that after j + 1 calls too.
+  pub record Reading (κ : Kind) (s k i j : ℕ) : Type 0 where
+    pub begins : Begins κ s k i
     pub later : i < j
     pub lasts : (t : ℕ) → i < t → t < j → ¬ (Ends s t)
 
   -- 'Lookup': a slot's, from an accepted begin to that slot's turn that answers found or absent, or to its accepted give up. Here up to
-  -- call j; that call j ends it, and with which answer, stands beside it (Demands: whenFound, whenAbsent).
+  -- call j; that call j ends it, and with which answer, stands beside it (Demands: whenFound, whenAbsent). 02, C-11: a search for the next
+  -- ticket likewise, after the key g (Demands: whenNext, whenNone).
   abbrev pub Lookup : ℕ → ℕ → ℕ → ℕ → Type 0
-  Lookup s k i j = Reading s k i j
+  Lookup s k i j = Reading kind.Lookup s k i j
+
+  abbrev pub NextSearch : ℕ → ℕ → ℕ → ℕ → Type 0
+  NextSearch s g i j = Reading kind.Next s g i j

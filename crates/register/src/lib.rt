@@ -1,7 +1,9 @@
 // The register: the write in hand changed, slots as bits, the test of ranges.
+use datatypes::Kind;
 use datatypes::Link;
 use datatypes::Reader;
 use datatypes::Register;
+use datatypes::Remembered;
 use datatypes::Step;
 use datatypes::Store;
 use datatypes::Write;
@@ -19,30 +21,37 @@ pub fn no_reader() -> Reader
 {
     Reader {
         reading: false,
+        kind: Kind::Lookup,
         key: 0,
         node: 0,
+        remembered: Remembered::Nothing,
     }
 }
 
-// Makes the record of a slot that begins to read the key k.
-pub fn begun_reader(k: u32) -> Reader
-    ensures { λ r. ⌜ r ≡ begunReader k ⌝ }
+// Makes the record of a slot that begins a search of this kind with the key k.
+pub fn begun_reader(kind: Kind, k: u32) -> Reader
+    ensures { λ r. ⌜ r ≡ begunReader kind k ⌝ }
 {
     Reader {
         reading: true,
+        kind,
         key: k,
         node: 0,
+        remembered: Remembered::Nothing,
     }
 }
 
-// Makes the record of a slot after a turn that loaded node n.
-pub fn moved_reader(x: Reader, n: u32) -> Reader
-    ensures { λ r. ⌜ r ≡ movedReader x n ⌝ }
+// Makes the record of a slot after a turn that loaded node n, remembering m.
+pub fn moved_reader(x: Reader, m: Remembered, n: u32) -> Reader
+    ensures { λ r. ⌜ r ≡ movedReader x m n ⌝ }
 {
+    let kind = x.kind;
     Reader {
         reading: true,
+        kind,
         key: x.key,
         node: n,
+        remembered: m,
     }
 }
 

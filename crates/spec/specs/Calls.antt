@@ -1,4 +1,5 @@
--- 01, 'Calls' and 'When a call is turned down': each call as its tests in order, with the number of each cause, and then what it does.
+-- 01, 'Calls' and 'When a call is turned down': each call as its tests in order, with the number of each cause, and then what it does. 02, C-11:
+-- a slot may search for the next ticket.
 use Prim.Native.Nat.{ℕ, _-_}
 use mathlib.Core.Bool.{Bool, true, false, cond, not, _&&_}
 use mathlib.Core.List.{List, [], _∷_}
@@ -7,6 +8,10 @@ use Rattle.datatypes.specs.declared.Link.{Link}
 use Rattle.datatypes.specs.declared.Link.the-variants.{Root}
 use Rattle.datatypes.specs.declared.Place.{Place}
 use Rattle.datatypes.specs.declared.Place.the-variants.{Held, Empty, TooDeep}
+use Rattle.datatypes.specs.declared.Kind.{Kind}
+use Rattle.datatypes.specs.declared.Kind.the-variants as kind
+use Rattle.datatypes.specs.declared.Remembered.{Remembered}
+use Rattle.datatypes.specs.declared.Remembered.the-variants.{Nothing, Ticket}
 use Rattle.datatypes.specs.declared.Reader.{Reader}
 use Rattle.datatypes.specs.declared.Acceptance.{Acceptance}
 use Rattle.datatypes.specs.declared.Acceptance.the-variants as acceptance
@@ -23,10 +28,11 @@ use Rattle.spec.specs.Plan.{Plan, insertPlan, deletePlan}
 use Rattle.spec.specs.Turn.{Made, stepFinds, stepMade}
 
 -- What a call answers, in 01's words: ok, go, found with the record, absent, more and done with the link stored and its new node, wait,
--- or its refusal number.
+-- or its refusal number; and the next ticket's key and record (02, C-11; its none is absent).
 pub data Answer : Type 0 where
   ok go absent wait : Answer
   found : (v : ℕ) → Answer
+  next : (k v : ℕ) → Answer
   more done : (l : Link) (n : ℕ) → Answer
   refused : (number : ℕ) → Answer
 
@@ -44,6 +50,7 @@ writerSays (writer.Refused n) = refused n
 abbrev pub readerSays : ReaderAnswer → Answer
 readerSays reader.Go = go
 readerSays (reader.Found v) = found v
+readerSays (reader.Next k v) = next k v
 readerSays reader.Absent = absent
 readerSays (reader.Refused n) = refused n
 
@@ -182,7 +189,7 @@ writerTurn st =
     let x = storeOf (st .register) 0 in
     unless (writerTests st) st (cond (waiting st) (outcome wait st) (stored (stepMade st (x .link) (x .step))))
 
--- Begin: the slot reads, with the wanted key, before any node.
+-- Begin, of a lookup or of a search for the next ticket: the slot reads, with the given key, before any node, remembering nothing.
 abbrev pub beginTests : State → ℕ → List Test
 beginTests st s =
     wrongLength st gives 1
@@ -191,26 +198,44 @@ beginTests st s =
     ∷ reading st s gives 4
     ∷ []
 
-unfoldable pub begin : State → ℕ → ℕ → Outcome
-begin st s k =
-    unless (beginTests st s) st (outcome ok (state (st .pool) (withReader (st .register) s (begunReader k))))
+unfoldable pub begin : Kind → State → ℕ → ℕ → Outcome
+begin κ st s k =
+    unless (beginTests st s) st (outcome ok (state (st .pool) (withReader (st .register) s (begunReader κ k))))
 
--- A loaded 0 answers absent and ends the reading, else go.
-abbrev pub loaded : State → ℕ → Reader → ℕ → Outcome
-loaded st s x n =
-    cond (eqb n 0) (outcome absent (endReading st s)) (outcome go (state (st .pool) (withReader (st .register) s (movedReader x n))))
+-- What a loaded 0 answers: absent in a lookup; in a search for the next ticket the ticket remembered, absent if there is none.
+abbrev pub emptyAnswer : Kind → Remembered → Answer
+emptyAnswer kind.Lookup m = absent
+emptyAnswer kind.Next Nothing = absent
+emptyAnswer kind.Next (Ticket k v) = next k v
 
--- Reader's turn. Before any node: load the root. At a node: an equal key answers found with the record; a smaller wanted key loads left,
--- a greater one right.
+-- The slot, whose record is x, loads node n, remembering m. A loaded 0 answers that and ends the reading, else go.
+abbrev pub loaded : State → ℕ → Reader → Remembered → ℕ → Outcome
+loaded st s x m n =
+    cond (eqb n 0)
+    (outcome (emptyAnswer (x .kind) m) (endReading st s))
+    (outcome go (state (st .pool) (withReader (st .register) s (movedReader x m n))))
+
+-- what a search for the next ticket after the key k remembers at node n, having remembered m: its ticket, if its key is greater
+abbrev pub recalled : List ℕ → ℕ → ℕ → Remembered → Remembered
+recalled p k n m = cond (ltb k (word p n keyWord)) (Ticket (word p n keyWord) (recordAt p n)) m
+
+-- At a node. Lookup: an equal key answers found with the record; a smaller wanted key loads left, a greater one right. Search for the next
+-- ticket: a key greater than the given one is remembered with its record, and left is loaded; otherwise right.
+abbrev pub atNode : Kind → State → ℕ → Reader → Outcome
+atNode kind.Lookup st s x =
+    let p = st .pool in
+    cond (eqb (x .key) (word p (x .node) keyWord))
+    (outcome (found (recordAt p (x .node))) (endReading st s))
+    (loaded st s x (x .remembered) (child p (towards p (x .key) (x .node)) (x .node)))
+atNode kind.Next st s x =
+    let p = st .pool in
+    loaded st s x (recalled p (x .key) (x .node) (x .remembered)) (child p (towards p (x .key) (x .node)) (x .node))
+
+-- Reader's turn. Before any node: load the root. At a node: by the kind of search.
 unfoldable pub readerStep : State → ℕ → Outcome
 readerStep st s =
     let x = readerOf (st .register) s in
-    let k = x .key in
-    let n = x .node in
-    let p = st .pool in
-    cond (eqb n 0)
-    (loaded st s x (st .register .root))
-    (cond (eqb k (word p n keyWord)) (outcome (found (recordAt p n)) (endReading st s)) (loaded st s x (child p (towards p k n) n)))
+    cond (eqb (x .node) 0) (loaded st s x (x .remembered) (st .register .root)) (atNode (x .kind) st s x)
 
 abbrev pub readerTests : State → ℕ → List Test
 readerTests st s =
@@ -232,7 +257,7 @@ pub data Call : Type 0 where
   inserting : (k v : ℕ) → Call
   deleting : (k : ℕ) → Call
   writing : Call
-  beginning : (s k : ℕ) → Call
+  beginning : (κ : Kind) (s k : ℕ) → Call
   turning : (s : ℕ) → Call
   givingUp : (s : ℕ) → Call
 
@@ -240,6 +265,6 @@ abbrev pub call : State → Call → Outcome
 call st (inserting k v) = insert st k v
 call st (deleting k) = delete st k
 call st writing = writerTurn st
-call st (beginning s k) = begin st s k
+call st (beginning κ s k) = begin κ st s k
 call st (turning s) = readerTurn st s
 call st (givingUp s) = giveUp st s

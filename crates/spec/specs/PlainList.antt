@@ -8,7 +8,7 @@ use mathlib.Core.Option.{Option, none, some}
 use lib.Dec.{eqb}
 use Rattle.sequential.specs.Tree.{Tree, leaf, node, descend}
 use Rattle.sequential.specs.Delete.{Change, insertion, deletion, changedBy}
-use Rattle.spec.specs.Calls.{Answer, ok, go, absent, wait, found, more, done, refused, Call, inserting, deleting, writing, beginning, turning, givingUp}
+use Rattle.spec.specs.Calls.{Answer, ok, go, absent, wait, found, next, more, done, refused, Call, inserting, deleting, writing, beginning, turning, givingUp}
 
 -- a ticket: a key with its record
 pub record Ticket : Type 0 where
@@ -78,6 +78,7 @@ noticeOf go = carriedOut
 noticeOf absent = carriedOut
 noticeOf wait = waited
 noticeOf (found v) = carriedOut
+noticeOf (next k v) = carriedOut
 noticeOf (more l n) = carriedOut
 noticeOf (done l n) = carriedOut
 noticeOf (refused n) = turnedDown
@@ -94,13 +95,13 @@ storeMade x (some c) =
     let atList = eqb m (listStore (changedBy (x .started) (x .before)) c) in
     record { started = x .started; tickets = cond atList (updated c (x .tickets)) (x .tickets); before = x .before; inHand = some c; made = m }
 
--- All else changes nothing: wait, any refused call, begin, reader's turn, give up.
+-- All else changes nothing: wait, any refused call, begin of either kind, reader's turn, give up.
 abbrev pub feed : Plain → Call → Notice → Plain
 feed x c turnedDown = x
 feed x c waited = x
 feed x (inserting k v) carriedOut = begun x (insertion k v)
 feed x (deleting k) carriedOut = begun x (deletion k)
 feed x writing carriedOut = storeMade x (x .inHand)
-feed x (beginning s k) carriedOut = x
+feed x (beginning κ s k) carriedOut = x
 feed x (turning s) carriedOut = x
 feed x (givingUp s) carriedOut = x

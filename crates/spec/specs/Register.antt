@@ -11,6 +11,10 @@ use Rattle.datatypes.specs.declared.Step.{Step}
 use Rattle.datatypes.specs.declared.Step.the-variants.{Vacant, Insert, DiagLower, DiagRaise, ZigLowerA, ZigLowerC, ZigRaise, Unlink, Adopt, Replace, Publish, Detach}
 use Rattle.datatypes.specs.declared.Store.{Store}
 use Rattle.datatypes.specs.declared.Write.{Write}
+use Rattle.datatypes.specs.declared.Kind.{Kind}
+use Rattle.datatypes.specs.declared.Kind.the-variants as kind
+use Rattle.datatypes.specs.declared.Remembered.{Remembered}
+use Rattle.datatypes.specs.declared.Remembered.the-variants.{Nothing}
 use Rattle.datatypes.specs.declared.Reader.{Reader}
 use Rattle.datatypes.specs.declared.Register.{Register}
 use Rattle.spec.specs.Numbers.{slots, allSlots, mostStores}
@@ -24,19 +28,20 @@ pub record State : Type 0 where
 abbrev pub state : List ℕ → Register → State
 state p r = record { pool = p; register = r }
 
--- A reader record: of a slot that doesn't read, all 0; of one that reads the key k and is at node n, 0 before any.
+-- A reader record: of a slot that doesn't read, all 0; of one that reads: its kind of search, the key k given to it, what it remembers, and
+-- the node n that it is at, 0 before any. 02, C-11: a slot makes a lookup or a search for the next ticket.
 abbrev pub noReader : Reader
-noReader = record { reading = false; key = 0; node = 0 }
+noReader = record { reading = false; kind = kind.Lookup; key = 0; node = 0; remembered = Nothing }
 
-abbrev pub readingAt : ℕ → ℕ → Reader
-readingAt k n = record { reading = true; key = k; node = n }
+abbrev pub readingAt : Kind → ℕ → Remembered → ℕ → Reader
+readingAt κ k m n = record { reading = true; kind = κ; key = k; node = n; remembered = m }
 
--- as begin makes it, and as it is after a turn that loaded node n
-abbrev pub begunReader : ℕ → Reader
-begunReader k = readingAt k 0
+-- as begin makes it, and as it is after a turn that loaded node n, remembering m
+abbrev pub begunReader : Kind → ℕ → Reader
+begunReader κ k = readingAt κ k Nothing 0
 
-abbrev pub movedReader : Reader → ℕ → Reader
-movedReader x n = readingAt (x .key) n
+abbrev pub movedReader : Reader → Remembered → ℕ → Reader
+movedReader x m n = readingAt (x .kind) (x .key) m n
 
 abbrev pub vacant : Store
 vacant = record { link = Root; step = Vacant }

@@ -6,8 +6,8 @@ use Rattle.spec.specs.Register.{state, withReader}
 use Rattle.laws.specs.Tests.{lent-of, slot-of, unless-refused, unless-done}
 use Rattle.refusals.specs.Slots.{index-of, slot-tests}
 use Rattle.datatypes.specs.declared.Reader.{Reader}
-use Rattle.spec.specs.Calls.{Outcome, _gives_, firstOf, slotTooHigh, reading, readerSays, readerStep, readerTurn, readerTests}
-use Rattle.lookups.specs.Looked.{turn-looked}
+use Rattle.spec.specs.Calls.{Outcome, _gives_, firstOf, slotTooHigh, reading, readerStep, readerTurn, readerTests}
+use Rattle.lookups.specs.Looked.{lookOf, turn-looked}
 use borrow.Author.Needs.{needs}
 use Rattle.index.proofs.reader_turn.Statement.{statement}
 use Rattle.index.proofs.reader_turn.Tie as tie
@@ -77,8 +77,8 @@ leave-requires c κs =
 reader-at-requires : tie.Need-reader-at-requires
 reader-at-requires c κs = search needs
 
-mul-t16 : tie.Need-mul-t16
-mul-t16 c = search needs
+mul-t17 : tie.Need-mul-t17
+mul-t17 c = search needs
 
 element-set-from-reg : tie.Need-element-set-from-reg
 element-set-from-reg c = search needs
@@ -109,8 +109,8 @@ returns-2 c =
     let e = unless-done (readerTests st s) st (readerStep st s) z in
     let l = c4 .leave in
     let k = c6 .look in
-    let f = turn-looked (a .pool .now) (l .last .0) (a .t2) (l .result) s (i .result) (k .result .node) (c .before .reader-at .result) (readerSays (k .result .answer)) j
-    (k .ensures .0, k .ensures .1, c .before .reader-at .ensures) (l .ensures) in
+    let f = turn-looked (a .pool .now) (l .last .0) (a .t2) (l .result) s (i .result) (c .before .reader-at .result) (lookOf (k .result)) j
+    (k .ensures, c .before .reader-at .ensures) (l .ensures) in
     (c .answers-reader .ensures .0 ∙ f .0 ∙ sym (ap (λ (o : Outcome). o .answer) e), rw (c .answers-reader .ensures .1) (f .1 ∙ sym (ap (λ (o : Outcome). o .after) e)))
 
 pub reader-turn-spec : {M : Type 1} → statement M
@@ -128,7 +128,7 @@ reader-turn-spec =
     look-requires
     leave-requires
     reader-at-requires
-    mul-t16
+    mul-t17
     element-set-from-reg
     answers-reader-requires
     same-length-2

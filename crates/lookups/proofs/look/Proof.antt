@@ -1,14 +1,15 @@
-use mathlib.Core.Path.{refl}
+use mathlib.Core.Path.{sym, ap, _∙_}
 use borrow.Author.Tests.{eq-eqb, ne-eqb}
 use borrow.Author.Needs.{needs}
+use Rattle.datatypes.specs.declared.Kind.{Kind}
+use Rattle.lookups.specs.Looked.{lookAt}
 use Rattle.lookups.proofs.look.Statement.{statement}
 use Rattle.lookups.proofs.look.Tie as tie
 use Rattle.lookups.proofs.look.Reads as reads
 use Rattle.lookups.proofs.look.Lts as lts
 use Rattle.lookups.proofs.load.Reads as load-reads
-use Rattle.pool.proofs.word.Reads as word-reads
-use Rattle.pool.proofs.record.Reads as record-reads
-use Rattle.search.proofs.child_towards.Reads as child-towards-reads
+use Rattle.lookups.proofs.look_next.Reads as look-next-reads
+use Rattle.lookups.proofs.look_up.Reads as look-up-reads
 
 load-requires : tie.Need-load-requires
 load-requires c κs = search needs
@@ -16,26 +17,27 @@ load-requires c κs = search needs
 returns : tie.Need-returns
 returns c = rw (eq-eqb _ _ (c .before .if1 .taken)) (c .load .ensures)
 
-word-requires : tie.Need-word-requires
-word-requires c κs = search needs
+enum-told : tie.Need-enum-told
+enum-told c = search needs
 
-record-requires : tie.Need-record-requires
-record-requires c κs = search needs
+look-up-requires : tie.Need-look-up-requires
+look-up-requires c κs = search needs
+
+enum-told-2 : tie.Need-enum-told-2
+enum-told-2 c = search needs
+
+look-next-requires : tie.Need-look-next-requires
+look-next-requires c κs = search needs
 
 returns-2 : tie.Need-returns-2
-returns-2 c = rw (ne-eqb _ _ (c .before .before .before .if1 .left), ← (c .before .before .word .ensures), eq-eqb _ _ (c .before .if2 .taken)) (rw (c .record .ensures), refl)
-
-child-towards-requires : tie.Need-child-towards-requires
-child-towards-requires c κs = search needs
-
-load-requires-2 : tie.Need-load-requires-2
-load-requires-2 c κs = search needs
+returns-2 c =
+    let a = c .before .before .before .before .before .before .args in
+    rw (ne-eqb _ _ (c .before .before .before .if1 .left)) (c .look-up .ensures ∙ ap (λ (κ : Kind). lookAt κ (a .pool .now) (a .x)) (sym (c .before .enum-told .given .1)))
 
 returns-3 : tie.Need-returns-3
 returns-3 c =
-    let c3 = c .before .before .before in
-    let c4 = c3 .before in
-    rw (← (c .before .child-towards .ensures), ne-eqb _ _ (c4 .if1 .left), ← (c3 .word .ensures), ne-eqb _ _ (c .before .before .if2 .left)) (c .load2 .ensures)
+    let a = c .before .before .before .before .before .before .args in
+    rw (ne-eqb _ _ (c .before .before .before .if1 .left)) (c .look-next .ensures ∙ ap (λ (κ : Kind). lookAt κ (a .pool .now) (a .x)) (sym (c .before .enum-told2 .given .1)))
 
 pub look-spec : {M : Type 1} → statement M
 look-spec =
@@ -43,9 +45,9 @@ look-spec =
     (tie.spec
     load-requires
     returns
-    word-requires
-    record-requires
+    enum-told
+    look-up-requires
+    enum-told-2
+    look-next-requires
     returns-2
-    child-towards-requires
-    load-requires-2
     returns-3)

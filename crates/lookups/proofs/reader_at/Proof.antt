@@ -4,8 +4,8 @@ use Rattle.lookups.proofs.reader_at.Statement.{statement}
 use Rattle.lookups.proofs.reader_at.Tie as tie
 use Rattle.lookups.proofs.reader_at.Reads as reads
 use Rattle.lookups.proofs.reader_at.Lts as lts
-use Rattle.register.proofs.no_reader.Reads as no-reader-reads
 use Rattle.register.proofs.moved_reader.Reads as moved-reader-reads
+use Rattle.register.proofs.no_reader.Reads as no-reader-reads
 
 no-reader-requires : tie.Need-no-reader-requires
 no-reader-requires c κs = search needs

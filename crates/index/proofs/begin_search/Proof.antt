@@ -7,10 +7,10 @@ use Rattle.refusals.specs.Slots.{index-of, slot-tests}
 use Rattle.datatypes.specs.declared.Reader.{Reader}
 use Rattle.spec.specs.Calls.{Outcome, outcome, ok, firstOf, begin, beginTests, reading}
 use borrow.Author.Needs.{needs}
-use Rattle.index.proofs.begin.Statement.{statement}
-use Rattle.index.proofs.begin.Tie as tie
-use Rattle.index.proofs.begin.Reads as reads
-use Rattle.index.proofs.begin.Lts as lts
+use Rattle.index.proofs.begin_search.Statement.{statement}
+use Rattle.index.proofs.begin_search.Tie as tie
+use Rattle.index.proofs.begin_search.Reads as reads
+use Rattle.index.proofs.begin_search.Lts as lts
 use Rattle.register.proofs.begun_reader.Reads as begun-reader-reads
 use Rattle.replies.proofs.refused.Reads as refused-reads
 use Rattle.replies.proofs.accepted.Reads as accepted-reads
@@ -47,15 +47,15 @@ returns c =
     let i = c3 .slot-index in
     let w : c .before .before .slot-refusal .result ≡ firstOf (beginTests st (a .s)) =
     c .before .before .slot-refusal .ensures ∙ rw (c4 .lent-refusal .ensures) (slot-tests st (a .s) (i .result) (λ (b : Bool). b) 4 (i .ensures .0)) in
-    let e = unless-refused (beginTests st (a .s)) st (outcome ok (state (st .pool) (withReader (st .register) (a .s) (begunReader (a .k))))) (c .before .before .slot-refusal .result) (sym w)
+    let e = unless-refused (beginTests st (a .s)) st (outcome ok (state (st .pool) (withReader (st .register) (a .s) (begunReader (a .kind) (a .k))))) (c .before .before .slot-refusal .result) (sym w)
     (c .before .if1 .taken) in
     (c .refused .ensures .0 ∙ sym (ap (λ (o : Outcome). o .answer) e), rw (c .refused .ensures .1) (sym (ap (λ (o : Outcome). o .after) e)))
 
 begun-reader-requires : tie.Need-begun-reader-requires
 begun-reader-requires c κs = search needs
 
-mul-t10 : tie.Need-mul-t10
-mul-t10 c = search needs
+mul-t11 : tie.Need-mul-t11
+mul-t11 c = search needs
 
 element-set-from-reg : tie.Need-element-set-from-reg
 element-set-from-reg c = search needs
@@ -76,14 +76,14 @@ returns-2 c =
     let w : c3 .slot-refusal .result ≡ firstOf (beginTests st (a .s)) =
     c3 .slot-refusal .ensures ∙ rw (c5 .lent-refusal .ensures) (slot-tests st (a .s) (i .result) (λ (b : Bool). b) 4 (i .ensures .0)) in
     let z = sym w ∙ c .before .before .if1 .left in
-    let e = unless-done (beginTests st (a .s)) st (outcome ok (state (st .pool) (withReader (st .register) (a .s) (begunReader (a .k))))) z in (
+    let e = unless-done (beginTests st (a .s)) st (outcome ok (state (st .pool) (withReader (st .register) (a .s) (begunReader (a .kind) (a .k))))) z in (
       c .accepted .ensures .0 ∙ sym (ap (λ (o : Outcome). o .answer) e),
       rw (c .accepted .ensures .1, c .before .begun-reader .ensures, index-of (a .s) (i .result) (i .ensures .0) (slot-of st (a .s) (reading st (a .s)) 4 (omega arith) z))
           (sym (ap (λ (o : Outcome). o .after) e)),
     )
 
-pub begin-spec : {M : Type 1} → statement M
-begin-spec =
+pub begin-search-spec : {M : Type 1} → statement M
+begin-search-spec =
     tie.close
     (tie.spec
     lent-refusal-requires
@@ -94,7 +94,7 @@ begin-spec =
     refused-requires
     returns
     begun-reader-requires
-    mul-t10
+    mul-t11
     element-set-from-reg
     accepted-requires
     returns-2)
