@@ -25,7 +25,7 @@ use Rattle.spec.specs.Search.{towards}
 use Rattle.spec.specs.Plan.{Plan}
 use Rattle.spec.specs.Turn.{stepFinds, stepMade}
 use Rattle.spec.specs.Calls.{Outcome, outOfRange, placeOf, insertAt, deleteAt, stored, Call}
-use Rattle.readers.specs.CallCase.{CallCase, refuses, plansInsert, plansDelete, waits, stores, begins, loads, misses, finds, leaves, Loads, atRoot, atNode}
+use Rattle.readers.specs.CallCase.{CallCase, refuses, plansInsert, plansDelete, waits, stores, begins, loads, misses, meets, finds, leaves, Loads, atRoot, lookingUp, searching}
 use Rattle.ranges.specs.Fits.{PoolOk, child-fits, Within, within-reader, within-end, within-write}
 use Rattle.ranges.specs.Stores.{step-within}
 use Rattle.ranges.specs.Writes.{Number, LinkOk, StepOk, WriteOk, write-of, write-less}

@@ -8,25 +8,38 @@ use native.Mathlib.Omega.{arith}
 use native.Mathlib.Decide.{ℕ-discrete}
 use lib.Dec.{eqb}
 use borrow.Author.Tests.{not-false, eqb-true, eqb-false, leb-false}
+use Rattle.datatypes.specs.declared.Kind.{Kind}
+use Rattle.datatypes.specs.declared.Kind.the-variants as kind
+use Rattle.datatypes.specs.declared.Remembered.{Remembered}
+use Rattle.datatypes.specs.declared.Remembered.the-variants.{Nothing, Ticket}
 use Rattle.spec.specs.Numbers.{slots}
 use Rattle.spec.specs.Pool.{word, child, keyWord, recordAt}
 use Rattle.spec.specs.Register.{State, state, readerOf, storeOf, withReader, withWrite, writeOf, begunReader, movedReader}
 use Rattle.spec.specs.Free.{endReading}
 use Rattle.spec.specs.Search.{towards}
 use Rattle.spec.specs.Turn.{stepFinds, stepMade}
-use Rattle.spec.specs.Calls.{ok, go, absent, wait, found, refused, Outcome, outcome, Test, _gives_, firstOf, unless}
+use Rattle.spec.specs.Calls.{ok, go, absent, wait, found, next, refused, Outcome, outcome, Test, _gives_, firstOf, unless}
 use Rattle.spec.specs.Calls.{insertTests, deleteTests, waiting, firstFinds, writerTests, beginTests, reading, writeInHand, placeOf, insertAt, deleteAt}
-use Rattle.spec.specs.Calls.{insert, delete, stored, writerTurn, begin, loaded}
+use Rattle.spec.specs.Calls.{insert, delete, stored, writerTurn, begin, emptyAnswer, loaded, recalled}
 use Rattle.spec.specs.Calls.{readerStep, readerTests, readerTurn, giveUp, Call, inserting, deleting, writing}
 use Rattle.spec.specs.Calls.{beginning, turning, givingUp, call}
 use Rattle.promise.specs.Run.{Reads}
-use Rattle.readers.specs.Descends.{step-root, step-found, step-child, load-none, load-some}
+use Rattle.readers.specs.Descends.{step-root, step-found, step-child, step-next, load-none, load-some}
 
--- the node that slot s loads next: the root, or the child by comparing
-pub data Loads (st : State) (s n : ℕ) : Type 0 where
-  atRoot : readerOf (st .register) s .node ≡ 0 → n ≡ st .register .root → Loads st s n
-  atNode : readerOf (st .register) s .node ≢ 0 → readerOf (st .register) s .key ≢ word (st .pool) (readerOf (st .register) s .node) keyWord
-      → n ≡ child (st .pool) (towards (st .pool) (readerOf (st .register) s .key) (readerOf (st .register) s .node)) (readerOf (st .register) s .node) → Loads st s n
+-- the child of slot s's node on the side that its key lies on, and what a search for the next ticket remembers there
+abbrev pub childLoaded : State → ℕ → ℕ
+childLoaded st s = let x = readerOf (st .register) s in child (st .pool) (towards (st .pool) (x .key) (x .node)) (x .node)
+
+abbrev pub recalledAt : State → ℕ → Remembered
+recalledAt st s = let x = readerOf (st .register) s in recalled (st .pool) (x .key) (x .node) (x .remembered)
+
+-- the node n that slot s loads next, the root or the child by comparing, and what it remembers then
+pub data Loads (st : State) (s : ℕ) (m : Remembered) (n : ℕ) : Type 0 where
+  atRoot : readerOf (st .register) s .node ≡ 0 → m ≡ readerOf (st .register) s .remembered → n ≡ st .register .root → Loads st s m n
+  lookingUp : readerOf (st .register) s .kind ≡ kind.Lookup → readerOf (st .register) s .node ≢ 0
+      → readerOf (st .register) s .key ≢ word (st .pool) (readerOf (st .register) s .node) keyWord
+      → m ≡ readerOf (st .register) s .remembered → n ≡ childLoaded st s → Loads st s m n
+  searching : readerOf (st .register) s .kind ≡ kind.Next → readerOf (st .register) s .node ≢ 0 → m ≡ recalledAt st s → n ≡ childLoaded st s → Loads st s m n
 
 pub record Passed (st : State) (s : ℕ) : Type 0 where
   pub low : s < slots
@@ -37,7 +50,7 @@ abbrev pub testsOf : State → Call → List Test
 testsOf st (inserting k v) = insertTests st k v
 testsOf st (deleting k) = deleteTests st k
 testsOf st writing = writerTests st
-testsOf st (beginning s k) = beginTests st s
+testsOf st (beginning κ s k) = beginTests st s
 testsOf st (turning s) = readerTests st s
 testsOf st (givingUp s) = readerTests st s
 
@@ -50,12 +63,16 @@ pub data CallCase (st : State) : Call → Outcome → Type 0 where
   waits : st .register .awaited ≢ 0 → CallCase st writing (outcome wait st)
   stores : st .register .awaited ≡ 0 → writeInHand st ≡ true → stepFinds st (storeOf (st .register) 0 .link) (storeOf (st .register) 0 .step) ≡ true
       → CallCase st writing (stored (stepMade st (storeOf (st .register) 0 .link) (storeOf (st .register) 0 .step)))
-  begins : (s k : ℕ) → s < slots → reading st s ≡ false
-      → CallCase st (beginning s k) (outcome ok (state (st .pool) (withReader (st .register) s (begunReader k))))
-  loads : (s n : ℕ) → Passed st s → Loads st s n → n ≢ 0
-      → CallCase st (turning s) (outcome go (state (st .pool) (withReader (st .register) s (movedReader (readerOf (st .register) s) n))))
-  misses : (s n : ℕ) → Passed st s → Loads st s n → n ≡ 0 → CallCase st (turning s) (outcome absent (endReading st s))
-  finds : (s : ℕ) → Passed st s → readerOf (st .register) s .node ≢ 0 → readerOf (st .register) s .key ≡ word (st .pool) (readerOf (st .register) s .node) keyWord
+  begins : (κ : Kind) (s k : ℕ) → s < slots → reading st s ≡ false
+      → CallCase st (beginning κ s k) (outcome ok (state (st .pool) (withReader (st .register) s (begunReader κ k))))
+  loads : (s : ℕ) (m : Remembered) (n : ℕ) → Passed st s → Loads st s m n → n ≢ 0
+      → CallCase st (turning s) (outcome go (state (st .pool) (withReader (st .register) s (movedReader (readerOf (st .register) s) m n))))
+  misses : (s : ℕ) (m : Remembered) (n : ℕ) → Passed st s → Loads st s m n → n ≡ 0 → emptyAnswer (readerOf (st .register) s .kind) m ≡ absent
+      → CallCase st (turning s) (outcome absent (endReading st s))
+  meets : (s k v n : ℕ) → Passed st s → Loads st s (Ticket k v) n → n ≡ 0 → readerOf (st .register) s .kind ≡ kind.Next
+      → CallCase st (turning s) (outcome (next k v) (endReading st s))
+  finds : (s : ℕ) → Passed st s → readerOf (st .register) s .kind ≡ kind.Lookup → readerOf (st .register) s .node ≢ 0
+      → readerOf (st .register) s .key ≡ word (st .pool) (readerOf (st .register) s .node) keyWord
       → CallCase st (turning s) (outcome (found (recordAt (st .pool) (readerOf (st .register) s .node))) (endReading st s))
   leaves : (s : ℕ) → Passed st s → CallCase st (givingUp s) (outcome ok (endReading st s))
 
@@ -81,21 +98,37 @@ tests-pass [] h e = tt
 tests-pass ((true gives n) ∷ ts) h e = absurd (h .0 e)
 tests-pass ((false gives n) ∷ ts) h e = (refl, tests-pass ts (h .1) e)
 
-load-case : (st : State) (s n : ℕ) → Passed st s → Loads st s n → CallCase st (turning s) (loaded st s (readerOf (st .register) s) n)
-load-case st s n p l = elim (ℕ-discrete n 0) [
-  | yes e ↦ rw (load-none st s (readerOf (st .register) s) n e) (misses s n p l e)
-  | no d ↦ rw (load-some st s (readerOf (st .register) s) n d) (loads s n p l d)
-]
+-- what a loaded 0 answers
+empty-case : (st : State) (s : ℕ) (m : Remembered) (n : ℕ) → Passed st s → Loads st s m n → n ≡ 0 → (κ : Kind) → readerOf (st .register) s .kind ≡ κ
+    → CallCase st (turning s) (outcome (emptyAnswer κ m) (endReading st s))
+empty-case st s m n p l e kind.Lookup i = misses s m n p l e (rw i)
+empty-case st s Nothing n p l e kind.Next i = misses s Nothing n p l e (rw i)
+empty-case st s (Ticket k v) n p l e kind.Next i = meets s k v n p l e i
+
+load-case : (st : State) (s : ℕ) (m : Remembered) (n : ℕ) → Passed st s → Loads st s m n → CallCase st (turning s) (loaded st s (readerOf (st .register) s) m n)
+load-case st s m n p l =
+    let x = readerOf (st .register) s in
+    elim (ℕ-discrete n 0) [
+      | yes e ↦ rw (load-none st s x m n e) (empty-case st s m n p l e (x .kind) refl)
+      | no d ↦ rw (load-some st s x m n d) (loads s m n p l d)
+    ]
+
+node-case : (st : State) (s : ℕ) → Passed st s → readerOf (st .register) s .node ≢ 0 → (κ : Kind) → readerOf (st .register) s .kind ≡ κ
+    → CallCase st (turning s) (readerStep st s)
+node-case st s p d kind.Lookup i =
+    let x = readerOf (st .register) s in
+    elim (ℕ-discrete (x .key) (word (st .pool) (x .node) keyWord)) [
+      | yes e ↦ rw (step-found st s x refl i d e) (finds s p i d e)
+      | no e ↦ rw (step-child st s x refl i d e) (load-case st s _ _ p (lookingUp i d e refl refl))
+    ]
+node-case st s p d kind.Next i = rw (step-next st s (readerOf (st .register) s) refl i d) (load-case st s _ _ p (searching i d refl refl))
 
 step-case : (st : State) (s : ℕ) → Passed st s → CallCase st (turning s) (readerStep st s)
 step-case st s p =
     let x = readerOf (st .register) s in
     elim (ℕ-discrete (x .node) 0) [
-      | yes e ↦ rw (step-root st s x refl e) (load-case st s (st .register .root) p (atRoot e refl))
-      | no d ↦ elim (ℕ-discrete (x .key) (word (st .pool) (x .node) keyWord)) [
-        | yes e ↦ rw (step-found st s x refl d e) (finds s p d e)
-        | no e ↦ rw (step-child st s x refl d e) (load-case st s _ p (atNode d e refl))
-      ]
+      | yes e ↦ rw (step-root st s x refl e) (load-case st s (x .remembered) (st .register .root) p (atRoot e refl refl))
+      | no d ↦ node-case st s p d (x .kind) refl
     ]
 
 turn-case : (st : State) → firstOf (writerTests st) ≡ 0
@@ -114,17 +147,17 @@ passed st s e =
     let c = tests-pass (readerTests st s) (omega arith, (omega arith, (omega arith, (omega arith, tt)))) e in
     record { low = leb-false slots s (c .1 .1 .0); reads = not-false (reading st s) (c .1 .1 .1 .0) }
 
-begin-case : (st : State) (s k : ℕ) → firstOf (beginTests st s) ≡ 0
-    → CallCase st (beginning s k) (outcome ok (state (st .pool) (withReader (st .register) s (begunReader k))))
-begin-case st s k e =
+begin-case : (st : State) (κ : Kind) (s k : ℕ) → firstOf (beginTests st s) ≡ 0
+    → CallCase st (beginning κ s k) (outcome ok (state (st .pool) (withReader (st .register) s (begunReader κ k))))
+begin-case st κ s k e =
     let c = tests-pass (beginTests st s) (omega arith, (omega arith, (omega arith, (omega arith, tt)))) e in
-    begins s k (leb-false slots s (c .1 .1 .0)) (c .1 .1 .1 .0)
+    begins κ s k (leb-false slots s (c .1 .1 .0)) (c .1 .1 .1 .0)
 
 pub call-case : (st : State) (c : Call) → CallCase st c (call st c)
 unfolding insert delete writerTurn begin readerTurn giveUp
 call-case st (inserting k v) = tested st (inserting k v) (outcome ok (state (st .pool) (withWrite (st .register) (writeOf (insertAt st k v (placeOf st k) .stores))))) (plansInsert k v)
 call-case st (deleting k) = tested st (deleting k) (outcome ok (state (st .pool) (withWrite (st .register) (writeOf (deleteAt st (placeOf st k) .stores))))) (plansDelete k)
 call-case st writing = tested st writing (cond (waiting st) (outcome wait st) (stored (stepMade st (storeOf (st .register) 0 .link) (storeOf (st .register) 0 .step)))) (turn-case st)
-call-case st (beginning s k) = tested st (beginning s k) (outcome ok (state (st .pool) (withReader (st .register) s (begunReader k)))) (begin-case st s k)
+call-case st (beginning κ s k) = tested st (beginning κ s k) (outcome ok (state (st .pool) (withReader (st .register) s (begunReader κ k)))) (begin-case st κ s k)
 call-case st (turning s) = tested st (turning s) (readerStep st s) (λ e. step-case st s (passed st s e))
 call-case st (givingUp s) = tested st (givingUp s) (outcome ok (endReading st s)) (λ e. leaves s (passed st s e))

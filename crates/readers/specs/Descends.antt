@@ -11,13 +11,16 @@ use lib.Dec.{ltb}
 use lib.ListN.{length, length-set}
 use borrow.Author.Tests.{eq-eqb, ne-eqb, lt-ltb, le-ltb}
 use Rattle.datatypes.specs.declared.Side.the-variants.{L}
+use Rattle.datatypes.specs.declared.Kind.the-variants as kind
+use Rattle.datatypes.specs.declared.Remembered.{Remembered}
+use Rattle.datatypes.specs.declared.Remembered.the-variants.{Nothing}
 use Rattle.datatypes.specs.declared.Reader.{Reader}
 use Rattle.spec.specs.Numbers.{slots}
 use Rattle.spec.specs.Pool.{word, child, keyWord, recordAt}
-use Rattle.spec.specs.Register.{State, state, readerOf, withReader, begunReader, movedReader, readingAt}
+use Rattle.spec.specs.Register.{State, state, readerOf, withReader, movedReader, readingAt}
 use Rattle.spec.specs.Free.{endReading}
 use Rattle.spec.specs.Search.{towards}
-use Rattle.spec.specs.Calls.{go, absent, found, outcome, loaded, readerStep}
+use Rattle.spec.specs.Calls.{go, absent, found, outcome, emptyAnswer, loaded, recalled, readerStep}
 use Rattle.tree.specs.Order.{tri-case}
 use Rattle.tree.specs.Thin.{Thin}
 use Rattle.tree.specs.Linked.{Linked, nil, cell, find, path}
@@ -26,27 +29,35 @@ use Rattle.promise.specs.Demands.{turnAt, Going, ends, goes, answerOf}
 use Rattle.readers.specs.Marks.{reader-same}
 use Rattle.readers.specs.Lookups.{Unlinked, Finds, OnWay}
 
--- What a reader's step is: before any node, at a node with the key, at another node.
+-- What a reader's step is: before any node; in a lookup at a node with the key and at another node; in a search for the next ticket at a node.
 module _ (st : State) (s : ℕ) (x : Reader) (at : readerOf (st .register) s ≡ x) where
-  pub step-root : x .node ≡ 0 → readerStep st s ≡ loaded st s x (st .register .root)
+  pub step-root : x .node ≡ 0 → readerStep st s ≡ loaded st s x (x .remembered) (st .register .root)
   unfolding readerStep
   step-root e = rw (at, e)
 
-  pub step-found : x .node ≢ 0 → x .key ≡ word (st .pool) (x .node) keyWord → readerStep st s ≡ outcome (found (recordAt (st .pool) (x .node))) (endReading st s)
+  pub step-found : x .kind ≡ kind.Lookup → x .node ≢ 0 → x .key ≡ word (st .pool) (x .node) keyWord
+      → readerStep st s ≡ outcome (found (recordAt (st .pool) (x .node))) (endReading st s)
   unfolding readerStep
-  step-found d e = rw (at, ne-eqb (x .node) 0 d, eq-eqb (x .key) (word (st .pool) (x .node) keyWord) e)
+  step-found κ d e = rw (at, κ, ne-eqb (x .node) 0 d, eq-eqb (x .key) (word (st .pool) (x .node) keyWord) e)
 
-  pub step-child : x .node ≢ 0 → x .key ≢ word (st .pool) (x .node) keyWord
-      → readerStep st s ≡ loaded st s x (child (st .pool) (towards (st .pool) (x .key) (x .node)) (x .node))
+  pub step-child : x .kind ≡ kind.Lookup → x .node ≢ 0 → x .key ≢ word (st .pool) (x .node) keyWord
+      → readerStep st s ≡ loaded st s x (x .remembered) (child (st .pool) (towards (st .pool) (x .key) (x .node)) (x .node))
   unfolding readerStep
-  step-child d e = rw (at, ne-eqb (x .node) 0 d, ne-eqb (x .key) (word (st .pool) (x .node) keyWord) e)
+  step-child κ d e = rw (at, κ, ne-eqb (x .node) 0 d, ne-eqb (x .key) (word (st .pool) (x .node) keyWord) e)
+
+  pub step-next : x .kind ≡ kind.Next → x .node ≢ 0
+      → readerStep st s
+      ≡ loaded st s x (recalled (st .pool) (x .key) (x .node) (x .remembered)) (child (st .pool) (towards (st .pool) (x .key) (x .node)) (x .node))
+  unfolding readerStep
+  step-next κ d = rw (at, κ, ne-eqb (x .node) 0 d)
 
 -- what a loaded link answers
-pub load-none : (st : State) (s : ℕ) (x : Reader) (n : ℕ) → n ≡ 0 → loaded st s x n ≡ outcome absent (endReading st s)
-load-none st s x n e = rw (eq-eqb n 0 e)
+pub load-none : (st : State) (s : ℕ) (x : Reader) (m : Remembered) (n : ℕ) → n ≡ 0 → loaded st s x m n ≡ outcome (emptyAnswer (x .kind) m) (endReading st s)
+load-none st s x m n e = rw (eq-eqb n 0 e)
 
-pub load-some : (st : State) (s : ℕ) (x : Reader) (n : ℕ) → n ≢ 0 → loaded st s x n ≡ outcome go (state (st .pool) (withReader (st .register) s (movedReader x n)))
-load-some st s x n d = rw (ne-eqb n 0 d)
+pub load-some : (st : State) (s : ℕ) (x : Reader) (m : Remembered) (n : ℕ) → n ≢ 0
+    → loaded st s x m n ≡ outcome go (state (st .pool) (withReader (st .register) s (movedReader x m n)))
+load-some st s x m n d = rw (ne-eqb n 0 d)
 
 -- At a node that unfolds to t: the key is there with its record, or the child loaded has what t has, and the way is one node shorter.
 pub data Compared (p : List ℕ) (n k : ℕ) (t : Linked) : Type 0 where
@@ -102,23 +113,26 @@ turn-absent p A k n e f = case (f .tree) (f .unfolds) (f .answer)
 
 -- Turn after turn on one state.
 module _ (st : State) (k : ℕ) (perSlot : length (st .register .readers) ≡ slots) where
+  abbrev looking : ℕ → Reader
+  looking n = readingAt kind.Lookup k Nothing n
+
   abbrev posed : ℕ → State
-  posed n = state (st .pool) (withReader (st .register) 0 (readingAt k n))
+  posed n = state (st .pool) (withReader (st .register) 0 (looking n))
 
-  there : (n : ℕ) → readerOf (posed n .register) 0 ≡ readingAt k n
-  there n = reader-same (st .register) 0 (readingAt k n) (rw perSlot (omega arith))
+  there : (n : ℕ) → readerOf (posed n .register) 0 ≡ looking n
+  there n = reader-same (st .register) 0 (looking n) (rw perSlot (omega arith))
 
-  again : (n c : ℕ) → readerOf (withReader (posed n .register) 0 (readingAt k c)) 0 ≡ readingAt k c
+  again : (n c : ℕ) → readerOf (withReader (posed n .register) 0 (looking c)) 0 ≡ looking c
   unfolding withReader
-  again n c = reader-same (posed n .register) 0 (readingAt k c)
-      (rw (length-set (st .register .readers) 0 (readingAt k n), perSlot) (omega arith))
+  again n c = reader-same (posed n .register) 0 (looking c)
+      (rw (length-set (st .register .readers) 0 (looking n), perSlot) (omega arith))
 
   -- a link is loaded that unfolds to t
-  going-load : (n c : ℕ) (t : Linked) → turnAt st k n ≡ loaded (posed n) 0 (readingAt k n) c → Rep (st .pool) c t → ((c ≢ 0) → Going st k c (answerOf (find t k))) → Going st k n (answerOf (find t k))
-  going-load n c nil e r next = ends n absent (ap (λ o. o .answer) (e ∙ load-none (posed n) 0 (readingAt k n) c r))
+  going-load : (n c : ℕ) (t : Linked) → turnAt st k n ≡ loaded (posed n) 0 (looking n) Nothing c → Rep (st .pool) c t → ((c ≢ 0) → Going st k c (answerOf (find t k))) → Going st k n (answerOf (find t k))
+  going-load n c nil e r next = ends n absent (ap (λ o. o .answer) (e ∙ load-none (posed n) 0 (looking n) Nothing c r))
   going-load n c (cell N l r) e h next =
       let d : c ≢ 0 = (let i = h .0 .is in let j = h .0 .within .low in omega arith) in
-      let o = e ∙ load-some (posed n) 0 (readingAt k n) c d in
+      let o = e ∙ load-some (posed n) 0 (looking n) Nothing c d in
       let there : readerOf (turnAt st k n .after .register) 0 .node ≡ c = ap (λ x. readerOf (x .after .register) 0 .node) o ∙ ap (λ x. x .node) (again n c) in
       goes n _ (ap (λ x. x .answer) o) (subst (λ m. Going st k m (answerOf (find (cell N l r) k))) (sym there) (next d))
 
@@ -129,13 +143,13 @@ module _ (st : State) (k : ℕ) (perSlot : length (st .register .readers) ≡ sl
       let w = h .0 in
       let key : word p n keyWord ≡ N .key = rw (w .is) (w .key-is) in
       let val : recordAt p n ≡ N .val = rw (w .is) (w .val-is) in
-      let step : k ≢ word p n keyWord → turnAt st k n ≡ loaded (posed n) 0 (readingAt k n) (child p (towards p k n) n) = λ e. step-child (posed n) 0 (readingAt k n) (there n) d e in
+      let step : k ≢ word p n keyWord → turnAt st k n ≡ loaded (posed n) 0 (looking n) Nothing (child p (towards p k n) n) = λ e. step-child (posed n) 0 (looking n) (there n) refl d e in
       let left : ltb k (word p n keyWord) ≡ true → Rep p (child p (towards p k n) n) l = λ e. rw (e, w .is) (h .1) in
       let right : ltb k (word p n keyWord) ≡ false → Rep p (child p (towards p k n) n) r = λ e. rw (e, w .is) (h .2) in
       tri-case L k (N .key)
       (λ o e. rw e (going-load n (child p (towards p k n) n) l (step (omega arith)) (left (lt-ltb k (word p n keyWord) (omega arith)))
       (going l (child p (towards p k n) n) (left (lt-ltb k (word p n keyWord) (omega arith))))))
-      (λ o e. rw e (ends n (found (N .val)) (ap (λ x. x .answer) (step-found (posed n) 0 (readingAt k n) (there n) d (omega arith)) ∙ ap found val)))
+      (λ o e. rw e (ends n (found (N .val)) (ap (λ x. x .answer) (step-found (posed n) 0 (looking n) (there n) refl d (omega arith)) ∙ ap found val)))
       (λ o e. rw e (going-load n (child p (towards p k n) n) r (step (omega arith)) (right (le-ltb k (word p n keyWord) (omega arith)))
       (going r (child p (towards p k n) n) (right (le-ltb k (word p n keyWord) (omega arith))))))
 
@@ -143,4 +157,4 @@ module _ (st : State) (k : ℕ) (perSlot : length (st .register .readers) ≡ sl
   pub going-root : (T : Linked) → Rep (st .pool) (st .register .root) T → Going st k 0 (answerOf (find T k))
   unfolding withReader
   going-root T h =
-      going-load 0 (st .register .root) T (step-root (posed 0) 0 (begunReader k) (there 0) refl) h (λ d. going T (st .register .root) h d)
+      going-load 0 (st .register .root) T (step-root (posed 0) 0 (looking 0) (there 0) refl) h (λ d. going T (st .register .root) h d)
