@@ -126,7 +126,8 @@ module _ {p q : List ℕ} {U : ℕ → Type 0} {d : ℕ} {s : Side} {b root : �
 
 -- a store of the root link
 module _ {p q : List ℕ} {U : ℕ → Type 0} {root root′ : ℕ} {T T′ : Linked} (h : Anew p q U root root′ T T′) where
-  pub anew-closes : (A A′ : ℕ → Option ℕ → Type 0) → ((k : ℕ) (o : Option ℕ) → A k o → A′ k o) → (n g : ℕ) (m : Option ℕ) → (f : Closes p A n g m) → All U (f .tree) → Closes q A′ n g m
+  pub anew-closes : (A A′ : ℕ → Option ℕ → Type 0) → ((k : ℕ) (o : Option ℕ) → A k o → A′ k o) → (n g : ℕ) (m : Option ℕ)
+      → (f : Closes p A n g m) → All U (f .tree) → Closes q A′ n g m
   anew-closes A A′ more n g m f u = closes-more q A A′ n g m more (record { tree = f .tree; unfolds = unfolds-same h (f .tree) n u (f .unfolds); gap = f .gap; held = f .held })
 
   pub anew-trail : (n g : ℕ) (m : Option ℕ) (seen : List Mark) → ((i : ℕ) → U i → Unlinked p i → Unlinked q i) → ((i : ℕ) → i ∈ nums seen → U i)
@@ -209,7 +210,8 @@ turn-closes p A n g r d f =
     let x = moved p A n g r (f .tree) d (f .unfolds) in
     record { tree = x .on; unfolds = x .unfolds; gap = subst (λ o. Gap A g o) (x .above-on) (f .gap); held = x .held-on (f .held) }
 
-pub turn-remembers : (p : List ℕ) (A : ℕ → Option ℕ → Type 0) (n g : ℕ) (r : Remembered) → n ≢ 0 → Closes p A n g (keyIn r) → RememberedHeld A g r → RememberedHeld A g (recalled p g n r)
+pub turn-remembers : (p : List ℕ) (A : ℕ → Option ℕ → Type 0) (n g : ℕ) (r : Remembered) → n ≢ 0 → Closes p A n g (keyIn r)
+    → RememberedHeld A g r → RememberedHeld A g (recalled p g n r)
 turn-remembers p A n g r d f h = moved p A n g r (f .tree) d (f .unfolds) .noted-on (f .held) h
 
 pub turn-trail : (p : List ℕ) (root : ℕ) (seen : List Mark) (n g : ℕ) (r : Remembered) → n ≢ 0 → OnTrail p root seen n g (keyIn r)
@@ -225,7 +227,7 @@ turn-trail p root seen n g r d w =
           (subst (λ xs. ThinM (Unlinked p) (seen ++ xs) (way (w .whole) g none)) (x .way-on) (w .trails));
     }
 
--- The answer is right, r being what is remembered at the end: with A: held, or not held, at one moment of the search.
+-- The answer is right, r being what is remembered at the end. With 'at one moment of this reading' for A it is what is promised.
 abbrev pub Answered : (ℕ → Option ℕ → Type 0) → ℕ → Remembered → Type 0
 Answered A g Nothing = (q : ℕ) → g < q → A q none
 Answered A g (Ticket k v) = (g < k) × A k (some v) × ((q : ℕ) → g < q → q < k → A q none)

@@ -30,7 +30,7 @@ pub ≼-refl : (a : Option ℕ) → a ≼ a
 pub ≼-lt : (a b : ℕ) → a < b → some a ≼ some b
 ≼-lt a b h = upto (le-of-lt h)
 
-pub ≼-trans : {a b c : Option ℕ} → a ≼ b → b ≼ c → a ≼ c
+≼-trans : {a b c : Option ℕ} → a ≼ b → b ≼ c → a ≼ c
 ≼-trans h over = over
 ≼-trans (upto h) (upto k) = upto (le-trans h k)
 
@@ -45,7 +45,7 @@ pub data Mark : Type 0 where
 abbrev pub numOf : Mark → ℕ
 numOf (met n a) = n
 
-abbrev pub markOf : Mark → Option ℕ
+abbrev markOf : Mark → Option ℕ
 markOf (met n a) = a
 
 abbrev pub nums : List Mark → List ℕ
@@ -71,7 +71,7 @@ thinM-nil [] = done
 thinM-nil (met n b ∷ ys) = more (thinM-nil ys)
 
 -- without what is remembered
-pub thinM-thin : {P : ℕ → Type 0} {xs ys : List Mark} → ThinM P xs ys → Thin P (nums xs) (nums ys)
+thinM-thin : {P : ℕ → Type 0} {xs ys : List Mark} → ThinM P xs ys → Thin P (nums xs) (nums ys)
 thinM-thin done = Plain.done
 thinM-thin (keep h t) = Plain.keep (thinM-thin t)
 thinM-thin (more t) = Plain.more (thinM-thin t)
@@ -146,12 +146,9 @@ keep-as e f h t = rw (← e, ← f) (keep h t)
 leave-as : {P : ℕ → Type 0} {n : ℕ} {a : Option ℕ} {x : Mark} {xs ys : List Mark} → met n a ≡ x → P n → ThinM P xs ys → ThinM P (x ∷ xs) ys
 leave-as e p t = rw (← e) (leave p t)
 
-more-as : {P : ℕ → Type 0} {n : ℕ} {b : Option ℕ} {y : Mark} {xs ys : List Mark} → met n b ≡ y → ThinM P xs ys → ThinM P xs (y ∷ ys)
-more-as e t = rw (← e) (more t)
-
 -- up to d, which stays and stands once: and what is remembered there has not fallen
-pub thinM-cut : {P : ℕ → Type 0} {zs ws : List Mark} → ThinM P zs ws → (d : ℕ) → ¬ (P d) → (a b : Option ℕ) (xs xs′ ys ys′ : List Mark) → zs ≡ xs ++ met d a ∷ xs′ → ws ≡ ys ++ met d b ∷ ys′
-    → ¬ (d ∈ nums ys) → ¬ (d ∈ nums ys′) → ThinM P xs ys × (a ≼ b)
+pub thinM-cut : {P : ℕ → Type 0} {zs ws : List Mark} → ThinM P zs ws → (d : ℕ) → ¬ (P d) → (a b : Option ℕ) (xs xs′ ys ys′ : List Mark)
+    → zs ≡ xs ++ met d a ∷ xs′ → ws ≡ ys ++ met d b ∷ ys′ → ¬ (d ∈ nums ys) → ¬ (d ∈ nums ys′) → ThinM P xs ys × (a ≼ b)
 thinM-cut done d n a b xs xs′ ys ys′ e f i j = absurd (not-nil d a xs xs′ e)
 thinM-cut (keep {a = c} {b = c′} h t) d n a b [] xs′ [] ys′ e f i j =
     let u : c ≡ a = ap markOf (heads e) in

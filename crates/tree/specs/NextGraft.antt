@@ -108,7 +108,10 @@ graft-tickets Q d s b (cell N l r) hb h = (
 pub graft-has : (Q : ℕ → ℕ → Type 0) (d : ℕ) (s : Side) (b t : Linked) → d ∈ nodes t → Tickets Q (graft d s b t) → Tickets Q b
 graft-has Q d s b nil i h = absurd i
 graft-has Q d s b (cell N l r) i h = elim (ℕ-discrete d (N .num)) [
-  | yes e ↦ rw (eq-eqb d (N .num) e) at (tickets-at Q s N (cond (eqb d (N .num)) b (graft d s b (kid s l r))) (graft d s b (kid (other s) l r)) .0 (subst (Tickets Q) (graft-at d s b N l r) h) .1)
+  | yes e ↦
+      (let on = cond (eqb d (N .num)) b (graft d s b (kid s l r)) in
+      let k : Tickets Q on = tickets-at Q s N on (graft d s b (kid (other s) l r)) .0 (subst (Tickets Q) (graft-at d s b N l r) h) .1 in
+      rw (eq-eqb d (N .num) e) at k)
   | no c ↦
       (let out : (z : Side) → hits d s (N .num) z ≡ false = λ z. cond-both (λ x. x ≡ false) (sameSide s z) (ne-eqb d (N .num) c) refl in
       ⊎-elim (λ e. absurd (c e))

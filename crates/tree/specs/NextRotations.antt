@@ -15,7 +15,9 @@ module _ (s : Side) (B C : Node) (n : ℕ) (o x r : Linked) (g : ℕ) (m : Optio
   pub diag-lower-way : (P : ℕ → Type 0) → ThinM P (way (diag₀ s B C n o x r) g m) (way (diag₁ s B C n o x r) g m)
   diag-lower-way P =
       goes-case s g (C .key)
-      (λ _ e. goes-case s g (B .key) (λ _ f. simp (way-at, noted-twice, noted-swap, e, f) (search trim depth 12)) (λ _ f. simp (way-at, noted-twice, noted-swap, e, f) (search trim depth 12)))
+      (λ _ e. goes-case s g (B .key)
+      (λ _ f. simp (way-at, noted-twice, noted-swap, e, f) (search trim depth 12))
+      (λ _ f. simp (way-at, noted-twice, noted-swap, e, f) (search trim depth 12)))
       (λ _ e. simp (way-at, e) (search trim depth 12))
 
   pub diag-lower-above : above (diag₁ s B C n o x r) g m ≡ above (diag₀ s B C n o x r) g m
@@ -66,7 +68,8 @@ module _ (s : Side) (A B C : Node) (j n : ℕ) (a x y r : Linked) (g : ℕ) (m :
       (λ e f h. simp (above-at, noted-twice, noted-swap, e, f, h))
       (λ e f h. simp (above-at, h))
 
-  pub zig-raise-way : (P : ℕ → Type 0) → P (A .num) → P (C .num) → some (A .key) ≼ m → some (C .key) ≼ m → ThinM P (way (zig₂ s A B C j n a x y r) g m) (way (zig₃ s A B C j n a x y r) g m)
+  pub zig-raise-way : (P : ℕ → Type 0) → P (A .num) → P (C .num) → some (A .key) ≼ m → some (C .key) ≼ m
+      → ThinM P (way (zig₂ s A B C j n a x y r) g m) (way (zig₃ s A B C j n a x y r) g m)
   zig-raise-way P p q i k =
       place3-case s (A .key) (B .key) (C .key) g ab bc
       (λ e f h. simp (way-at, noted-twice, noted-swap, e, f, h) (search trim depth 12))

@@ -19,7 +19,7 @@ pub insert-way : (P : ℕ → Type 0) (Z : Node) (g : ℕ) (m : Option ℕ) → 
 insert-way P Z g m = simp way-nil (thinM-nil (way (cell Z nil nil) g m))
 
 -- keys at or below the given one are passed over
-pub above-past : (t : Linked) (g k : ℕ) (m : Option ℕ) → Below L k (bare t) → k ≤ g → above t g m ≡ m
+above-past : (t : Linked) (g k : ℕ) (m : Option ℕ) → Below L k (bare t) → k ≤ g → above t g m ≡ m
 unfolding above
 above-past nil g k m b h = refl
 above-past (cell N l r) g k m b h = rw (goes-else L g (N .key) (let z : N .key < k = b .0 in omega arith)) (above-past r g k m (b .2) h)

@@ -49,14 +49,14 @@ pub goes-not : (s : Side) (g k : ℕ) → Goes s g k → ¬ (Goes (other s) g k)
 goes-not L g k h n = omega arith
 goes-not R g k h n = omega arith
 
-pub goes-of : (s : Side) (g k : ℕ) → Goes s g k → goes s g k ≡ true
+goes-of : (s : Side) (g k : ℕ) → Goes s g k → goes s g k ≡ true
 goes-of s g k h = goes-case s g k (λ _ e. e) (λ n e. absurd (goes-not s g k h n))
 
 pub goes-else : (s : Side) (g k : ℕ) → Goes (other s) g k → goes s g k ≡ false
 goes-else s g k n = goes-case s g k (λ h e. absurd (goes-not s g k h n)) (λ _ e. e)
 
 -- what goes to the side s at a goes there at each b that comes after
-pub goes-on : (s : Side) (g a b : ℕ) → Ord s a b → Goes s g a → Goes s g b
+goes-on : (s : Side) (g a b : ℕ) → Ord s a b → Goes s g a → Goes s g b
 goes-on L g a b o h = omega arith
 goes-on R g a b o h = omega arith
 
@@ -168,12 +168,6 @@ unfolding way
 way-mono nil g a b h = done
 way-mono (cell N l r) g a b h =
     goes-case L g (N .key) (λ _ e. rw e (keep h (thinM-refl (way l g (some (N .key)))))) (λ _ e. rw e (keep h (way-mono r g a b h)))
-
--- nothing is lost
-pub way-nums : (t : Linked) (g : ℕ) (a b : Option ℕ) → nums (way t g a) ≡ nums (way t g b)
-unfolding way
-way-nums nil g a b = refl
-way-nums (cell N l r) g a b = goes-case L g (N .key) (λ _ e. rw e) (λ _ e. rw e (ap (N .num ∷_) (way-nums r g a b)))
 
 -- it visits nodes of the tree
 pub way-nodes : (t : Linked) (g : ℕ) (m : Option ℕ) (n : ℕ) → n ∈ nums (way t g m) → n ∈ nodes t

@@ -96,7 +96,8 @@ steady-form₁ fs B C l y h =
     (record { same = adopt-find L B C l y b; ends = λ g m. adopt-above B C l y g m b; tickets = adopt-tickets L B C l y }) h
 
 -- the published tree answers as the detached one
-pub steady-third₁ : (fs gs : List Frame) (B C : Node) (n : ℕ) (l y : Linked) → Along L gs → Ordered (bare (plug fs (third₀ L B C n l y gs))) → Steady (plug fs (third₁ L B C n l y gs))
+pub steady-third₁ : (fs gs : List Frame) (B C : Node) (n : ℕ) (l y : Linked) → Along L gs → Ordered (bare (plug fs (third₀ L B C n l y gs)))
+    → Steady (plug fs (third₁ L B C n l y gs))
 steady-third₁ fs gs B C n l y al h =
     let before = third₀ L B C n l y gs in
     let after = third₂ L B C n l y gs in
