@@ -19,10 +19,11 @@ use Rattle.tree.specs.Stores.{form₀, form₁, form₂, form-order, insert-pat
 use Rattle.tree.specs.Successor.{third₀, third₁, third₂, third-order, detach-find, detach-path}
 use Rattle.heap.specs.Shift.{Shift, by-insert, by-diag-lower, by-diag-raise, by-zig-A, by-zig-C, by-zig-raise, by-unlink, by-adopt, by-replace, by-detach}
 
-diag-ord : (fs : List Frame) (s : Side) (B C : Node) (n : ℕ) (o x r : Linked) → Ordered (bare (plug fs (diag₀ s B C n o x r))) → Ord s (B .key) (C .key)
+-- the order that a rotation's stores ask, from that of the whole tree
+pub diag-ord : (fs : List Frame) (s : Side) (B C : Node) (n : ℕ) (o x r : Linked) → Ordered (bare (plug fs (diag₀ s B C n o x r))) → Ord s (B .key) (C .key)
 diag-ord fs s B C n o x r h = diag-order s B C n o x r (ordered-within fs (diag₀ s B C n o x r) h)
 
-zig-ord : (fs : List Frame) (s : Side) (A B C : Node) (m n : ℕ) (a x y r : Linked) → Ordered (bare (plug fs (zig₀ s A B C m n a x y r))) → Ord s (A .key) (B .key) × Ord s (B .key) (C .key)
+pub zig-ord : (fs : List Frame) (s : Side) (A B C : Node) (m n : ℕ) (a x y r : Linked) → Ordered (bare (plug fs (zig₀ s A B C m n a x y r))) → Ord s (A .key) (B .key) × Ord s (B .key) (C .key)
 zig-ord fs s A B C m n a x y r h = zig-order s A B C m n a x y r (ordered-within fs (zig₀ s A B C m n a x y r) h)
 
 -- S1: every store but the list stores leaves each lookup's answer

@@ -38,3 +38,4 @@ pub mod Accept
 pub mod Effects
 pub mod Nodes
 pub mod Settle
+pub mod NextEffects

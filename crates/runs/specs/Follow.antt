@@ -112,7 +112,7 @@ module _ (W : State → Plain → Linked → Type 0) (writer : Writer W) where
           none = g .has .none;
           once = elim (ℕ-discrete n 0) [ yes e ↦ rw (g .has .none e) (seen-none (after .pool) n k) | no d ↦ through d .2 ];
         };
-        way = λ d. ⊎-elim (λ thins. inr (through d .1 (thins k))) (λ e. inl (rw e (reading-bit (st .register) s u ∙ g .reads))) (z .ways);
+        way = λ d. ⊎-elim (λ thins. inr (through d .1 (thins .0 k))) (λ e. inl (rw e (reading-bit (st .register) s u ∙ g .reads))) (z .ways);
       })
 
   -- a load, its own or another slot's

@@ -1,6 +1,7 @@
 pub mod Writer
 pub mod Sound
 pub mod Slot
+pub mod NextSlot
 pub mod Follow
 pub mod Starts
 pub mod Begin

@@ -17,6 +17,8 @@ use Rattle.base.specs.Lists.{_∈_}
 use Rattle.tree.specs.Zipper.{Thins}
 use Rattle.tree.specs.Linked.{Linked, find, nodes}
 use Rattle.tree.specs.Tickets.{True}
+use Rattle.tree.specs.NextLift.{Trims}
+use Rattle.tree.specs.Steady.{Sure}
 use Rattle.heap.specs.Rep.{Rep, Alike, upToColour}
 use Rattle.promise.specs.Demands.{TreeLink}
 use Rattle.readers.specs.Reach.{HasStanding}
@@ -36,7 +38,8 @@ pub record LeavesTree (st after : State) : Type 0 where
   pub free : st .register .free ≤ after .register .free
 
 -- A store m: the whole tree T becomes `tree`. Either no slot is awaited after it and each path keeps its nodes in their order, but for those
--- linked no longer; or all reading slots are awaited (publish).
+-- linked no longer (S2), and so each way of a search for the next ticket, with no less remembered (S3); or all reading slots are awaited
+-- (publish).
 pub record Stores (st : State) (m : Made) (T : Linked) (W : Linked → Type 0) : Type 0 where
   pub tree : Linked
   pub came : List ℕ
@@ -48,7 +51,7 @@ pub record Stores (st : State) (m : Made) (T : Linked) (W : Linked → Type 0) :
   pub new : (n : ℕ) → n ∈ came → n ≡ m .node
   pub below : Linked
   pub unfolds : Rep (stored m .after .pool) (m .node) below
-  pub ways : Thins (Unlinked (stored m .after .pool)) T tree ⊎ (stored m .after .register .awaited ≡ readingSlots (st .register))
+  pub ways : (Thins (Unlinked (stored m .after .pool)) T tree × Trims (Unlinked (stored m .after .pool)) T tree) ⊎ (stored m .after .register .awaited ≡ readingSlots (st .register))
   pub kept : W tree
 
 -- the first store of the write in hand, and the state after it
@@ -65,6 +68,7 @@ pub record Writer (W : State → Plain → Linked → Type 0) : Type 0 where
   pub unfolds : (st : State) (x : Plain) (T : Linked) → W st x T → Rep (st .pool) (st .register .root) T
   pub linked : (st : State) (x : Plain) (T : Linked) → W st x T → (n : ℕ) → HasStanding (st .pool) n standingLinked ↔ (n ∈ nodes T)
   pub finds : (st : State) (x : Plain) (T : Linked) → W st x T → (k : ℕ) → find T k ≡ recordFor k (x .tickets)
+  pub sure : (st : State) (x : Plain) (T : Linked) → W st x T → Sure T
   pub told : (st : State) (x : Plain) (T : Linked) → W st x T → True T
   pub held : (st : State) (x : Plain) (T : Linked) → W st x T → st .register .held ≡ length (x .tickets)
   pub leavesTree : (st after : State) (x : Plain) (T : Linked) → W st x T → LeavesTree st after → W after x T

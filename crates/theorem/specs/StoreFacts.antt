@@ -25,10 +25,12 @@ use Rattle.sequential.specs.Tree.{Tree}
 use Rattle.base.specs.Lists.{_∈_, in-append}
 use Rattle.tree.specs.Linked.{Linked, nil, cell, nodes}
 use Rattle.tree.specs.Zipper.{Thins}
+use Rattle.tree.specs.NextLift.{Trims}
 use Rattle.tree.specs.Occurs.{occ-in}
 use Rattle.heap.specs.Rep.{Rep, Agree, rep-agree, rep-unique}
 use Rattle.heap.specs.Shift.{Shift, isListStore, takenBy, awaitedAfter, Ready, Next, later}
 use Rattle.heap.specs.Effects.{shift-thin}
+use Rattle.heap.specs.NextEffects.{shift-trim}
 use Rattle.heap.specs.Phase.{phase-rep}
 use Rattle.heap.specs.Writes.{InHand, turn}
 use Rattle.heap.specs.Writes as Writes
@@ -157,15 +159,24 @@ module _ (st : State) (G : Tree) (T : Linked) (x : Store) (l : List Store) (safe
     λ j. (let a = facts-turn .new n j in absurd (omega arith)),
   )
 
-  -- each path keeps its nodes in their order, or all reading slots are awaited
-  ways : Thins (Unlinked (stored made .after .pool)) T (next .tree) ⊎ (stored made .after .register .awaited ≡ readingSlots (st .register))
+  -- linked no longer
+  abbrev Gone : ℕ → Type 0
+  Gone = Unlinked (stored made .after .pool)
+
+  -- each path and each way keeps its nodes in their order (S2, S3), or all reading slots are awaited
+  abbrev Ways : Type 0
+  Ways = (Thins Gone T (next .tree) × Trims Gone T (next .tree)) ⊎ (stored made .after .register .awaited ≡ readingSlots (st .register))
+
+  ways : Ways
   ways = go (profile (x .step) .awaits) (next .shift) (next .fields .awaited)
     where
+      out : (i : ℕ) → i ∈ next .gone → Gone i
+      out i j e = facts-turn .linked i .0 e .1 j
+
       go : (a : Bool) → Shift T (next .tree) (made .link) (made .node) (takenBy (x .step) (st .register .first)) (next .gone) (isListStore (x .step)) a
-          → made .after .register .awaited ≡ cond a (readingSlots (st .register)) (st .register .awaited)
-          → Thins (Unlinked (stored made .after .pool)) T (next .tree) ⊎ (stored made .after .register .awaited ≡ readingSlots (st .register))
+          → made .after .register .awaited ≡ cond a (readingSlots (st .register)) (st .register .awaited) → Ways
       go true sh e = inr (rw (after-is made) (write-awaited (made .after .register) _ ∙ e))
-      go false sh e = inl (shift-thin (Unlinked (stored made .after .pool)) sh (λ i j e. facts-turn .linked i .0 e .1 j))
+      go false sh e = inl (shift-thin Gone sh out, shift-trim Gone sh out)
 
   -- the link changes, for the tree does
   moved : linkNode st (made .link) ≢ made .node

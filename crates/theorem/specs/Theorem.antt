@@ -38,7 +38,7 @@ use Rattle.theorem.specs.Tickets.{tickets-size}
 use Rattle.theorem.specs.WriterSide.{WriterSide, writerSide-store, writerSide-finds}
 use Rattle.theorem.specs.Rests.{writerSide-leavesTree, resting, none-of, writerSide-insert}
 use Rattle.theorem.specs.Deletes.{some-of, writerSide-delete}
-use Rattle.theorem.specs.Truth.{phase-true}
+use Rattle.theorem.specs.Truth.{phase-sure, phase-true}
 use Rattle.theorem.specs.Starts.{writerSide-start}
 
 -- a colour word of 0 or 1 is its colour's number
@@ -65,6 +65,7 @@ writer = record {
   unfolds = λ st x T h. phase-rep (h .hand .phase);
   linked = λ st x T h. h .linked;
   finds = λ st x T h. h .finds;
+  sure = λ st x T h. phase-sure (h .hand .phase);
   told = λ st x T h. phase-true (h .hand .phase);
   held = λ st x T h. h .held;
   leavesTree = λ st after x T h s. writerSide-leavesTree st after x s T h;

@@ -27,3 +27,12 @@ pub mod Ways
 pub mod Phases
 pub mod Graft
 pub mod Tickets
+pub mod Marked
+pub mod NextWay
+pub mod NextOrder
+pub mod NextLift
+pub mod NextRotations
+pub mod NextStores
+pub mod NextSuccessor
+pub mod NextGraft
+pub mod Steady

@@ -1,7 +1,7 @@
--- The tickets of a linked tree's nodes: a fact of each node's key and record; and (V), that a lookup of each node's key finds its record. It
--- holds of the trees between the stores of a write too, where a ticket may stand in two nodes. For C-11 and C-13.
+-- The tickets of a linked tree's nodes: a fact of each node's key and record; and (V), that a lookup of each node's key finds its record, of
+-- a tree in order. Of the trees between the stores of a write, where a ticket may stand in two nodes: Steady. For C-11 and C-13.
 use Prim.Native.Nat.{ℕ}
-use mathlib.Core.Path.{_≡_, refl, sym, _∙_}
+use mathlib.Core.Path.{_≡_, refl, _∙_}
 use mathlib.Core.Logic.{_↔_}
 use mathlib.Core.List.{List, [], _∷_}
 use mathlib.Core.Option.{some}
@@ -10,12 +10,11 @@ use Rattle.datatypes.specs.declared.Side.the-variants.{L, R}
 use Rattle.tree.specs.Order.{near-of, here-of, far-of}
 use Rattle.sequential.specs.Proper.{Ord, Below, Ordered}
 use Rattle.tree.specs.Linked.{Node, Linked, nil, cell, at, find}
-use Rattle.tree.specs.Zipper.{Frame, hole, plug, Along, Same, same-lift}
-use Rattle.tree.specs.LinkedOrder.{bare, ordered-within, into-top}
-use Rattle.tree.specs.Rotations.{diag₀, diag₁, zig₀, zig₁, zig₂, diag-lower-find, zig-order, zig-lower-A-find, zig-lower-C-find}
-use Rattle.tree.specs.Stores.{form₀, form₁, form-order, adopt-find}
-use Rattle.tree.specs.Successor.{third₀, third₁, third₂, third-order, detach-find}
-use Rattle.tree.specs.Phases.{writes-whole, third-writes}
+use Rattle.tree.specs.Zipper.{Frame, hole, plug, Same}
+use Rattle.tree.specs.LinkedOrder.{bare}
+use Rattle.tree.specs.Rotations.{diag₀, diag₁, zig₀, zig₁, zig₂}
+use Rattle.tree.specs.Stores.{form₀, form₁}
+use Rattle.tree.specs.Successor.{third₁, third₂}
 
 abbrev pub Tickets : (ℕ → ℕ → Type 0) → Linked → Type 0
 Tickets Q nil = Unit {0}
@@ -71,37 +70,3 @@ adopt-tickets s B C l y Q = simp tickets-at (λ h. search)
 -- a publish is such a store, seen from the tree after the detach
 pub publish-tickets : (B C : Node) (n : ℕ) (l y : Linked) (fs : List Frame) (Q : ℕ → ℕ → Type 0) → Tickets Q (third₂ L B C n l y fs) → Tickets Q (third₁ L B C n l y fs)
 publish-tickets B C n l y fs Q h = (h .0, h .1, tickets-lift Q fs y (cell C nil y) (λ i. (h .0, tt, i)) (h .2))
-
--- So (V) holds in the middle of a whole tree that is in order before the write's stores, or after them.
-true-lift : (fs : List Frame) (t u : Linked) → Same t u → ((Q : ℕ → ℕ → Type 0) → Tickets Q t → Tickets Q u) → Ordered (bare (plug fs t)) → True (plug fs u)
-true-lift fs t u same f o = true-same (plug fs t) (plug fs u) (same-lift fs t u same) (λ Q. tickets-lift Q fs t u (f Q)) (true-ordered (plug fs t) o)
-
-pub true-diag₁ : (fs : List Frame) (s : Side) (B C : Node) (n : ℕ) (o x r : Linked) → Ordered (bare (plug fs (diag₀ s B C n o x r))) → True (plug fs (diag₁ s B C n o x r))
-true-diag₁ fs s B C n o x r h = true-lift fs (diag₀ s B C n o x r) (diag₁ s B C n o x r) (diag-lower-find s B C n o x r) (diag-lower-tickets s B C n o x r) h
-
-module _ (fs : List Frame) (s : Side) (A B C : Node) (m n : ℕ) (a x y r : Linked) (h : Ordered (bare (plug fs (zig₀ s A B C m n a x y r)))) where
-  rising : Ord s (A .key) (B .key) × Ord s (B .key) (C .key)
-  rising = zig-order s A B C m n a x y r (ordered-within fs (zig₀ s A B C m n a x y r) h)
-
-  lowered : Same (zig₀ s A B C m n a x y r) (zig₁ s A B C m n a x y r)
-  lowered = zig-lower-A-find s A B C m n a x y r (rising .0) (rising .1)
-
-  pub true-zig₁ : True (plug fs (zig₁ s A B C m n a x y r))
-  true-zig₁ = true-lift fs (zig₀ s A B C m n a x y r) (zig₁ s A B C m n a x y r) lowered (zig-lower-A-tickets s A B C m n a x y r) h
-
-  pub true-zig₂ : True (plug fs (zig₂ s A B C m n a x y r))
-  true-zig₂ = true-lift fs (zig₀ s A B C m n a x y r) (zig₂ s A B C m n a x y r)
-      (λ q. zig-lower-C-find s A B C m n a x y r (rising .0) (rising .1) q ∙ lowered q)
-      (λ Q i. zig-lower-C-tickets s A B C m n a x y r Q (zig-lower-A-tickets s A B C m n a x y r Q i)) h
-
-pub true-form₁ : (fs : List Frame) (B C : Node) (l y : Linked) → Ordered (bare (plug fs (form₀ L B C l y))) → True (plug fs (form₁ L B C l y))
-true-form₁ fs B C l y h =
-    true-lift fs (form₀ L B C l y) (form₁ L B C l y) (adopt-find L B C l y (form-order L B C l y (ordered-within fs (form₀ L B C l y) h) .0)) (adopt-tickets L B C l y) h
-
-pub true-third₁ : (fs gs : List Frame) (B C : Node) (n : ℕ) (l y : Linked) → Along L gs → Ordered (bare (plug fs (third₀ L B C n l y gs))) → True (plug fs (third₁ L B C n l y gs))
-true-third₁ fs gs B C n l y al h =
-    let before = third₀ L B C n l y gs in
-    let after = third₂ L B C n l y gs in
-    let o = third-order L B C n l y gs (ordered-within fs before h) in
-    true-lift fs after (third₁ L B C n l y gs) (λ q. sym (detach-find L B C n l y gs (o .right) q)) (publish-tickets B C n l y gs)
-    (writes-whole fs before after (into-top fs L B l (plug gs (at L C nil y)) h) (third-writes B C n l y gs al) .ordered h)

@@ -1,0 +1,215 @@
+-- A slot that searches for the next ticket: (a), (b) and (c) of its node, of the key given and of the ticket remembered (readers: Trays), and what
+-- it has seen, kept by each call that does not end its reading. Beside Slot, which has the same of a lookup.
+use Prim.Native.Nat.{ℕ, _<_}
+use mathlib.Core.Path.{_≡_, refl, sym, _∙_, subst}
+use mathlib.Core.Bool.{true, false≢true}
+use mathlib.Core.List.{List, [], _∷_, _++_}
+use mathlib.Core.Option.{Option, none}
+use mathlib.Core.Logic.{_≢_, _⊎_, inl, inr, ⊎-elim, ⊎-map, _↔_}
+use native.Mathlib.Omega.{arith}
+use Rattle.datatypes.specs.declared.Side.{Side}
+use Rattle.datatypes.specs.declared.Side.the-variants.{L, R}
+use Rattle.datatypes.specs.declared.Link.{Link}
+use Rattle.datatypes.specs.declared.Link.the-variants.{Root, Left, Right}
+use Rattle.datatypes.specs.declared.Remembered.{Remembered}
+use Rattle.datatypes.specs.declared.Remembered.the-variants.{Nothing}
+use Rattle.spec.specs.Numbers.{slots}
+use Rattle.spec.specs.Pool.{child, standingLinked}
+use Rattle.spec.specs.Register.{State, hasSlot}
+use Rattle.spec.specs.Search.{towards}
+use Rattle.spec.specs.PlainList.{Plain, recordFor}
+use Rattle.promise.specs.Run.{Reads}
+use Rattle.promise.specs.Demands.{TreeLink}
+use Rattle.base.specs.Lists.{_∈_, in-append}
+use Rattle.tree.specs.Linked.{Linked, find, nodes}
+use Rattle.tree.specs.Graft.{All, all-map}
+use Rattle.tree.specs.Tickets.{True}
+use Rattle.tree.specs.Marked.{Mark, met, nums, nums-append, ThinM, thinM-weaken}
+use Rattle.tree.specs.NextWay.{way, above}
+use Rattle.tree.specs.Steady.{Sure}
+use Rattle.heap.specs.Rep.{Rep, Alike, rep-alike, upToLinks}
+use Rattle.readers.specs.Marks.{no-bit, reading-bit}
+use Rattle.readers.specs.Reach.{HasStanding, Kept, Closed, kept-stands, kept-store, not-again}
+use Rattle.readers.specs.Graft.{Redirects}
+use Rattle.readers.specs.Lookups.{Unlinked, Store, Anew}
+use Rattle.readers.specs.Trays.{Gap, gap-now, Held, held-now, Closes, closes-more, OnTrail, store-closes, store-trail, anew-closes, anew-trail, root-trail, root-closes}
+use Rattle.readers.specs.Trays.{keyIn, recalled, RememberedHeld, remembered-more, turn-closes, turn-remembers, turn-trail, Answered, turn-answers}
+use Rattle.readers.specs.Turns.{Turn}
+use Rattle.runs.specs.Writer.{Stores, Writer, firstMade, afterStore}
+use Rattle.runs.specs.Sound.{Sound}
+use Rattle.runs.specs.Slot.{all-kept, NotFree, all-nodes, redirects-left, redirects-right, redirects-root}
+
+-- The slot has come to node n, 0 before its first turn, and remembers r; A: of each key the answers possible so far. It has seen the nodes
+-- that it has compared so far, in order, each with what was remembered on coming to it, and each is kept for it. Before its first turn it has
+-- seen nothing, and (a), (b) and (c) are not asked of a node: it will load the root. (c) is not asked of an awaited slot.
+pub record NextStand (p : List ℕ) (root awaited n : ℕ) (r : Remembered) (A : ℕ → Option ℕ → Type 0) (s g : ℕ) : Type 0 where
+  pub closes : n ≢ 0 → Closes p A n g (keyIn r)
+  pub remembers : RememberedHeld A g r
+  pub seen : List Mark
+  pub kept : (i : ℕ) → i ∈ nums seen → Kept p s i
+  pub none : n ≡ 0 → seen ≡ []
+  pub trail : n ≢ 0 → (hasSlot awaited s ≡ true) ⊎ OnTrail p root seen n g (keyIn r)
+
+module _ (p : List ℕ) (root awaited : ℕ) (A : ℕ → Option ℕ → Type 0) (s g : ℕ) where
+  -- a slot begins
+  pub nextStand-begin : NextStand p root awaited 0 Nothing A s g
+  nextStand-begin = record { closes = λ d. absurd (d refl); remembers = tt; seen = []; kept = λ i j. absurd j; none = λ _. refl; trail = λ d. absurd (d refl) }
+
+  -- it loads the root
+  pub nextStand-root : (T : Linked) → Rep p root T → Sure T → True T → ((k : ℕ) → A k (find T k)) → NextStand p root awaited root Nothing A s g
+  nextStand-root T h sure told now = record {
+    closes = λ _. root-closes p A root g T h sure told now;
+    remembers = tt;
+    seen = [];
+    kept = λ i j. absurd j;
+    none = λ _. refl;
+    trail = λ _. inr (root-trail p root g T h);
+  }
+
+  -- it loads a child
+  pub nextStand-child : (n : ℕ) (r : Remembered) → n ≢ 0 → Kept p s n → child p (towards p g n) n ≢ 0 → NextStand p root awaited n r A s g
+      → NextStand p root awaited (child p (towards p g n) n) (recalled p g n r) A s g
+  nextStand-child n r d kp c h = record {
+    closes = λ _. turn-closes p A n g r d (h .closes d);
+    remembers = turn-remembers p A n g r d (h .closes d) (h .remembers);
+    seen = h .seen ++ met n (keyIn r) ∷ [];
+    kept = λ i j. ⊎-elim (h .kept i) (λ l. ⊎-elim (λ q. subst (λ y. Kept p s y) (sym q) kp) (λ z. absurd z) l)
+        (in-append i (nums (h .seen)) (n ∷ []) .0 (rw (nums-append (h .seen) (met n (keyIn r) ∷ [])) at j));
+    none = λ z. absurd (c z);
+    trail = λ _. ⊎-map (λ z. z) (turn-trail p root (h .seen) n g r d) (h .trail d);
+  }
+
+  -- the child that it loads is none: it answers what it remembers then
+  pub nextStand-answers : (n : ℕ) (r : Remembered) → n ≢ 0 → child p (towards p g n) n ≡ 0 → NextStand p root awaited n r A s g → Answered A g (recalled p g n r)
+  nextStand-answers n r d e h =
+      let f = h .closes d in
+      turn-answers p A (child p (towards p g n) n) g (recalled p g n r) e (turn-closes p A n g r d f) (turn-remembers p A n g r d f (h .remembers))
+
+  -- the root that it loads is none
+  pub nextStand-empty : (T : Linked) → Rep p root T → root ≡ 0 → Sure T → True T → ((k : ℕ) → A k (find T k)) → Answered A g Nothing
+  nextStand-empty T h e sure told now = turn-answers p A root g Nothing e (root-closes p A root g T h sure told now) tt
+
+-- more answers are possible
+pub nextStand-more : (p : List ℕ) (root awaited n : ℕ) (r : Remembered) (A A′ : ℕ → Option ℕ → Type 0) (s g : ℕ) → ((k : ℕ) (o : Option ℕ) → A k o → A′ k o)
+    → NextStand p root awaited n r A s g → NextStand p root awaited n r A′ s g
+nextStand-more p root awaited n r A A′ s g more h = record {
+  closes = λ d. closes-more p A A′ n g (keyIn r) more (h .closes d);
+  remembers = remembered-more A A′ more g r (h .remembers);
+  seen = h .seen;
+  kept = h .kept;
+  none = h .none;
+  trail = h .trail;
+}
+
+-- Another slot ends: links, keys and records stay, the same nodes are linked, and what is kept for this slot stays kept.
+pub nextStand-alike : (p q : List ℕ) (root awaited awaited′ n : ℕ) (r : Remembered) (A : ℕ → Option ℕ → Type 0) (s g : ℕ) → Alike upToLinks p q
+    → ((i : ℕ) → HasStanding q i standingLinked → HasStanding p i standingLinked) → ((i : ℕ) → Kept p s i → Kept q s i) → hasSlot awaited′ s ≡ hasSlot awaited s
+    → NextStand p root awaited n r A s g → NextStand q root awaited′ n r A s g
+nextStand-alike p q root awaited awaited′ n r A s g a linked kept e h = record {
+  closes = λ d. (let f = h .closes d in record { tree = f .tree; unfolds = rep-alike a (f .tree) n (f .unfolds); gap = f .gap; held = f .held });
+  remembers = h .remembers;
+  seen = h .seen;
+  kept = λ i j. kept i (h .kept i j);
+  none = h .none;
+  trail = λ d. ⊎-map (λ z. e ∙ z)
+      (λ w. record {
+        tree = w .tree;
+        whole = w .whole;
+        unfolds = rep-alike a (w .tree) n (w .unfolds);
+        rooted = rep-alike a (w .whole) root (w .rooted);
+        trails = thinM-weaken (λ i u z. u (linked i z)) (w .trails);
+      })
+      (h .trail d);
+}
+
+-- A store of the writer as one of the root link or of the link of a node of T.
+module _ (st after : State) (came gone : List ℕ) (v : ℕ) (T T′ below : Linked) (before : Rep (st .pool) (st .register .root) T)
+    (linked : (n : ℕ) → HasStanding (st .pool) n standingLinked ↔ (n ∈ nodes T)) (unfolds : Rep (after .pool) v below) (then : Rep (after .pool) (after .register .root) T′) where
+  abbrev p : List ℕ
+  p = st .pool
+
+  abbrev q : List ℕ
+  q = after .pool
+
+  abbrev U : ℕ → Type 0
+  U = NotFree (st .pool)
+
+  data Redirected : Type 0 where
+    anew : Anew p q U (st .register .root) (after .register .root) T T′ → Redirected
+    below-node : (d : ℕ) (z : Side) → Store p q U d z v (st .register .root) T T′ → d ∈ nodes T → after .register .root ≡ st .register .root → Redirected
+
+  node-link : (d : ℕ) (z : Side) → Redirects p q U d z v → HasStanding p d standingLinked → after .register .root ≡ st .register .root → Redirected
+  node-link d z h o e = below-node d z
+      (record {
+        words = h;
+        linked = o;
+        below = below;
+        unfolds = unfolds;
+        before = before;
+        after = rw e at then;
+        all = all-nodes U T (λ m i. let x = linked m .1 i in λ y. omega arith);
+      })
+      (linked d .0 o) e
+
+  redirected : (l : Link) → Turn st after came gone l v → TreeLink p l → Redirected
+  redirected Root t o = anew (record { words = redirects-root st after came gone v t; before = before; after = then })
+  redirected (Left d) t o = node-link d L (redirects-left st after came gone v d t) o (t .root)
+  redirected (Right d) t o = node-link d R (redirects-right st after came gone v d t) o (t .root)
+
+  -- The slot at node n, with m remembered; what it has seen by then, and (c) before the store.
+  module _ (n g : ℕ) (m : Option ℕ) (s : ℕ) (u : s < slots) (closed : Closed p) (here : Kept p s n) (seen : List Mark) (kept : (i : ℕ) → i ∈ nums seen → Kept p s i)
+      (w : OnTrail p (st .register .root) seen n g m) where
+    all-below : (t : Linked) → Rep p n t → All U t
+    all-below t h = all-map (Kept p s) U (λ i. kept-stands p s i) t (all-kept p s u closed t n h (λ _. here))
+
+    usable : (i : ℕ) → i ∈ nums seen → U i
+    usable i j = kept-stands p s i (kept i j)
+
+    -- (a) and (b)
+    closes-store : (A A′ : ℕ → Option ℕ → Type 0) → ((k : ℕ) (o : Option ℕ) → A k o → A′ k o) → Gap A′ g (above T′ g none) → Held A′ T′
+        → Closes p A n g m → Redirected → Closes q A′ n g m
+    closes-store A A′ more gap held f (anew h) = anew-closes h A A′ more n g m f (all-below (f .tree) (f .unfolds))
+    closes-store A A′ more gap held f (below-node d z h i e) = store-closes h A A′ more n g m seen gap held i f (all-below (f .tree) (f .unfolds)) w
+
+    -- (c)
+    trail-store : ((i : ℕ) → U i → Unlinked p i → Unlinked q i) → ThinM (Unlinked q) (way T g none) (way T′ g none) → Redirected → OnTrail q (after .register .root) seen n g m
+    trail-store again thins (anew h) = anew-trail h n g m seen again usable thins w (all-below (w .tree) (w .unfolds))
+    trail-store again thins (below-node d z h i e) = rw e (store-trail h n g m seen again usable thins w (all-below (w .tree) (w .unfolds)))
+
+    through-store : (l : Link) → Turn st after came gone l v → TreeLink p l → (A A′ : ℕ → Option ℕ → Type 0) → ((k : ℕ) (o : Option ℕ) → A k o → A′ k o) → Sure T′ → True T′
+        → ((k : ℕ) → A′ k (find T′ k)) → Closes p A n g m → Closes q A′ n g m × (ThinM (Unlinked q) (way T g none) (way T′ g none) → OnTrail q (after .register .root) seen n g m)
+    through-store l t o A A′ more sure told now f = (
+      closes-store A A′ more (gap-now A′ T′ g sure now) (held-now A′ T′ told now) f (redirected l t o),
+      λ thins. trail-store (not-again p q (Reads st) (t .change)) thins (redirected l t o),
+    )
+
+-- The slot through a store of the writer: x′ is the plain list after it.
+module _ (W : State → Plain → Linked → Type 0) (writer : Writer W) where
+  pub nextStand-stored : (st : State) (x : Plain) (n : ℕ) (r : Remembered) (A A′ : ℕ → Option ℕ → Type 0) (s g : ℕ) (h : Sound W writer st x) (x′ : Plain) → s < slots
+      → Reads st s → (n ≢ 0 → Kept (st .pool) s n) → ((k : ℕ) (o : Option ℕ) → A k o → A′ k o) → ((k : ℕ) → A′ k (recordFor k (x′ .tickets)))
+      → st .register .awaited ≡ 0 → (z : Stores st (firstMade st) (h .tree) (λ t. W (afterStore st) x′ t))
+      → NextStand (st .pool) (st .register .root) (st .register .awaited) n r A s g
+      → NextStand (afterStore st .pool) (afterStore st .register .root) (afterStore st .register .awaited) n r A′ s g
+  nextStand-stored st x n r A A′ s g h x′ u reads here more now unawaited z w =
+      let after = afterStore st in
+      let T = h .tree in
+      let T′ = z .tree in
+      let m = keyIn r in
+      let rep = writer .unfolds st x T (h .holds) in
+      let rep′ = writer .unfolds after x′ T′ (z .kept) in
+      let lk = writer .linked st x T (h .holds) in
+      let answer : (k : ℕ) → A′ k (find T′ k) = λ k. rw (writer .finds after x′ T′ (z .kept) k) (now k) in
+      let on : n ≢ 0 → OnTrail (st .pool) (st .register .root) (w .seen) n g m =
+      λ d. ⊎-elim (λ b. absurd (false≢true (sym (no-bit s) ∙ subst (λ i. hasSlot i s ≡ true) unawaited b))) (λ t. t) (w .trail d) in
+      let through : n ≢ 0 → Closes (after .pool) A′ n g m
+      × (ThinM (Unlinked (after .pool)) (way T g none) (way T′ g none) → OnTrail (after .pool) (after .register .root) (w .seen) n g m) =
+      λ d. through-store st after (z .came) (z .gone) (firstMade st .node) T T′ (z .below) rep lk (z .unfolds) rep′ n g m s u (h .safe .closed) (here d) (w .seen) (w .kept) (on d)
+      (firstMade st .link) (z .turn) (z .owner) A A′ more (writer .sure after x′ T′ (z .kept)) (writer .told after x′ T′ (z .kept)) answer (w .closes d) in
+      record {
+        closes = λ d. through d .0;
+        remembers = remembered-more A A′ more g r (w .remembers);
+        seen = w .seen;
+        kept = λ i j. kept-store (st .pool) (after .pool) (Reads st) (z .turn .change) s i u reads (w .kept i j);
+        none = w .none;
+        trail = λ d. ⊎-elim (λ thins. inr (through d .1 (thins .1 g))) (λ e. inl (rw e (reading-bit (st .register) s u ∙ reads))) (z .ways);
+      }
