@@ -15,6 +15,7 @@ use Rattle.datatypes.specs.declared.Place.the-variants.{Held, Empty, TooDeep}
 use Rattle.datatypes.specs.declared.Step.{Step}
 use Rattle.datatypes.specs.declared.Step.the-variants.{Vacant, Insert, DiagLower, DiagRaise, ZigLowerA, ZigLowerC, ZigRaise, Unlink, Adopt, Replace, Publish, Detach}
 use Rattle.datatypes.specs.declared.Write.{Write}
+use Rattle.datatypes.specs.declared.Remembered.{Remembered}
 use Rattle.datatypes.specs.declared.Reader.{Reader}
 use Rattle.spec.specs.Numbers.{slots, allSlots, pathBound, mostStores}
 use Rattle.spec.specs.Pool.{word, leftWord, rightWord, colourWord, standingWord, holdersWord, nextWord, nodeInRange, poolInRange}
@@ -25,7 +26,7 @@ use Rattle.spec.specs.Search.{towards}
 use Rattle.spec.specs.Plan.{Plan}
 use Rattle.spec.specs.Turn.{stepFinds, stepMade}
 use Rattle.spec.specs.Calls.{Outcome, outOfRange, placeOf, insertAt, deleteAt, stored, Call}
-use Rattle.readers.specs.CallCase.{CallCase, refuses, plansInsert, plansDelete, waits, stores, begins, loads, misses, meets, finds, leaves, Loads, atRoot, lookingUp, searching}
+use Rattle.readers.specs.CallCase.{CallCase, refuses, plansInsert, plansDelete, waits, stores, begins, loads, misses, meets, finds, leaves, childLoaded, Loads, atRoot, lookingUp, searching}
 use Rattle.ranges.specs.Fits.{PoolOk, child-fits, Within, within-reader, within-end, within-write}
 use Rattle.ranges.specs.Stores.{step-within}
 use Rattle.ranges.specs.Writes.{Number, LinkOk, StepOk, WriteOk, write-of, write-less}
@@ -136,10 +137,15 @@ ranged-reader capacity st s x u h = record { within = within-reader capacity st 
 ranged-end : (capacity : ℕ) (st : State) (s : ℕ) → Ranged capacity st → Ranged capacity (endReading st s)
 ranged-end capacity st s h = record { within = within-end capacity st s (h .within); write = rw (hand-end st s) (h .write) }
 
-load-fits : (capacity : ℕ) (st : State) (s n : ℕ) → Within capacity st → Loads st s n → n ≤ capacity
-load-fits capacity st s n h (atRoot a e) = rw e (h .root)
-load-fits capacity st s n h (atNode a b e) = rw e (child-fits capacity (st .pool) (towards (st .pool) (readerOf (st .register) s .key) (readerOf (st .register) s .node))
-    (readerOf (st .register) s .node) (h .fits))
+child-loaded-fits : (capacity : ℕ) (st : State) (s : ℕ) → Within capacity st → childLoaded st s ≤ capacity
+child-loaded-fits capacity st s h =
+    let x = readerOf (st .register) s in
+    child-fits capacity (st .pool) (towards (st .pool) (x .key) (x .node)) (x .node) (h .fits)
+
+load-fits : (capacity : ℕ) (st : State) (s : ℕ) (m : Remembered) (n : ℕ) → Within capacity st → Loads st s m n → n ≤ capacity
+load-fits capacity st s m n h (atRoot a e f) = rw f (h .root)
+load-fits capacity st s m n h (lookingUp κ a b e f) = rw f (child-loaded-fits capacity st s h)
+load-fits capacity st s m n h (searching κ a e f) = rw f (child-loaded-fits capacity st s h)
 
 pub ranged-next : (capacity : ℕ) (st : State) (c : Call) (o : Outcome) → CallCase st c o → Ranged capacity st → Ranged capacity (o .after)
 ranged-next capacity st c o (refuses d x) h = h
@@ -149,8 +155,9 @@ ranged-next capacity st c o (plansDelete k e) h =
     ranged-plan capacity st (deleteAt st (placeOf st k)) (h .within) (delete-at capacity st (h .within) (placeOf st k) (place-ok capacity st k (h .within)))
 ranged-next capacity st c o (waits d) h = h
 ranged-next capacity st c o (stores a w f) h = ranged-store capacity st (storeOf (st .register) 0 .link) (storeOf (st .register) 0 .step) h f
-ranged-next capacity st c o (begins s k u e) h = ranged-reader capacity st s _ (omega arith) h
-ranged-next capacity st c o (loads s n p l d) h = ranged-reader capacity st s _ (load-fits capacity st s n (h .within) l) h
-ranged-next capacity st c o (misses s n p l e) h = ranged-end capacity st s h
-ranged-next capacity st c o (finds s p d e) h = ranged-end capacity st s h
+ranged-next capacity st c o (begins κ s k u e) h = ranged-reader capacity st s _ (omega arith) h
+ranged-next capacity st c o (loads s m n p l d) h = ranged-reader capacity st s _ (load-fits capacity st s m n (h .within) l) h
+ranged-next capacity st c o (misses s m n p l e f) h = ranged-end capacity st s h
+ranged-next capacity st c o (meets s k v n p l e f) h = ranged-end capacity st s h
+ranged-next capacity st c o (finds s p κ d e) h = ranged-end capacity st s h
 ranged-next capacity st c o (leaves s p) h = ranged-end capacity st s h

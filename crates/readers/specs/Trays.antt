@@ -10,7 +10,6 @@ use mathlib.Core.Bool.{cond}
 use mathlib.Core.List.{List, [], _∷_, _++_, append-assoc}
 use mathlib.Core.Option.{Option, none, some}
 use native.Mathlib.Omega.{arith}
-use lib.Dec.{ltb}
 use borrow.Author.Tests.{lt-ltb, le-ltb}
 use Rattle.datatypes.specs.declared.Side.{Side}
 use Rattle.datatypes.specs.declared.Side.the-variants.{L}
@@ -18,6 +17,7 @@ use Rattle.datatypes.specs.declared.Remembered.{Remembered}
 use Rattle.datatypes.specs.declared.Remembered.the-variants.{Nothing, Ticket}
 use Rattle.spec.specs.Pool.{word, child, keyWord, recordAt}
 use Rattle.spec.specs.Search.{towards}
+use Rattle.spec.specs.Calls.{recalled}
 use Rattle.base.specs.Lists.{_∈_, in-append, Distinct}
 use Rattle.tree.specs.Occurs.{occ, in-occ}
 use Rattle.tree.specs.Linked.{Linked, nil, cell, find, nodes}
@@ -151,13 +151,10 @@ root-trail p root g T r = record { tree = T; whole = T; unfolds = r; rooted = r;
 pub root-closes : (p : List ℕ) (A : ℕ → Option ℕ → Type 0) (root g : ℕ) (T : Linked) → Rep p root T → Sure T → True T → ((k : ℕ) → A k (find T k)) → Closes p A root g none
 root-closes p A root g T r sure told now = record { tree = T; unfolds = r; gap = gap-now A T g sure now; held = held-now A T told now }
 
--- The search's own turn, at node n: it turns to the side `towards p g n`. The key remembered, and what it remembers then.
+-- The search's own turn, at node n: it turns to the side `towards p g n` and remembers `recalled p g n r` (spec: Calls). The key remembered:
 abbrev pub keyIn : Remembered → Option ℕ
 keyIn Nothing = none
 keyIn (Ticket k v) = some k
-
-abbrev pub recalled : List ℕ → ℕ → ℕ → Remembered → Remembered
-recalled p g n r = cond (ltb g (word p n keyWord)) (Ticket (word p n keyWord) (recordAt p n)) r
 
 -- the ticket remembered is greater than the given key and may have been held
 abbrev pub RememberedHeld : (ℕ → Option ℕ → Type 0) → ℕ → Remembered → Type 0

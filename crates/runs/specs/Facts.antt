@@ -11,6 +11,7 @@ use native.Mathlib.Omega.{arith}
 use native.Mathlib.Decide.{ℕ-discrete}
 use Rattle.base.specs.Lists.{_∈_, in-append}
 use Rattle.datatypes.specs.declared.Link.{Link}
+use Rattle.datatypes.specs.declared.Kind.{Kind}
 use Rattle.spec.specs.Numbers.{slots}
 use Rattle.spec.specs.Pool.{word, keyWord, recordAt, recordWord, standingWord, holdersWord, standingFree, standingLinked, standingRetired}
 use Rattle.spec.specs.Register.{State, hasSlot, dropSlot}
@@ -27,7 +28,7 @@ use Rattle.readers.specs.Release.{end-released}
 use Rattle.readers.specs.Reach.{HasStanding, Kept, retired-end, NodeChange, comes, leaves, rests, goes}
 use Rattle.readers.specs.Turns.{Turn}
 use Rattle.readers.specs.CallCase as CallCase
-use Rattle.readers.specs.CallCase.{CallCase, call-case, refuses, plansInsert, plansDelete, waits, stores, begins, loads, misses, finds}
+use Rattle.readers.specs.CallCase.{CallCase, call-case, refuses, plansInsert, plansDelete, waits, stores, begins, loads, misses, meets, finds}
 use Rattle.readers.specs.Safe.{Safe}
 use Rattle.runs.specs.Writer.{Writer, firstMade, afterStore}
 use Rattle.runs.specs.Sound.{Sound, Starts}
@@ -87,21 +88,22 @@ turn-was st after came gone l v t s m h = go (t .change m)
     go (goes a e x) = absurd (let z = h .0 in omega arith)
 
 -- an accepted begin: no retired node has the slot's bit
-begun-none : (st : State) (c : Call) (o : Outcome) (s k m : ℕ) → CallCase st c o → Safe st → BeginsBy c (o .answer) s k → ¬ (Held (o .after .pool) s m)
-begun-none st c o s k m (refuses d n) safe (e, a) h = let z = ap toldOf a in omega arith
-begun-none st c o s k m (plansInsert j v f) safe (e, a) h = let z = ap kindOf e in omega arith
-begun-none st c o s k m (plansDelete j f) safe (e, a) h = let z = ap kindOf e in omega arith
-begun-none st c o s k m (waits f) safe (e, a) h = let z = ap kindOf e in omega arith
-begun-none st c o s k m (stores f g i) safe (e, a) h = let z = ap kindOf e in omega arith
-begun-none st c o s k m (begins t j u f) safe (e, a) h =
+begun-none : (st : State) (c : Call) (o : Outcome) (κ : Kind) (s k m : ℕ) → CallCase st c o → Safe st → BeginsBy c (o .answer) κ s k → ¬ (Held (o .after .pool) s m)
+begun-none st c o κ s k m (refuses d n) safe (e, a) h = let z = ap toldOf a in omega arith
+begun-none st c o κ s k m (plansInsert j v f) safe (e, a) h = let z = ap kindOf e in omega arith
+begun-none st c o κ s k m (plansDelete j f) safe (e, a) h = let z = ap kindOf e in omega arith
+begun-none st c o κ s k m (waits f) safe (e, a) h = let z = ap kindOf e in omega arith
+begun-none st c o κ s k m (stores f g i) safe (e, a) h = let z = ap kindOf e in omega arith
+begun-none st c o κ s k m (begins μ t j u f) safe (e, a) h =
     let y = ap slotOf e in
     let r = h .0 in
     let reads = safe .owned .good m (stands-node (st .pool) m standingWord (safe .whole) (omega arith) (omega arith)) .reads (h .0) s (subst (λ i. i < slots) y u) (h .1) in
     false≢true (sym (subst (λ i. reading st i ≡ false) y f) ∙ reads)
-begun-none st c o s k m (loads t n p l f) safe (e, a) h = let z = ap kindOf e in omega arith
-begun-none st c o s k m (misses t n p l f) safe (e, a) h = let z = ap kindOf e in omega arith
-begun-none st c o s k m (finds t p f g) safe (e, a) h = let z = ap kindOf e in omega arith
-begun-none st c o s k m (CallCase.leaves t p) safe (e, a) h = let z = ap kindOf e in omega arith
+begun-none st c o κ s k m (loads t r n p l f) safe (e, a) h = let z = ap kindOf e in omega arith
+begun-none st c o κ s k m (misses t r n p l f g) safe (e, a) h = let z = ap kindOf e in omega arith
+begun-none st c o κ s k m (meets t j v n p l f g) safe (e, a) h = let z = ap kindOf e in omega arith
+begun-none st c o κ s k m (finds t p i f g) safe (e, a) h = let z = ap kindOf e in omega arith
+begun-none st c o κ s k m (CallCase.leaves t p) safe (e, a) h = let z = ap kindOf e in omega arith
 
 module _ (W : State → Plain → Linked → Type 0) (writer : Writer W) where
   -- a node that a call leaves retired with the slot's bit was kept for the slot before
@@ -113,10 +115,11 @@ module _ (W : State → Plain → Linked → Type 0) (writer : Writer W) where
   held-before st x c o (stores a w f) h s m k =
       let z = writer .store st x (h .tree) (h .safe) (h .holds) a w f in
       turn-was st (afterStore st) (z .came) (z .gone) (firstMade st .link) (firstMade st .node) (z .turn) s m k
-  held-before st x c o (begins t j v e) h s m k = held-was _ s m k
-  held-before st x c o (loads t n p l d) h s m k = held-was _ s m k
-  held-before st x c o (misses t n p l e) h s m k = end-was st t s m (h .safe) k
-  held-before st x c o (finds t p d e) h s m k = end-was st t s m (h .safe) k
+  held-before st x c o (begins κ t j v e) h s m k = held-was _ s m k
+  held-before st x c o (loads t r n p l d) h s m k = held-was _ s m k
+  held-before st x c o (misses t r n p l e g) h s m k = end-was st t s m (h .safe) k
+  held-before st x c o (meets t j v n p l e g) h s m k = end-was st t s m (h .safe) k
+  held-before st x c o (finds t p κ d e) h s m k = end-was st t s m (h .safe) k
   held-before st x c o (CallCase.leaves t p) h s m k = end-was st t s m (h .safe) k
 
 module _ (W : State → Plain → Linked → Type 0) (writer : Writer W) (S : Start) (starts : Starts W writer S) (cs : List Call) where
@@ -149,18 +152,18 @@ module _ (W : State → Plain → Linked → Type 0) (writer : Writer W) (S : St
       let w = held-before W writer (at j) (plainAfter S cs j) c (call (at j) c) (call-case (at j) c) (sound-at W writer S starts cs j) s m h in
       moved i j m (call (at j) c .after .pool) (w .key) (w .value) (f (w .kept))
 
-  begun-perhaps : (s k m i : ℕ) (c : Option Call) → callAt cs i ≡ c → Begins S cs s k i → ¬ (Held (thenPerhaps (after S cs i) c .index .pool) s m)
-  begun-perhaps s k m i none e g h = let z : _≡_ {A = ℕ} 0 1 = (let x = sym e ∙ g .0 in cc) in omega arith
-  begun-perhaps s k m i (some c) e g h =
-      begun-none (at i) c (call (at i) c) s k m (call-case (at i) c) (sound-at W writer S starts cs i .safe) (by-call S cs i c (beginning s k) ok e g) h
+  begun-perhaps : (κ : Kind) (s k m i : ℕ) (c : Option Call) → callAt cs i ≡ c → Begins S cs κ s k i → ¬ (Held (thenPerhaps (after S cs i) c .index .pool) s m)
+  begun-perhaps κ s k m i none e g h = let z : _≡_ {A = ℕ} 0 1 = (let x = sym e ∙ g .0 in cc) in omega arith
+  begun-perhaps κ s k m i (some c) e g h =
+      begun-none (at i) c (call (at i) c) κ s k m (call-case (at i) c) (sound-at W writer S starts cs i .safe) (by-call S cs i c (beginning κ s k) ok e g) h
 
-  pub kept-ticket : (s k i j m : ℕ) → Reading S cs s k i j → Kept (at j .pool) s m → (t : ℕ) × (i < t) × (t ≤ j) × TicketAt S cs j m t
+  pub kept-ticket : (κ : Kind) (s k i j m : ℕ) → Reading S cs κ s k i j → Kept (at j .pool) s m → (t : ℕ) × (i < t) × (t ≤ j) × TicketAt S cs j m t
   unfolding after
-  kept-ticket s k i zero m l h = absurd (let z = l .later in omega arith)
-  kept-ticket s k i (suc j) m l (inl e) = (suc j, l .later, omega arith, linked-ticket (suc j) m e)
-  kept-ticket s k i (suc j) m l (inr h) = elim (ℕ-discrete i j) [
-    | yes e ↦ absurd (begun-perhaps s k m i (callAt cs i) refl (l .begins) (subst (λ n. Held (thenPerhaps (after S cs n) (callAt cs n) .index .pool) s m) (sym e) h))
+  kept-ticket κ s k i zero m l h = absurd (let z = l .later in omega arith)
+  kept-ticket κ s k i (suc j) m l (inl e) = (suc j, l .later, omega arith, linked-ticket (suc j) m e)
+  kept-ticket κ s k i (suc j) m l (inr h) = elim (ℕ-discrete i j) [
+    | yes e ↦ absurd (begun-perhaps κ s k m i (callAt cs i) refl (l .begins) (subst (λ n. Held (thenPerhaps (after S cs n) (callAt cs n) .index .pool) s m) (sym e) h))
     | no d ↦
         (let u : i < j = (let z = l .later in omega arith) in
-        held-perhaps s m i j (callAt cs j) refl (kept-ticket s k i j m (shorter W writer S starts cs s k i (suc j) j u (omega arith) l)) h)
+        held-perhaps s m i j (callAt cs j) refl (kept-ticket κ s k i j m (shorter W writer S starts cs κ s k i (suc j) j u (omega arith) l)) h)
   ]

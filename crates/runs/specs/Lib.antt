@@ -1,7 +1,9 @@
 pub mod Writer
 pub mod Sound
-pub mod Slot
+pub mod Redirected
+pub mod LookupSlot
 pub mod NextSlot
+pub mod Slot
 pub mod Follow
 pub mod Starts
 pub mod Begin

@@ -1,16 +1,12 @@
 -- A slot that searches for the next ticket: (a), (b) and (c) of its node, of the key given and of the ticket remembered (readers: Trays), and what
--- it has seen, kept by each call that does not end its reading. Beside Slot, which has the same of a lookup.
+-- it has seen, kept by each call that does not end its reading. Beside LookupSlot, which has the same of a lookup.
 use Prim.Native.Nat.{ℕ, _<_}
 use mathlib.Core.Path.{_≡_, refl, sym, _∙_, subst}
 use mathlib.Core.Bool.{true, false≢true}
 use mathlib.Core.List.{List, [], _∷_, _++_}
 use mathlib.Core.Option.{Option, none}
 use mathlib.Core.Logic.{_≢_, _⊎_, inl, inr, ⊎-elim, ⊎-map, _↔_}
-use native.Mathlib.Omega.{arith}
-use Rattle.datatypes.specs.declared.Side.{Side}
-use Rattle.datatypes.specs.declared.Side.the-variants.{L, R}
 use Rattle.datatypes.specs.declared.Link.{Link}
-use Rattle.datatypes.specs.declared.Link.the-variants.{Root, Left, Right}
 use Rattle.datatypes.specs.declared.Remembered.{Remembered}
 use Rattle.datatypes.specs.declared.Remembered.the-variants.{Nothing}
 use Rattle.spec.specs.Numbers.{slots}
@@ -22,7 +18,7 @@ use Rattle.promise.specs.Run.{Reads}
 use Rattle.promise.specs.Demands.{TreeLink}
 use Rattle.base.specs.Lists.{_∈_, in-append}
 use Rattle.tree.specs.Linked.{Linked, find, nodes}
-use Rattle.tree.specs.Graft.{All, all-map}
+use Rattle.tree.specs.Graft.{All}
 use Rattle.tree.specs.Tickets.{True}
 use Rattle.tree.specs.Marked.{Mark, met, nums, nums-append, ThinM, thinM-weaken}
 use Rattle.tree.specs.NextWay.{way, above}
@@ -30,30 +26,30 @@ use Rattle.tree.specs.Steady.{Sure}
 use Rattle.heap.specs.Rep.{Rep, Alike, rep-alike, upToLinks}
 use Rattle.readers.specs.Marks.{no-bit, reading-bit}
 use Rattle.readers.specs.Reach.{HasStanding, Kept, Closed, kept-stands, kept-store, not-again}
-use Rattle.readers.specs.Graft.{Redirects}
-use Rattle.readers.specs.Lookups.{Unlinked, Store, Anew}
+use Rattle.readers.specs.Lookups.{Unlinked}
 use Rattle.readers.specs.Trays.{Gap, gap-now, Held, held-now, Closes, closes-more, OnTrail, store-closes, store-trail, anew-closes, anew-trail, root-trail, root-closes}
-use Rattle.readers.specs.Trays.{keyIn, recalled, RememberedHeld, remembered-more, turn-closes, turn-remembers, turn-trail, Answered, turn-answers}
+use Rattle.spec.specs.Calls.{recalled}
+use Rattle.readers.specs.Trays.{keyIn, RememberedHeld, remembered-more, turn-closes, turn-remembers, turn-trail, Answered, turn-answers}
 use Rattle.readers.specs.Turns.{Turn}
 use Rattle.runs.specs.Writer.{Stores, Writer, firstMade, afterStore}
 use Rattle.runs.specs.Sound.{Sound}
-use Rattle.runs.specs.Slot.{all-kept, NotFree, all-nodes, redirects-left, redirects-right, redirects-root}
+use Rattle.runs.specs.Redirected.{NotFree, all-below, Redirected, anew, below-node, redirected}
 
 -- The slot has come to node n, 0 before its first turn, and remembers r; A: of each key the answers possible so far. It has seen the nodes
 -- that it has compared so far, in order, each with what was remembered on coming to it, and each is kept for it. Before its first turn it has
--- seen nothing, and (a), (b) and (c) are not asked of a node: it will load the root. (c) is not asked of an awaited slot.
+-- seen and remembers nothing, and (a), (b) and (c) are not asked of a node: it will load the root. (c) is not asked of an awaited slot.
 pub record NextStand (p : List ℕ) (root awaited n : ℕ) (r : Remembered) (A : ℕ → Option ℕ → Type 0) (s g : ℕ) : Type 0 where
   pub closes : n ≢ 0 → Closes p A n g (keyIn r)
   pub remembers : RememberedHeld A g r
   pub seen : List Mark
   pub kept : (i : ℕ) → i ∈ nums seen → Kept p s i
-  pub none : n ≡ 0 → seen ≡ []
+  pub none : n ≡ 0 → (seen ≡ []) × (r ≡ Nothing)
   pub trail : n ≢ 0 → (hasSlot awaited s ≡ true) ⊎ OnTrail p root seen n g (keyIn r)
 
 module _ (p : List ℕ) (root awaited : ℕ) (A : ℕ → Option ℕ → Type 0) (s g : ℕ) where
   -- a slot begins
   pub nextStand-begin : NextStand p root awaited 0 Nothing A s g
-  nextStand-begin = record { closes = λ d. absurd (d refl); remembers = tt; seen = []; kept = λ i j. absurd j; none = λ _. refl; trail = λ d. absurd (d refl) }
+  nextStand-begin = record { closes = λ d. absurd (d refl); remembers = tt; seen = []; kept = λ i j. absurd j; none = λ _. (refl, refl); trail = λ d. absurd (d refl) }
 
   -- it loads the root
   pub nextStand-root : (T : Linked) → Rep p root T → Sure T → True T → ((k : ℕ) → A k (find T k)) → NextStand p root awaited root Nothing A s g
@@ -62,7 +58,7 @@ module _ (p : List ℕ) (root awaited : ℕ) (A : ℕ → Option ℕ → Type 0)
     remembers = tt;
     seen = [];
     kept = λ i j. absurd j;
-    none = λ _. refl;
+    none = λ _. (refl, refl);
     trail = λ _. inr (root-trail p root g T h);
   }
 
@@ -122,9 +118,11 @@ nextStand-alike p q root awaited awaited′ n r A s g a linked kept e h = record
       (h .trail d);
 }
 
--- A store of the writer as one of the root link or of the link of a node of T.
+-- A store, of the slot at node n with m remembered: what it has seen by then, and (c) before the store.
 module _ (st after : State) (came gone : List ℕ) (v : ℕ) (T T′ below : Linked) (before : Rep (st .pool) (st .register .root) T)
-    (linked : (n : ℕ) → HasStanding (st .pool) n standingLinked ↔ (n ∈ nodes T)) (unfolds : Rep (after .pool) v below) (then : Rep (after .pool) (after .register .root) T′) where
+    (linked : (n : ℕ) → HasStanding (st .pool) n standingLinked ↔ (n ∈ nodes T)) (unfolds : Rep (after .pool) v below) (then : Rep (after .pool) (after .register .root) T′)
+    (n g : ℕ) (m : Option ℕ) (s : ℕ) (u : s < slots) (closed : Closed (st .pool)) (here : Kept (st .pool) s n)
+    (seen : List Mark) (kept : (i : ℕ) → i ∈ nums seen → Kept (st .pool) s i) (w : OnTrail (st .pool) (st .register .root) seen n g m) where
   abbrev p : List ℕ
   p = st .pool
 
@@ -134,54 +132,33 @@ module _ (st after : State) (came gone : List ℕ) (v : ℕ) (T T′ below : Lin
   abbrev U : ℕ → Type 0
   U = NotFree (st .pool)
 
-  data Redirected : Type 0 where
-    anew : Anew p q U (st .register .root) (after .register .root) T T′ → Redirected
-    below-node : (d : ℕ) (z : Side) → Store p q U d z v (st .register .root) T T′ → d ∈ nodes T → after .register .root ≡ st .register .root → Redirected
+  abbrev Redirects : Type 0
+  Redirects = Redirected st after came gone v T T′ below before linked unfolds then
 
-  node-link : (d : ℕ) (z : Side) → Redirects p q U d z v → HasStanding p d standingLinked → after .register .root ≡ st .register .root → Redirected
-  node-link d z h o e = below-node d z
-      (record {
-        words = h;
-        linked = o;
-        below = below;
-        unfolds = unfolds;
-        before = before;
-        after = rw e at then;
-        all = all-nodes U T (λ m i. let x = linked m .1 i in λ y. omega arith);
-      })
-      (linked d .0 o) e
+  usable : (i : ℕ) → i ∈ nums seen → U i
+  usable i j = kept-stands p s i (kept i j)
 
-  redirected : (l : Link) → Turn st after came gone l v → TreeLink p l → Redirected
-  redirected Root t o = anew (record { words = redirects-root st after came gone v t; before = before; after = then })
-  redirected (Left d) t o = node-link d L (redirects-left st after came gone v d t) o (t .root)
-  redirected (Right d) t o = node-link d R (redirects-right st after came gone v d t) o (t .root)
+  all : (t : Linked) → Rep p n t → All U t
+  all = all-below p s n u closed here
 
-  -- The slot at node n, with m remembered; what it has seen by then, and (c) before the store.
-  module _ (n g : ℕ) (m : Option ℕ) (s : ℕ) (u : s < slots) (closed : Closed p) (here : Kept p s n) (seen : List Mark) (kept : (i : ℕ) → i ∈ nums seen → Kept p s i)
-      (w : OnTrail p (st .register .root) seen n g m) where
-    all-below : (t : Linked) → Rep p n t → All U t
-    all-below t h = all-map (Kept p s) U (λ i. kept-stands p s i) t (all-kept p s u closed t n h (λ _. here))
+  -- (a) and (b)
+  closes-store : (A A′ : ℕ → Option ℕ → Type 0) → ((k : ℕ) (o : Option ℕ) → A k o → A′ k o) → Gap A′ g (above T′ g none) → Held A′ T′
+      → Closes p A n g m → Redirects → Closes q A′ n g m
+  closes-store A A′ more gap held f (anew h) = anew-closes h A A′ more n g m f (all (f .tree) (f .unfolds))
+  closes-store A A′ more gap held f (below-node d z h i e) = store-closes h A A′ more n g m seen gap held i f (all (f .tree) (f .unfolds)) w
 
-    usable : (i : ℕ) → i ∈ nums seen → U i
-    usable i j = kept-stands p s i (kept i j)
+  -- (c)
+  trail-store : ((i : ℕ) → U i → Unlinked p i → Unlinked q i) → ThinM (Unlinked q) (way T g none) (way T′ g none) → Redirects → OnTrail q (after .register .root) seen n g m
+  trail-store again thins (anew h) = anew-trail h n g m seen again usable thins w (all (w .tree) (w .unfolds))
+  trail-store again thins (below-node d z h i e) = rw e (store-trail h n g m seen again usable thins w (all (w .tree) (w .unfolds)))
 
-    -- (a) and (b)
-    closes-store : (A A′ : ℕ → Option ℕ → Type 0) → ((k : ℕ) (o : Option ℕ) → A k o → A′ k o) → Gap A′ g (above T′ g none) → Held A′ T′
-        → Closes p A n g m → Redirected → Closes q A′ n g m
-    closes-store A A′ more gap held f (anew h) = anew-closes h A A′ more n g m f (all-below (f .tree) (f .unfolds))
-    closes-store A A′ more gap held f (below-node d z h i e) = store-closes h A A′ more n g m seen gap held i f (all-below (f .tree) (f .unfolds)) w
-
-    -- (c)
-    trail-store : ((i : ℕ) → U i → Unlinked p i → Unlinked q i) → ThinM (Unlinked q) (way T g none) (way T′ g none) → Redirected → OnTrail q (after .register .root) seen n g m
-    trail-store again thins (anew h) = anew-trail h n g m seen again usable thins w (all-below (w .tree) (w .unfolds))
-    trail-store again thins (below-node d z h i e) = rw e (store-trail h n g m seen again usable thins w (all-below (w .tree) (w .unfolds)))
-
-    through-store : (l : Link) → Turn st after came gone l v → TreeLink p l → (A A′ : ℕ → Option ℕ → Type 0) → ((k : ℕ) (o : Option ℕ) → A k o → A′ k o) → Sure T′ → True T′
-        → ((k : ℕ) → A′ k (find T′ k)) → Closes p A n g m → Closes q A′ n g m × (ThinM (Unlinked q) (way T g none) (way T′ g none) → OnTrail q (after .register .root) seen n g m)
-    through-store l t o A A′ more sure told now f = (
-      closes-store A A′ more (gap-now A′ T′ g sure now) (held-now A′ T′ told now) f (redirected l t o),
-      λ thins. trail-store (not-again p q (Reads st) (t .change)) thins (redirected l t o),
-    )
+  through-store : (l : Link) → Turn st after came gone l v → TreeLink p l → (A A′ : ℕ → Option ℕ → Type 0) → ((k : ℕ) (o : Option ℕ) → A k o → A′ k o) → Sure T′ → True T′
+      → ((k : ℕ) → A′ k (find T′ k)) → Closes p A n g m → Closes q A′ n g m × (ThinM (Unlinked q) (way T g none) (way T′ g none) → OnTrail q (after .register .root) seen n g m)
+  through-store l t o A A′ more sure told now f =
+      let r = redirected st after came gone v T T′ below before linked unfolds then l t o in (
+        closes-store A A′ more (gap-now A′ T′ g sure now) (held-now A′ T′ told now) f r,
+        λ thins. trail-store (not-again p q (Reads st) (t .change)) thins r,
+      )
 
 -- The slot through a store of the writer: x′ is the plain list after it.
 module _ (W : State → Plain → Linked → Type 0) (writer : Writer W) where

@@ -10,12 +10,12 @@ use Rattle.datatypes.specs.declared.Link.{Link}
 use Rattle.datatypes.specs.declared.Link.the-variants.{Root}
 use Rattle.spec.specs.Register.{State, storeOf, lessFirst}
 use Rattle.spec.specs.Turn.{Made, stepFinds}
-use Rattle.spec.specs.Calls.{Answer, ok, go, absent, wait, found, more, done, refused, Outcome, stored, writeInHand, Call}
+use Rattle.spec.specs.Calls.{Answer, ok, go, absent, wait, found, next, more, done, refused, Outcome, stored, writeInHand, Call}
 use Rattle.spec.specs.PlainList.{Plain}
 use Rattle.tree.specs.Linked.{Linked}
 use Rattle.promise.specs.Demands.{StoresOne}
 use Rattle.readers.specs.Turns.{turn-stores}
-use Rattle.readers.specs.CallCase.{CallCase, refuses, plansInsert, plansDelete, waits, stores, begins, loads, misses, finds, leaves}
+use Rattle.readers.specs.CallCase.{CallCase, refuses, plansInsert, plansDelete, waits, stores, begins, loads, misses, meets, finds, leaves}
 use Rattle.runs.specs.Writer.{Writer, firstMade, afterStore}
 use Rattle.runs.specs.Sound.{Sound}
 use Rattle.runs.specs.Answers.{toldOf}
@@ -37,10 +37,11 @@ storing st c o (plansInsert j v f) e = absurd (let z = e .0 in omega arith)
 storing st c o (plansDelete j f) e = absurd (let z = e .0 in omega arith)
 storing st c o (waits d) e = absurd (let z = e .0 in omega arith)
 storing st c o (stores a w f) e = record { unawaited = a; inHand = w; finds-all = f; is = refl }
-storing st c o (begins t j u f) e = absurd (let z = e .0 in omega arith)
-storing st c o (loads t i p k f) e = absurd (let z = e .0 in omega arith)
-storing st c o (misses t i p k f) e = absurd (let z = e .0 in omega arith)
-storing st c o (finds t p d f) e = absurd (let z = e .0 in omega arith)
+storing st c o (begins κ t j u f) e = absurd (let z = e .0 in omega arith)
+storing st c o (loads t r i p k f) e = absurd (let z = e .0 in omega arith)
+storing st c o (misses t r i p k f g) e = absurd (let z = e .0 in omega arith)
+storing st c o (meets t j v i p k f g) e = absurd (let z = e .0 in omega arith)
+storing st c o (finds t p κ d f) e = absurd (let z = e .0 in omega arith)
 storing st c o (leaves t p) e = absurd (let z = e .0 in omega arith)
 
 -- more leaves stores to come, done none
@@ -66,6 +67,7 @@ linkIn go = Root
 linkIn absent = Root
 linkIn wait = Root
 linkIn (found v) = Root
+linkIn (next k v) = Root
 linkIn (more l n) = l
 linkIn (done l n) = l
 linkIn (refused n) = Root
@@ -76,6 +78,7 @@ nodeIn go = 0
 nodeIn absent = 0
 nodeIn wait = 0
 nodeIn (found v) = 0
+nodeIn (next k v) = 0
 nodeIn (more l n) = n
 nodeIn (done l n) = n
 nodeIn (refused n) = 0

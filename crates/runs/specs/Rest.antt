@@ -15,7 +15,7 @@ use Rattle.spec.specs.Numbers.{nodeWords, leastNodes, mostNodes, slots, mostSto
 use Rattle.spec.specs.Pool.{word, colourWord, nodes, lengthRight}
 use Rattle.spec.specs.Register.{State, storeOf, hasSlot, withWrite, lessFirst}
 use Rattle.spec.specs.Turn.{Made, stepFinds, stepMade}
-use Rattle.spec.specs.Calls.{Answer, ok, go, absent, wait, found, more, done, refused, Outcome, stored, Test, _gives_, firstOf, wrongLength}
+use Rattle.spec.specs.Calls.{Answer, ok, go, absent, wait, found, next, more, done, refused, Outcome, stored, Test, _gives_, firstOf, wrongLength}
 use Rattle.spec.specs.Calls.{outOfRange, reading, writeInHand, placeOf, tooDeep, isHeld, fewerFree, insertAt, deleteAt, beginTests, readerTests, Call, inserting}
 use Rattle.spec.specs.Calls.{deleting, writing, beginning, turning, givingUp}
 use Rattle.spec.specs.PlainList.{Plain, carriedOut, noticeOf, acceptedWrites}
@@ -27,7 +27,7 @@ use Rattle.promise.specs.Run.{Reads, after}
 use Rattle.promise.specs.Demands.{Stands}
 use Rattle.readers.specs.Words.{Whole}
 use Rattle.spec.specs.Calls.{insertTests, deleteTests, writerTests, firstFinds, waiting}
-use Rattle.readers.specs.CallCase.{CallCase, refuses, plansInsert, plansDelete, waits, stores, begins, loads, misses, finds, leaves, testsOf}
+use Rattle.readers.specs.CallCase.{CallCase, refuses, plansInsert, plansDelete, waits, stores, begins, loads, misses, meets, finds, leaves, testsOf}
 use Rattle.readers.specs.CallCase.{TestsPass}
 use Rattle.readers.specs.Safe.{Safe}
 use Rattle.runs.specs.Sound.{store-notice}
@@ -83,10 +83,11 @@ wait-right st c o (waits d) h e =
     let s = some-slot (st .register .awaited) (a .below) d in
     (s .0, s .1, s .2, a .reads (s .0) (s .1) (s .2))
 wait-right st c o (stores a w f) h e = absurd (stored-not (stepMade st (storeOf (st .register) 0 .link) (storeOf (st .register) 0 .step)) e)
-wait-right st c o (begins t j u f) h e = absurd (let z = ap toldOf e in omega arith)
-wait-right st c o (loads t n p l f) h e = absurd (let z = ap toldOf e in omega arith)
-wait-right st c o (misses t n p l f) h e = absurd (let z = ap toldOf e in omega arith)
-wait-right st c o (finds t p d f) h e = absurd (let z = ap toldOf e in omega arith)
+wait-right st c o (begins κ t j u f) h e = absurd (let z = ap toldOf e in omega arith)
+wait-right st c o (loads t r n p l f) h e = absurd (let z = ap toldOf e in omega arith)
+wait-right st c o (misses t r n p l f g) h e = absurd (let z = ap toldOf e in omega arith)
+wait-right st c o (meets t j v n p l f g) h e = absurd (let z = ap toldOf e in omega arith)
+wait-right st c o (finds t p κ d f) h e = absurd (let z = ap toldOf e in omega arith)
 wait-right st c o (leaves t p) h e = absurd (let z = ap toldOf e in omega arith)
 
 -- No test that gives the number n refuses: each gives another, or its cause fails where it is tested.
@@ -109,6 +110,7 @@ numberOf go = 0
 numberOf absent = 0
 numberOf wait = 0
 numberOf (found v) = 0
+numberOf (next k v) = 0
 numberOf (more l n) = 0
 numberOf (done l n) = 0
 numberOf (refused n) = n
@@ -128,10 +130,11 @@ refused-by st c o n z (plansInsert j v f) e = absurd (z (sym (ap numberOf e)))
 refused-by st c o n z (plansDelete j f) e = absurd (z (sym (ap numberOf e)))
 refused-by st c o n z (waits d) e = absurd (z (sym (ap numberOf e)))
 refused-by st c o n z (stores a w f) e = absurd (z (sym (sym (stored-number (stepMade st (storeOf (st .register) 0 .link) (storeOf (st .register) 0 .step))) ∙ ap numberOf e)))
-refused-by st c o n z (begins t j u f) e = absurd (z (sym (ap numberOf e)))
-refused-by st c o n z (loads t m p l f) e = absurd (z (sym (ap numberOf e)))
-refused-by st c o n z (misses t m p l f) e = absurd (z (sym (ap numberOf e)))
-refused-by st c o n z (finds t p d f) e = absurd (z (sym (ap numberOf e)))
+refused-by st c o n z (begins κ t j u f) e = absurd (z (sym (ap numberOf e)))
+refused-by st c o n z (loads t r m p l f) e = absurd (z (sym (ap numberOf e)))
+refused-by st c o n z (misses t r m p l f g) e = absurd (z (sym (ap numberOf e)))
+refused-by st c o n z (meets t j v m p l f g) e = absurd (z (sym (ap numberOf e)))
+refused-by st c o n z (finds t p κ d f) e = absurd (z (sym (ap numberOf e)))
 refused-by st c o n z (leaves t p) e = absurd (z (sym (ap numberOf e)))
 
 -- every call tests the length first and the ranges second; no later test gives 1 or 2
@@ -147,7 +150,7 @@ pub not-one : (st : State) (c : Call) → wrongLength st ≡ false → firstOf (
 not-one st (inserting k v) r = avoided 1 (insertTests st k v) (omega arith) (inr r, λ _. others-avoid 1 (drop 1 (insertTests st k v)) (omega arith))
 not-one st (deleting k) r = avoided 1 (deleteTests st k) (omega arith) (inr r, λ _. others-avoid 1 (drop 1 (deleteTests st k)) (omega arith))
 not-one st writing r = avoided 1 (writerTests st) (omega arith) (inr r, λ _. others-avoid 1 (drop 1 (writerTests st)) (omega arith))
-not-one st (beginning s k) r = avoided 1 (beginTests st s) (omega arith) (inr r, λ _. others-avoid 1 (drop 1 (beginTests st s)) (omega arith))
+not-one st (beginning κ s k) r = avoided 1 (beginTests st s) (omega arith) (inr r, λ _. others-avoid 1 (drop 1 (beginTests st s)) (omega arith))
 not-one st (turning s) r = avoided 1 (readerTests st s) (omega arith) (inr r, λ _. others-avoid 1 (drop 1 (readerTests st s)) (omega arith))
 not-one st (givingUp s) r = avoided 1 (readerTests st s) (omega arith) (inr r, λ _. others-avoid 1 (drop 1 (readerTests st s)) (omega arith))
 
@@ -155,7 +158,7 @@ pub not-two : (st : State) (c : Call) → outOfRange st ≡ false → firstOf (t
 not-two st (inserting k v) r = avoided 2 (insertTests st k v) (omega arith) (inl (omega arith), λ _. (inr r, λ _. others-avoid 2 (drop 2 (insertTests st k v)) (omega arith)))
 not-two st (deleting k) r = avoided 2 (deleteTests st k) (omega arith) (inl (omega arith), λ _. (inr r, λ _. others-avoid 2 (drop 2 (deleteTests st k)) (omega arith)))
 not-two st writing r = avoided 2 (writerTests st) (omega arith) (inl (omega arith), λ _. (inr r, λ _. others-avoid 2 (drop 2 (writerTests st)) (omega arith)))
-not-two st (beginning s k) r = avoided 2 (beginTests st s) (omega arith) (inl (omega arith), λ _. (inr r, λ _. others-avoid 2 (drop 2 (beginTests st s)) (omega arith)))
+not-two st (beginning κ s k) r = avoided 2 (beginTests st s) (omega arith) (inl (omega arith), λ _. (inr r, λ _. others-avoid 2 (drop 2 (beginTests st s)) (omega arith)))
 not-two st (turning s) r = avoided 2 (readerTests st s) (omega arith) (inl (omega arith), λ _. (inr r, λ _. others-avoid 2 (drop 2 (readerTests st s)) (omega arith)))
 not-two st (givingUp s) r = avoided 2 (readerTests st s) (omega arith) (inl (omega arith), λ _. (inr r, λ _. others-avoid 2 (drop 2 (readerTests st s)) (omega arith)))
 
@@ -217,7 +220,7 @@ not-twelve W w st x T h g writing =
     go : (b : Bool) → eqb (st .register .awaited) 0 ≡ b → writeInHand st ≡ true → (not (not b) && not (firstFinds st)) ≡ false
     go true e n = not-true (firstFinds st) (w .stepGoes st x T h g (eqb-true (st .register .awaited) 0 e) n)
     go false e n = refl
-not-twelve W w st x T h g (beginning s k) = avoided 12 (beginTests st s) (omega arith) (inl (omega arith), λ _. (inl (omega arith), λ _. (inl (omega arith), λ _. (inl (omega arith), λ _. tt))))
+not-twelve W w st x T h g (beginning κ s k) = avoided 12 (beginTests st s) (omega arith) (inl (omega arith), λ _. (inl (omega arith), λ _. (inl (omega arith), λ _. (inl (omega arith), λ _. tt))))
 not-twelve W w st x T h g (turning s) = avoided 12 (readerTests st s) (omega arith) (inl (omega arith), λ _. (inl (omega arith), λ _. (inl (omega arith), λ _. (inl (omega arith), λ _. tt))))
 not-twelve W w st x T h g (givingUp s) = avoided 12 (readerTests st s) (omega arith) (inl (omega arith), λ _. (inl (omega arith), λ _. (inl (omega arith), λ _. (inl (omega arith), λ _. tt))))
 
@@ -246,8 +249,9 @@ turn-goes st c o (plansInsert j v f) e z = refl
 turn-goes st c o (plansDelete j f) e z = refl
 turn-goes st c o (waits d) e z = absurd (d z)
 turn-goes st c o (stores a w f) e z = store-notice (stepMade st (storeOf (st .register) 0 .link) (storeOf (st .register) 0 .step))
-turn-goes st c o (begins t j u f) e z = refl
-turn-goes st c o (loads t n p l f) e z = refl
-turn-goes st c o (misses t n p l f) e z = refl
-turn-goes st c o (finds t p d f) e z = refl
+turn-goes st c o (begins κ t j u f) e z = refl
+turn-goes st c o (loads t r n p l f) e z = refl
+turn-goes st c o (misses t r n p l f g) e z = refl
+turn-goes st c o (meets t j v n p l f g) e z = refl
+turn-goes st c o (finds t p κ d f) e z = refl
 turn-goes st c o (leaves t p) e z = refl

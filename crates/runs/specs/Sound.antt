@@ -7,6 +7,7 @@ use mathlib.Core.Logic.{_≢_, inl, _↔_}
 use native.Mathlib.Omega.{arith}
 use lib.ListN.{length-append}
 use lib.Dec.{eqb}
+use Rattle.datatypes.specs.declared.Remembered.{Remembered}
 use Rattle.datatypes.specs.declared.Reader.{Reader}
 use Rattle.spec.specs.Numbers.{leastNodes, mostNodes, slots}
 use Rattle.spec.specs.Pool.{child, standingLinked, nodes as poolNodes}
@@ -21,7 +22,7 @@ use Rattle.tree.specs.Linked.{Linked, nodes}
 use Rattle.heap.specs.Rep.{Rep, alike-refl, upToColour}
 use Rattle.readers.specs.Release.{ended, freedBelow, end-released}
 use Rattle.readers.specs.Reach.{HasStanding, Kept, LinkedClosed, leads-on, leads-in, in-leads, kept-child, end-linked, linked-end}
-use Rattle.readers.specs.CallCase.{CallCase, refuses, plansInsert, plansDelete, waits, stores, begins, loads, misses, finds, leaves, Loads, atRoot, atNode, Passed}
+use Rattle.readers.specs.CallCase.{CallCase, refuses, plansInsert, plansDelete, waits, stores, begins, loads, misses, meets, finds, leaves, childLoaded, Loads, atRoot, lookingUp, searching, Passed}
 use Rattle.readers.specs.Safe.{Safe, safe-write, safe-reader, safe-end, safe-turn}
 use Rattle.promise.specs.Run.{Start, outset, Reads}
 use Rattle.promise.specs.Demands.{arrived}
@@ -79,10 +80,15 @@ module _ (W : State → Plain → Linked → Type 0) (writer : Writer W) where
     pub holds : W st x tree
 
   -- the child, or the root, that a slot loads is kept for it
-  pub kept-load : (st : State) (s n : ℕ) → Safe st → Passed st s → Loads st s n → n ≢ 0 → Kept (st .pool) s n
-  kept-load st s n h p (atRoot e i) d = rw i (inl (h .root (λ z. d (i ∙ z))))
-  kept-load st s n h p (atNode a b i) d = rw i (kept-child (st .pool) s (readerOf (st .register) s .node)
-      (towards (st .pool) (readerOf (st .register) s .key) (readerOf (st .register) s .node)) (p .low) (h .closed) (h .at s (p .low) (p .reads) a) (λ z. d (i ∙ z)))
+  kept-loaded : (st : State) (s n : ℕ) → Safe st → Passed st s → readerOf (st .register) s .node ≢ 0 → n ≡ childLoaded st s → n ≢ 0 → Kept (st .pool) s n
+  kept-loaded st s n h p a i d =
+      let x = readerOf (st .register) s in
+      rw i (kept-child (st .pool) s (x .node) (towards (st .pool) (x .key) (x .node)) (p .low) (h .closed) (h .at s (p .low) (p .reads) a) (λ z. d (i ∙ z)))
+
+  kept-load : (st : State) (s : ℕ) (m : Remembered) (n : ℕ) → Safe st → Passed st s → Loads st s m n → n ≢ 0 → Kept (st .pool) s n
+  kept-load st s m n h p (atRoot e j i) d = rw i (inl (h .root (λ z. d (i ∙ z))))
+  kept-load st s m n h p (lookingUp κ a b j i) d = kept-loaded st s n h p a i d
+  kept-load st s m n h p (searching κ a j i) d = kept-loaded st s n h p a i d
 
   safe-store : (st : State) (m : Made) (x : Plain) (T : Linked) → Safe st → (s : Stores st m T (λ t. W (stored m .after) x t)) → Safe (stored m .after)
   safe-store st m x T h s =
@@ -91,6 +97,21 @@ module _ (W : State → Plain → Linked → Type 0) (writer : Writer W) where
       let l = writer .linked after x (s .tree) (s .kept) in
       safe-turn st after (s .came) (s .gone) (m .link) (m .node) h (s .turn) (tree-closed (after .pool) (after .register .root) (s .tree) r l)
       (root-linked (after .pool) (after .register .root) (s .tree) r l)
+
+  sound-reader : (st : State) (x : Plain) (s : ℕ) (y : Reader) → s < slots → y .reading ≡ true → (y .node ≢ 0 → Kept (st .pool) s (y .node)) → Sound st x
+      → Sound (state (st .pool) (withReader (st .register) s y)) x
+  sound-reader st x s y u e k h = record {
+    safe = safe-reader st s y u e k (h .safe);
+    tree = h .tree;
+    holds = writer .leavesTree st _ x (h .tree) (h .holds) (leavesTree-reader st s y);
+  }
+
+  sound-end : (st : State) (x : Plain) (s : ℕ) → s < slots → Sound st x → Sound (endReading st s) x
+  sound-end st x s u h = record {
+    safe = safe-end st s u (h .safe);
+    tree = h .tree;
+    holds = writer .leavesTree st _ x (h .tree) (h .holds) (leavesTree-end st s u (h .safe));
+  }
 
   pub sound-next : (st : State) (x : Plain) (c : Call) (o : Outcome) → CallCase st c o → Sound st x → Sound (o .after) (feed x c (noticeOf (o .answer)))
   sound-next st x c o (refuses d n) h = h
@@ -101,24 +122,12 @@ module _ (W : State → Plain → Linked → Type 0) (writer : Writer W) where
       let s = writer .store st x (h .tree) (h .safe) (h .holds) a w f in
       rw (store-notice (firstMade st))
       (record { safe = safe-store st (firstMade st) _ (h .tree) (h .safe) s; tree = s .tree; holds = s .kept })
-  sound-next st x c o (begins s k u e) h =
-      record {
-        safe = safe-reader st s _ u refl (λ d. absurd (d refl)) (h .safe);
-        tree = h .tree;
-        holds = writer .leavesTree st _ x (h .tree) (h .holds) (leavesTree-reader st s _);
-      }
-  sound-next st x c o (loads s n p l d) h =
-      record {
-        safe = safe-reader st s _ (p .low) refl (λ _. kept-load st s n (h .safe) p l d) (h .safe);
-        tree = h .tree;
-        holds = writer .leavesTree st _ x (h .tree) (h .holds) (leavesTree-reader st s _);
-      }
-  sound-next st x c o (misses s n p l e) h =
-      record { safe = safe-end st s (p .low) (h .safe); tree = h .tree; holds = writer .leavesTree st _ x (h .tree) (h .holds) (leavesTree-end st s (p .low) (h .safe)) }
-  sound-next st x c o (finds s p d e) h =
-      record { safe = safe-end st s (p .low) (h .safe); tree = h .tree; holds = writer .leavesTree st _ x (h .tree) (h .holds) (leavesTree-end st s (p .low) (h .safe)) }
-  sound-next st x c o (leaves s p) h =
-      record { safe = safe-end st s (p .low) (h .safe); tree = h .tree; holds = writer .leavesTree st _ x (h .tree) (h .holds) (leavesTree-end st s (p .low) (h .safe)) }
+  sound-next st x c o (begins κ s k u e) h = sound-reader st x s _ u refl (λ d. absurd (d refl)) h
+  sound-next st x c o (loads s m n p l d) h = sound-reader st x s _ (p .low) refl (λ _. kept-load st s m n (h .safe) p l d) h
+  sound-next st x c o (misses s m n p l e f) h = sound-end st x s (p .low) h
+  sound-next st x c o (meets s k v n p l e f) h = sound-end st x s (p .low) h
+  sound-next st x c o (finds s p κ d e) h = sound-end st x s (p .low) h
+  sound-next st x c o (leaves s p) h = sound-end st x s (p .low) h
 
   -- What a run needs of its start: both sides of the invariant, every word and field in its range, no slot reading.
   pub record Starts (S : Start) : Type 0 where

@@ -6,25 +6,29 @@ use mathlib.Core.Option.{Option, none, some}
 use mathlib.Core.Logic.{_⊎_, inl, inr}
 use native.Mathlib.Omega.{arith}
 use native.Mathlib.Decide.{ℕ-discrete}
+use Rattle.datatypes.specs.declared.Kind.{Kind}
+use Rattle.datatypes.specs.declared.Kind.the-variants as kind
+use Rattle.datatypes.specs.declared.Remembered.the-variants.{Nothing, Ticket}
 use Rattle.spec.specs.Numbers.{slots}
 use Rattle.spec.specs.Pool.{standingWord}
 use Rattle.spec.specs.Register.{State}
-use Rattle.spec.specs.Calls.{Answer, ok, absent, found, Call, beginning, turning, givingUp, call}
+use Rattle.spec.specs.Calls.{Answer, ok, absent, found, next, Call, beginning, turning, givingUp, call}
 use Rattle.spec.specs.PlainList.{Plain, recordFor}
 use Rattle.laws.specs.Words.{word-none}
 use Rattle.tree.specs.Linked.{Linked}
 use Rattle.promise.specs.Run.{Start, Reads, Moment, thenPerhaps, callAt, after, indexAfter, plainAfter, ticketsAfter, Gives, Ends, Reading}
-use Rattle.promise.specs.Demands.{AtOneMoment, LookupsRight, Going, answerOf, TreeHolds, Reaches, NodesKept, Demand3}
+use Rattle.promise.specs.Demands.{AtOneMoment, LookupsRight, NextSearchesRight, Going, answerOf, TreeHolds, Reaches, NodesKept, Demand3}
 use Rattle.readers.specs.Reach.{Kept, kept-stands}
 use Rattle.readers.specs.QueueExact.{QueueExact}
+use Rattle.readers.specs.Trays.{Answered}
 use Rattle.readers.specs.Descends.{going-root}
 use Rattle.readers.specs.CallCase.{call-case}
 use Rattle.readers.specs.Safe.{Safe, safe-reach}
 use Rattle.runs.specs.Writer.{Writer}
 use Rattle.runs.specs.Sound.{Sound, sound-next, Starts}
-use Rattle.runs.specs.Slot.{stand-more}
-use Rattle.runs.specs.Follow.{BeginsBy, EndsBy, StandAt, stand-next, kept-next}
-use Rattle.runs.specs.Answers.{begun-right, found-right, absent-right, read-before}
+use Rattle.runs.specs.Slot.{kindNumber, StandAt, EmptyRight, stand-more}
+use Rattle.runs.specs.Follow.{BeginsBy, EndsBy, stand-next, kept-next}
+use Rattle.runs.specs.Answers.{begun-right, found-right, absent-right, next-right, read-before}
 
 -- the call that there is
 abbrev given : Call → Option Call → Call
@@ -60,110 +64,135 @@ module _ (W : State → Plain → Linked → Type 0) (writer : Writer W) (S : St
   sound-at zero = starts .sound
   sound-at (suc j) = sound-perhaps (after S cs j) (callAt cs j) (sound-at j)
 
-  -- the answers possible for the key k at the moments of a lookup begun by call i, up to moment j
+  -- the answers possible for each key k at the moments of a reading begun by call i, up to moment j
   abbrev Possible : ℕ → ℕ → ℕ → Option ℕ → Type 0
-  Possible k i j o = (t : ℕ) × (i < t) × (t ≤ j) × (recordFor k (ticketsAfter S cs t) ≡ o)
+  Possible i j k o = (t : ℕ) × (i < t) × (t ≤ j) × (recordFor k (ticketsAfter S cs t) ≡ o)
 
-  later : (k i j : ℕ) (o : Option ℕ) → Possible k i j o → Possible k i (suc j) o
-  later k i j o p = (p .0, p .1, (let a = p .2 in omega arith), p .3)
+  later : (i j k : ℕ) (o : Option ℕ) → Possible i j k o → Possible i (suc j) k o
+  later i j k o p = (p .0, p .1, (let a = p .2 in omega arith), p .3)
 
-  now : (k i j : ℕ) → i < j → Possible k i j (recordFor k (ticketsAfter S cs j))
-  now k i j u = (j, u, omega arith, refl)
+  now : (i j : ℕ) → i < j → (k : ℕ) → Possible i j k (recordFor k (ticketsAfter S cs j))
+  now i j u k = (j, u, omega arith, refl)
 
   -- a call that ends the slot's reading, as the run says it
   ends-at : (s j : ℕ) (c : Call) → callAt cs j ≡ some c → EndsBy c (call (at j) c .answer) s → Ends S cs s j
   ends-at s j c e (inl x) = inl (to-run S cs j c (turning s) absent e x)
   ends-at s j c e (inr (inl x)) = inr (inl (x .0, to-run S cs j c (turning s) (found (x .0)) e (x .1)))
-  ends-at s j c e (inr (inr x)) = inr (inr (to-run S cs j c (givingUp s) ok e x))
+  ends-at s j c e (inr (inr (inl x))) = inr (inr (inl (x .0, x .1, to-run S cs j c (turning s) (next (x .0) (x .1)) e (x .2))))
+  ends-at s j c e (inr (inr (inr x))) = inr (inr (inr (to-run S cs j c (givingUp s) ok e x)))
 
-  -- one moment less of a lookup
-  pub shorter : (s k i j m : ℕ) → i < m → m ≤ j → Reading S cs s k i j → Reading S cs s k i m
-  shorter s k i j m a b l = record { begins = l .begins; later = a; lasts = λ t u v. l .lasts t u (omega arith) }
+  -- one moment less of a reading
+  pub shorter : (κ : Kind) (s k i j m : ℕ) → i < m → m ≤ j → Reading S cs κ s k i j → Reading S cs κ s k i m
+  shorter κ s k i j m a b l = record { begins = l .begins; later = a; lasts = λ t u v. l .lasts t u (omega arith) }
 
-  -- A slot stands right at each moment of its lookup.
-  stand-perhaps : (s k i j : ℕ) (c : Option Call) → callAt cs j ≡ c → i < j → s < slots → ¬ (Ends S cs s j) → StandAt (at j) (Possible k i j) s k
-      → Possible k i (suc j) (recordFor k (thenPerhaps (after S cs j) c .plain .tickets)) → StandAt (thenPerhaps (after S cs j) c .index) (Possible k i (suc j)) s k
-  stand-perhaps s k i j none e u low lasts g p = stand-more _ _ _ _ (Possible k i j) (Possible k i (suc j)) s k (later k i j) g
-  stand-perhaps s k i j (some c) e u low lasts g p =
-      stand-next W writer (at j) (list j) c (call (at j) c) (call-case (at j) c) (sound-at j) (Possible k i j) (Possible k i (suc j)) s k low (later k i j) (now k i j u) p
+  -- A slot stands right at each moment of its reading.
+  stand-perhaps : (κ : Kind) (s k i j : ℕ) (c : Option Call) → callAt cs j ≡ c → i < j → s < slots → ¬ (Ends S cs s j) → StandAt (at j) (Possible i j) κ s k
+      → ((q : ℕ) → Possible i (suc j) q (recordFor q (thenPerhaps (after S cs j) c .plain .tickets))) → StandAt (thenPerhaps (after S cs j) c .index) (Possible i (suc j)) κ s k
+  stand-perhaps κ s k i j none e u low lasts g p = stand-more _ _ _ _ (Possible i j) (Possible i (suc j)) κ s k (later i j) g
+  stand-perhaps κ s k i j (some c) e u low lasts g p =
+      stand-next W writer (at j) (list j) c (call (at j) c) (call-case (at j) c) (sound-at j) (Possible i j) (Possible i (suc j)) κ s k low (later i j) (now i j u) p
       (λ x. lasts (ends-at s j c e x)) g
 
-  begin-perhaps : (s k i : ℕ) (c : Option Call) → callAt cs i ≡ c → Gives S cs i (beginning s k) ok → (s < slots) × StandAt (thenPerhaps (after S cs i) c .index) (Possible k i (suc i)) s k
-  begin-perhaps s k i none e g = absurd (let z : _≡_ {A = ℕ} 0 1 = (let x = sym e ∙ g .0 in cc) in omega arith)
-  begin-perhaps s k i (some c) e g =
-      begun-right (at i) c (call (at i) c) (Possible k i (suc i)) s k (call-case (at i) c) (sound-at i .safe) (by-call S cs i c (beginning s k) ok e g)
+  begin-perhaps : (κ : Kind) (s k i : ℕ) (c : Option Call) → callAt cs i ≡ c → Gives S cs i (beginning κ s k) ok
+      → (s < slots) × StandAt (thenPerhaps (after S cs i) c .index) (Possible i (suc i)) κ s k
+  begin-perhaps κ s k i none e g = absurd (let z : _≡_ {A = ℕ} 0 1 = (let x = sym e ∙ g .0 in cc) in omega arith)
+  begin-perhaps κ s k i (some c) e g =
+      begun-right (at i) c (call (at i) c) (Possible i (suc i)) κ s k (call-case (at i) c) (sound-at i .safe) (by-call S cs i c (beginning κ s k) ok e g)
 
-  pub stands : (s k i j : ℕ) → Reading S cs s k i j → (s < slots) × StandAt (at j) (Possible k i j) s k
+  pub stands : (κ : Kind) (s k i j : ℕ) → Reading S cs κ s k i j → (s < slots) × StandAt (at j) (Possible i j) κ s k
   unfolding after
-  stands s k i zero l = absurd (let z = l .later in omega arith)
-  stands s k i (suc j) l = elim (ℕ-discrete i j) [
-    | yes e ↦ subst (λ m. (s < slots) × StandAt (thenPerhaps (after S cs m) (callAt cs m) .index) (Possible k i (suc m)) s k) e (begin-perhaps s k i (callAt cs i) refl (l .begins))
+  stands κ s k i zero l = absurd (let z = l .later in omega arith)
+  stands κ s k i (suc j) l = elim (ℕ-discrete i j) [
+    | yes e ↦ subst (λ m. (s < slots) × StandAt (thenPerhaps (after S cs m) (callAt cs m) .index) (Possible i (suc m)) κ s k) e (begin-perhaps κ s k i (callAt cs i) refl (l .begins))
     | no d ↦
         (let u : i < j = (let z = l .later in omega arith) in
-        let g = stands s k i j (shorter s k i (suc j) j u (omega arith) l) in
-        (g .0, stand-perhaps s k i j (callAt cs j) refl u (g .0) (l .lasts j u (omega arith)) (g .1) (now k i (suc j) (omega arith))))
+        let g = stands κ s k i j (shorter κ s k i (suc j) j u (omega arith) l) in
+        (g .0, stand-perhaps κ s k i j (callAt cs j) refl u (g .0) (l .lasts j u (omega arith)) (g .1) (now i (suc j) (omega arith))))
   ]
 
-  -- the other way: a reading slot is in a lookup
+  -- the other way: a reading slot is in a reading
   ends-by : (s j : ℕ) (c : Call) → callAt cs j ≡ some c → Ends S cs s j → EndsBy c (call (at j) c .answer) s
   ends-by s j c e (inl x) = inl (by-call S cs j c (turning s) absent e x)
   ends-by s j c e (inr (inl x)) = inr (inl (x .0, by-call S cs j c (turning s) (found (x .0)) e (x .1)))
-  ends-by s j c e (inr (inr x)) = inr (inr (by-call S cs j c (givingUp s) ok e x))
+  ends-by s j c e (inr (inr (inl x))) = inr (inr (inl (x .0, x .1, by-call S cs j c (turning s) (next (x .0) (x .1)) e (x .2))))
+  ends-by s j c e (inr (inr (inr x))) = inr (inr (inr (by-call S cs j c (givingUp s) ok e x)))
 
   none-ends : (s j : ℕ) → callAt cs j ≡ none → ¬ (Ends S cs s j)
   none-ends s j e (inl x) = let z = ap thereIs (sym e ∙ x .0) in omega arith
   none-ends s j e (inr (inl x)) = let z = ap thereIs (sym e ∙ x .1 .0) in omega arith
-  none-ends s j e (inr (inr x)) = let z = ap thereIs (sym e ∙ x .0) in omega arith
+  none-ends s j e (inr (inr (inl x))) = let z = ap thereIs (sym e ∙ x .2 .0) in omega arith
+  none-ends s j e (inr (inr (inr x))) = let z = ap thereIs (sym e ∙ x .0) in omega arith
 
-  longer : (s k i j : ℕ) → Reading S cs s k i j → ¬ (Ends S cs s j) → Reading S cs s k i (suc j)
-  longer s k i j l h = record {
+  longer : (κ : Kind) (s k i j : ℕ) → Reading S cs κ s k i j → ¬ (Ends S cs s j) → Reading S cs κ s k i (suc j)
+  longer κ s k i j l h = record {
     begins = l .begins;
     later = (let z = l .later in omega arith);
     lasts = λ t a b x. elim (ℕ-discrete t j) [ yes y ↦ h (subst (λ m. Ends S cs s m) y x) | no d ↦ l .lasts t a (omega arith) x ];
   }
 
   abbrev In : ℕ → ℕ → Type 0
-  In s j = (k : ℕ) × (i : ℕ) × Reading S cs s k i j
+  In s j = (κ : Kind) × (k : ℕ) × (i : ℕ) × Reading S cs κ s k i j
 
   in-perhaps : (s j : ℕ) (c : Option Call) → callAt cs j ≡ c → s < slots → Reads (thenPerhaps (after S cs j) c .index) s → (Reads (at j) s → In s j) → In s (suc j)
-  in-perhaps s j none q u e f = let z = f e in (z .0, z .1, longer s (z .0) (z .1) j (z .2) (none-ends s j q))
+  in-perhaps s j none q u e f = let z = f e in (z .0, z .1, z .2, longer (z .0) s (z .1) (z .2) j (z .3) (none-ends s j q))
   in-perhaps s j (some c) q u e f = go (read-before W writer (at j) (list j) c (call (at j) c) (call-case (at j) c) (sound-at j) s u e)
     where
-      go : (Reads (at j) s × (¬ (EndsBy c (call (at j) c .answer) s))) ⊎ ((k : ℕ) × BeginsBy c (call (at j) c .answer) s k) → In s (suc j)
-      go (inl x) = let z = f (x .0) in (z .0, z .1, longer s (z .0) (z .1) j (z .2) (λ y. x .1 (ends-by s j c q y)))
+      go : (Reads (at j) s × (¬ (EndsBy c (call (at j) c .answer) s))) ⊎ ((κ : Kind) × (k : ℕ) × BeginsBy c (call (at j) c .answer) κ s k) → In s (suc j)
+      go (inl x) = let z = f (x .0) in (z .0, z .1, z .2, longer (z .0) s (z .1) (z .2) j (z .3) (λ y. x .1 (ends-by s j c q y)))
       go (inr x) = (
         x .0,
+        x .1,
         j,
         record {
-          begins = to-run S cs j c (beginning s (x .0)) ok q (x .1);
+          begins = to-run S cs j c (beginning (x .0) s (x .1)) ok q (x .2);
           later = omega arith;
           lasts = λ t a b. absurd (omega arith);
         },
       )
 
-  in-lookup : (s j : ℕ) → s < slots → Reads (at j) s → In s j
+  in-reading : (s j : ℕ) → s < slots → Reads (at j) s → In s j
   unfolding after
-  in-lookup s zero u e = absurd (starts .quiet s u e)
-  in-lookup s (suc j) u e = in-perhaps s j (callAt cs j) refl u e (in-lookup s j u)
+  in-reading s zero u e = absurd (starts .quiet s u e)
+  in-reading s (suc j) u e = in-perhaps s j (callAt cs j) refl u e (in-reading s j u)
 
-  -- Part 1.
+  -- Part 1. The turn of slot s that is call j, in its reading of the key k.
+  module _ (κ : Kind) (s k i j : ℕ) (l : Reading S cs κ s k i j) where
+    found-turn : (v : ℕ) → Gives S cs j (turning s) (found v) → (κ ≡ kind.Lookup) × Possible i j k (some v)
+    found-turn v g =
+        let z = stands κ s k i j l in
+        found-right W writer (at j) (list j) (sound-at j) (Possible i j) (now i j (l .later)) s k (z .0) κ v (call (at j) (turning s)) (call-case (at j) (turning s)) (g .1) (z .1)
+
+    absent-turn : Gives S cs j (turning s) absent → EmptyRight κ (Possible i j) k Nothing
+    absent-turn g =
+        let z = stands κ s k i j l in
+        absent-right W writer (at j) (list j) (sound-at j) (Possible i j) (now i j (l .later)) s k (z .0) κ (call (at j) (turning s)) (call-case (at j) (turning s)) (g .1) (z .1)
+
+    next-turn : (q v : ℕ) → Gives S cs j (turning s) (next q v) → (κ ≡ kind.Next) × Answered (Possible i j) k (Ticket q v)
+    next-turn q v g =
+        let z = stands κ s k i j l in
+        next-right W writer (at j) (list j) (sound-at j) (Possible i j) (now i j (l .later)) s k (z .0) κ q v (call (at j) (turning s)) (call-case (at j) (turning s)) (g .1) (z .1)
+
+  widen : (i j k : ℕ) (o : Option ℕ) → Possible i j k o → AtOneMoment S cs k i j o
+  widen i j k o p = (p .0, p .1, (let a = p .2 in omega arith), p .3)
+
   lookups : LookupsRight S cs
   lookups = record {
-    whenFound = λ s k i j v l g. (
-        let z = stands s k i j l in
-        widen k i j (some v) (found-right W writer (at j) (list j) (turning s) (call (at j) (turning s)) (Possible k i j) s k v (call-case (at j) (turning s)) (sound-at j) (refl, g .1) (z .1))
-        );
-    whenAbsent = λ s k i j l g. (
-        let z = stands s k i j l in
-        widen k i j none (absent-right W writer (at j) (list j) (turning s) (call (at j) (turning s)) (Possible k i j) s k (call-case (at j) (turning s)) (sound-at j) (refl, g .1)
-        (now k i j (l .later)) (z .1))
-        );
-    reads = λ s k i j l. (let z = stands s k i j l in (z .0, z .1 .reads, z .1 .key));
-    inLookup = in-lookup;
+    whenFound = λ s k i j v l g. widen i j k (some v) (found-turn kind.Lookup s k i j l v g .1);
+    whenAbsent = λ s k i j l g. widen i j k none (absent-turn kind.Lookup s k i j l g);
+    notNext = λ s k i j q v l g. (let e = ap kindNumber (next-turn kind.Lookup s k i j l q v g .0) in omega arith);
+    reads = λ κ s k i j l. (let z = stands κ s k i j l in (z .0, z .1 .reads, z .1 .key, z .1 .kind));
+    inLookup = in-reading;
   }
-    where
-      widen : (k i j : ℕ) (o : Option ℕ) → Possible k i j o → AtOneMoment S cs k i j o
-      widen k i j o p = (p .0, p .1, (let a = p .2 in omega arith), p .3)
+
+  next-searches : NextSearchesRight S cs
+  next-searches = record {
+    whenNext = λ s k i j q v l g. (
+        let z = next-turn kind.Next s k i j l q v g .1 in
+        (z .0, widen i j q (some v) (z .1), λ r a b. widen i j r none (z .2 r a b))
+        );
+    whenNone = λ s k i j l g r a. widen i j r none (absent-turn kind.Next s k i j l g r a);
+    notFound = λ s k i j v l g. (let e = ap kindNumber (found-turn kind.Next s k i j l v g .0) in omega arith);
+  }
 
   -- Part 2.
   holds : TreeHolds S cs
@@ -176,25 +205,25 @@ module _ (W : State → Plain → Linked → Type 0) (writer : Writer W) (S : St
     keysHeld = λ j. (let h = sound-at j in writer .held (at j) (list j) (h .tree) (h .holds));
   }
 
-  -- Part 3. What is kept for a slot at a moment of its lookup is kept until the lookup ends.
-  kept-perhaps : (s k i j m : ℕ) (c : Option Call) → callAt cs j ≡ c → Reading S cs s k i j → ¬ (Ends S cs s j) → Kept (at j .pool) s m → Kept (thenPerhaps (after S cs j) c .index .pool) s m
-  kept-perhaps s k i j m none e l lasts h = h
-  kept-perhaps s k i j m (some c) e l lasts h =
-      let g = stands s k i j l in
+  -- Part 3. What is kept for a slot at a moment of its reading is kept until the reading ends.
+  kept-perhaps : (κ : Kind) (s k i j m : ℕ) (c : Option Call) → callAt cs j ≡ c → Reading S cs κ s k i j → ¬ (Ends S cs s j) → Kept (at j .pool) s m → Kept (thenPerhaps (after S cs j) c .index .pool) s m
+  kept-perhaps κ s k i j m none e l lasts h = h
+  kept-perhaps κ s k i j m (some c) e l lasts h =
+      let g = stands κ s k i j l in
       kept-next W writer (at j) (list j) c (call (at j) c) (call-case (at j) c) (sound-at j) s m (g .0) (g .1 .reads) (λ x. lasts (ends-at s j c e x)) h
 
-  kept-until : (s k i j t m d : ℕ) → Reading S cs s k i j → i < t → Kept (at t .pool) s m → t + d ≤ j → Kept (at (t + d) .pool) s m
+  kept-until : (κ : Kind) (s k i j t m d : ℕ) → Reading S cs κ s k i j → i < t → Kept (at t .pool) s m → t + d ≤ j → Kept (at (t + d) .pool) s m
   unfolding after
-  kept-until s k i j t m zero l a h u = let e : t + 0 ≡ t = omega arith in rw e h
-  kept-until s k i j t m (suc d) l a h u =
+  kept-until κ s k i j t m zero l a h u = let e : t + 0 ≡ t = omega arith in rw e h
+  kept-until κ s k i j t m (suc d) l a h u =
       let e : t + suc d ≡ suc (t + d) = omega arith in
-      let before = kept-until s k i j t m d l a h (omega arith) in
-      rw e (kept-perhaps s k i (t + d) m (callAt cs (t + d)) refl (shorter s k i j (t + d) (omega arith) (omega arith) l) (l .lasts (t + d) (omega arith) (omega arith)) before)
+      let before = kept-until κ s k i j t m d l a h (omega arith) in
+      rw e (kept-perhaps κ s k i (t + d) m (callAt cs (t + d)) refl (shorter κ s k i j (t + d) (omega arith) (omega arith) l) (l .lasts (t + d) (omega arith) (omega arith)) before)
 
-  kept-at : (s k i j t m u : ℕ) → Reading S cs s k i j → i < t → Reaches (at t) s m → t ≤ u → u ≤ j → Kept (at u .pool) s m
-  kept-at s k i j t m u l a r b c =
+  kept-at : (κ : Kind) (s k i j t m u : ℕ) → Reading S cs κ s k i j → i < t → Reaches (at t) s m → t ≤ u → u ≤ j → Kept (at u .pool) s m
+  kept-at κ s k i j t m u l a r b c =
       let e : t + (u - t) ≡ u = omega arith in
-      rw e at (kept-until s k i j t m (u - t) l a (safe-reach (at t) s m (sound-at t .safe) r) (omega arith))
+      rw e at (kept-until κ s k i j t m (u - t) l a (safe-reach (at t) s m (sound-at t .safe) r) (omega arith))
 
   -- the first free node is kept for no slot
   first-free : (st : State) (s m : ℕ) → Safe st → st .register .first ≡ m → ¬ (Kept (st .pool) s m)
@@ -206,9 +235,9 @@ module _ (W : State → Plain → Linked → Type 0) (writer : Writer W) (S : St
 
   kept : NodesKept S cs
   kept = record {
-    notFree = λ s k i j t m u l a r b c. kept-stands (at u .pool) s m (kept-at s k i j t m u l a r b c);
-    notTaken = λ s k i j t m u c l a r b d e x. first-free (at u) s m (sound-at u .safe) (x .first) (kept-at s k i j t m u l a r b (omega arith));
+    notFree = λ κ s k i j t m u l a r b c. kept-stands (at u .pool) s m (kept-at κ s k i j t m u l a r b c);
+    notTaken = λ κ s k i j t m u c l a r b d e x. first-free (at u) s m (sound-at u .safe) (x .first) (kept-at κ s k i j t m u l a r b (omega arith));
   }
 
   pub demand3 : Demand3 S cs
-  demand3 = record { lookups = lookups; holds = holds; kept = kept }
+  demand3 = record { lookups = lookups; nextSearches = next-searches; holds = holds; kept = kept }

@@ -43,7 +43,7 @@ started-feed x c waited = refl
 started-feed x (inserting k v) carriedOut = refl
 started-feed x (deleting k) carriedOut = refl
 started-feed x writing carriedOut = started-store x (x .inHand)
-started-feed x (beginning s k) carriedOut = refl
+started-feed x (beginning κ s k) carriedOut = refl
 started-feed x (turning s) carriedOut = refl
 started-feed x (givingUp s) carriedOut = refl
 
