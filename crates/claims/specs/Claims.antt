@@ -1,8 +1,8 @@
 -- What the promise (crate theorem) excludes, each by a run that is computed (Computed): 01's useless indexes ('What pins the work', 2), and
 -- claims that come near to those of demand 3 and are false. An index is excluded if what a clause says of one of its calls is false.
 use Prim.Native.Nat.{ℕ, _+_, _<_, _≤_}
-use mathlib.Core.Path.{_≡_, sym, ap, _∙_}
-use mathlib.Core.Bool.{true, false, false≢true}
+use mathlib.Core.Path.{_≡_, refl, sym, ap, _∙_, subst}
+use mathlib.Core.Bool.{Bool, true, false, not, false≢true}
 use mathlib.Core.List.{List}
 use mathlib.Core.Option.{Option, none, some}
 use mathlib.Core.Logic.{_≢_, _⊎_, inl, inr, ⊎-map, ⊎-elim, _↔_}
@@ -12,21 +12,24 @@ use lib.ListN.{length, getD}
 use Rattle.datatypes.specs.declared.Side.the-variants.{L, R}
 use Rattle.datatypes.specs.declared.Link.{Link}
 use Rattle.datatypes.specs.declared.Link.the-variants.{Root, Left}
+use Rattle.datatypes.specs.declared.Kind.{Kind}
+use Rattle.datatypes.specs.declared.Kind.the-variants as kind
 use Rattle.datatypes.specs.declared.Register.{Register}
 use Rattle.base.specs.Lists.{_∈_, Distinct, length-within, numbersFrom, numbers-in, numbers-distinct, getD-same}
+use Rattle.base.specs.Walk.{all-in}
 use Rattle.sequential.specs.Tree.{leaf}
 use Rattle.sequential.specs.Delete.{changedBy}
 use Rattle.spec.specs.Numbers.{leastNodes, mostNodes, slots}
 use Rattle.spec.specs.Pool.{word, child, nodes, keyWord, standingFree, standingLinked, standingRetired}
 use Rattle.spec.specs.Register.{State, state, noReader, nodeAt, hasSlot, isRoot}
-use Rattle.spec.specs.Calls.{Answer, go, absent, found, refused, Call, inserting, call, writeInHand}
+use Rattle.spec.specs.Calls.{Answer, go, absent, found, next, refused, Call, inserting, call, writeInHand}
 use Rattle.spec.specs.PlainList.{recordFor, acceptedWrites}
-use Rattle.promise.specs.Run.{justSetUp, Reads, indexAfter, plainAfter, ticketsAfter, Reading}
+use Rattle.promise.specs.Run.{justSetUp, Reads, callAt, indexAfter, plainAfter, ticketsAfter, Turns, Reading, NextSearch}
 use Rattle.promise.specs.Demands.{AtOneMoment, turnAt, Going, ends, goes, answerOf, Leads, arrived, onward, Reaches, Stands, FreeRight}
 use Rattle.promise.specs.Demands.{standingAt, StoresOne, PromiseFrom}
 use Rattle.readers.specs.Reach.{leads-there}
 use Rattle.theorem.specs.Theorem.{promise}
-use Rattle.claims.specs.Computed.{start, lookup, rotation, before, threeKeys, computed}
+use Rattle.claims.specs.Computed.{start, lookup, rotation, before, threeKeys, nine, overtaken, tenIsNext, isBegin, computed}
 
 promised : (cs : List Call) → PromiseFrom start cs
 promised = promise 8 (omega arith) (omega arith)
@@ -150,14 +153,14 @@ list-one-call-early h =
     ended st k m a e (goes _ _ f g) = absurd (let i : _≡_ {A = Answer} absent go = sym e ∙ f in let z : _≡_ {A = ℕ} 0 1 = cc in omega arith)
 
 -- Retired counted as free, in `notFree`: a node that a reader could reach doesn't stand retired. Slot 0 stands at node 1, which is retired.
-pub retired-reached : ¬ ((cs : List Call) (s k i j t m u : ℕ) → Reading start cs s k i j → i < t → Reaches (indexAfter start cs t) s m → t ≤ u → u ≤ j
+pub retired-reached : ¬ ((cs : List Call) (κ : Kind) (s k i j t m u : ℕ) → Reading start cs κ s k i j → i < t → Reaches (indexAfter start cs t) s m → t ≤ u → u ≤ j
     → standingAt (indexAfter start cs u) m ≢ standingRetired)
 retired-reached h =
     let st = indexAfter start lookup 6 in
     let r = promised lookup .demand3 .lookups .inLookup 0 6 (omega arith) (computed .reads6) in
     let leads : Leads (st .pool) 1 1 = arrived 1 (omega arith) in
     let reaches : Reaches st 0 1 = record { slot = omega arith; reads = computed .reads6; leads = rw (computed .origin6) leads } in
-    h lookup 0 (r .0) (r .1) 6 6 1 6 (r .2) (r .2 .later) reaches (omega arith) (omega arith) (computed .retired6)
+    h lookup (r .0) 0 (r .1) (r .2) 6 6 1 6 (r .3) (r .3 .later) reaches (omega arith) (omega arith) (computed .retired6)
 
 -- and in `FreeRight`: the free count is the number of nodes that stand free or retired. There all eight do, and the count is seven.
 pub record RetiredCounted (st : State) : Type 0 where
@@ -193,3 +196,22 @@ module _ (N : ℕ) (low : leastNodes ≤ N) (high : N ≤ mostNodes) (cs : List 
 
   pub size-right : (j : ℕ) → nodes (indexAfter (justSetUp N) cs j .pool) ≡ N
   size-right j = promise N low high cs .demand2 .size j
+
+-- 02, C-11: 'Here a single moment can't be promised.' `whenNext` with one moment for the ticket and for the keys before it: in `overtaken` the search
+-- answers 10, and at no moment of it the plain list has 10 and not 5.
+pub single-moment : ¬ ((cs : List Call) (s g i j k v : ℕ) → NextSearch nine cs s g i j → Turns nine cs s j (next k v)
+    → (t : ℕ) × (i < t) × (t ≤ j + 1) × (recordFor k (ticketsAfter nine cs t) ≡ some v) × ((q : ℕ) → g < q → q < k → recordFor q (ticketsAfter nine cs t) ≡ none))
+single-moment h =
+    let p = promise 9 (omega arith) (omega arith) overtaken .demand3 .lookups in
+    let r = p .inLookup 0 18 (omega arith) (computed .reads18) in
+    let is = p .reads (r .0) 0 (r .1) (r .2) 18 (r .3) in
+    let three : r .1 ≡ 3 = sym (is .2) ∙ computed .key18 in
+    let search : NextSearch nine overtaken 0 (r .1) (r .2) 18 = subst (λ κ. Reading nine overtaken κ 0 (r .1) (r .2) 18) (sym (is .3) ∙ computed .kind18) (r .3) in
+    let z = h overtaken 0 (r .1) (r .2) 18 10 100 search (refl, computed .answers18) in
+    let late : ¬ (r .2 < 10) = λ e. contradicts (isBegin (callAt overtaken (r .2))) (ap isBegin (r .3 .begins .0)) (all-in _ 0 10 (computed .begins10) (r .2) (omega arith) e) in
+    let next-then : tenIsNext (z .0) ≡ true = rw (z .3, z .4 5 (omega arith) (omega arith)) in
+    contradicts (tenIsNext (z .0)) next-then (all-in _ 11 20 (computed .never) (z .0) (let a = z .1 in omega (arith, late)) (let a = z .2 in omega arith))
+  where
+    contradicts : (b : Bool) → b ≡ true → not b ≡ true → ⊥
+    contradicts true e f = false≢true f
+    contradicts false e f = false≢true e

@@ -1,8 +1,9 @@
--- Two runs on a pool of eight nodes just set up, and what they compute to. The exclusions (Claims) go by these facts.
+-- Two runs on a pool of eight nodes just set up, one on a pool of nine, and what they compute to. The exclusions (Claims) go by these facts.
+use Prim.Native.Nat.{ℕ}
 use mathlib.Core.Path.{_≡_, refl}
-use mathlib.Core.Bool.{true}
+use mathlib.Core.Bool.{Bool, true, false, not, _&&_}
 use mathlib.Core.List.{List, [], _∷_}
-use mathlib.Core.Option.{none, some}
+use mathlib.Core.Option.{Option, none, some}
 use lib.ListN.{replicate}
 use Rattle.datatypes.specs.declared.Side.the-variants.{L, R}
 use Rattle.sequential.specs.Tree.{red, black, Tree, leaf, node, rel}
@@ -11,17 +12,18 @@ use Rattle.base.specs.Walk.{allFrom, allIn, foldFrom, foldIn}
 use Rattle.spec.specs.Numbers.{slots}
 use Rattle.spec.specs.Pool.{child, standingRetired, keyWord}
 use Rattle.spec.specs.Pool.{word, setWord, nodeInRange, poolInRange, lengthRight, freshNodes, freshPool}
-use Rattle.spec.specs.Register.{State, noReader, withRoot, withQueue, withHeld, withReader, withWrite, nodeAt, setLink}
-use Rattle.spec.specs.Register.{putSlot, readingSlots, storeInRange, registerInRange, freshRegister, fresh, writeOf, lessFirst}
-use Rattle.spec.specs.Free.{takeFree, fillNode, takeNode, retire}
-use Rattle.spec.specs.Search.{seek, trail}
+use Rattle.spec.specs.Register.{State, noReader, readerOf, withRoot, withQueue, withHeld, withReader, withAwaited, withWrite, nodeAt, setLink}
+use Rattle.spec.specs.Register.{putSlot, dropSlot, readingSlots, storeInRange, registerInRange, freshRegister, fresh, writeOf, lessFirst}
+use Rattle.spec.specs.Free.{takeFree, fillNode, takeNode, freeNode, retire, release, endReading}
+use Rattle.spec.specs.Search.{seek, trail, leftmost}
 use Rattle.spec.specs.Plan.{insertFixup, fixupAfterInsert, paintInsertFixup, deleteFixup, fixupAfterRemoval, paintDeleteLevels, paintDeleteFixup}
 use Rattle.spec.specs.Plan.{insertPlan, unlinkPlan, deletePlan}
-use Rattle.spec.specs.Turn.{insertStore, unlinkStore, stepFinds, stepMade}
+use Rattle.spec.specs.Turn.{insertStore, unlinkStore, adoptStore, replaceStore, stepFinds, stepMade}
 use Rattle.spec.specs.Calls.{insert, delete, stored, writerTurn, begin, readerStep, readerTurn}
-use Rattle.spec.specs.Calls.{ok, absent, Call, inserting, deleting, writing, beginning, turning, call, reading}
+use Rattle.datatypes.specs.declared.Kind.the-variants as kind
+use Rattle.spec.specs.Calls.{ok, absent, next, Call, inserting, deleting, writing, beginning, turning, givingUp, call, reading}
 use Rattle.spec.specs.PlainList.{recordFor, acceptedWrites}
-use Rattle.promise.specs.Run.{Start, justSetUp, after, indexAfter, plainAfter, ticketsAfter}
+use Rattle.promise.specs.Run.{Start, justSetUp, callAt, after, indexAfter, plainAfter, ticketsAfter}
 use Rattle.promise.specs.Demands.{turnAt, origin, standingAt}
 
 abbrev pub start : Start
@@ -29,7 +31,7 @@ start = justSetUp 8
 
 -- 3 is put in; slot 0 looks it up and comes to its node; 3 is taken out
 abbrev pub lookup : List Call
-lookup = inserting 3 30 ∷ writing ∷ beginning 0 3 ∷ turning 0 ∷ deleting 3 ∷ writing ∷ []
+lookup = inserting 3 30 ∷ writing ∷ beginning kind.Lookup 0 3 ∷ turning 0 ∷ deleting 3 ∷ writing ∷ []
 
 -- 3 and 1 are put in, then 2: its insert has a rotation, and here none of its four stores is made yet
 abbrev pub rotation : List Call
@@ -41,6 +43,34 @@ before = indexAfter start rotation 5
 -- the sequential tree of the three inserts
 abbrev pub threeKeys : Tree
 threeKeys = node black 2 20 (node red 1 10 leaf leaf) (node red 3 30 leaf leaf)
+
+-- 10, 1, 20, 5 and 30 are put in; slot 0 searches for the next ticket after 3, remembers 10 and comes to 1's node; then 10 is taken out, and
+-- then 5; slot 0's last turn, call 18, answers 10
+abbrev pub nine : Start
+nine = justSetUp 9
+
+abbrev pub overtaken : List Call
+overtaken =
+    inserting 10 100 ∷ writing ∷ inserting 1 11 ∷ writing ∷ inserting 20 22 ∷ writing ∷ inserting 5 55 ∷ writing ∷ inserting 30 33 ∷ writing
+    ∷ beginning kind.Next 0 3 ∷ turning 0 ∷ turning 0
+    ∷ deleting 10 ∷ writing ∷ writing ∷ deleting 5 ∷ writing ∷ turning 0 ∷ []
+
+-- at moment t the plain list has 10 and not 5: 10 is the next ticket after 3
+abbrev has : Option ℕ → Bool
+has none = false
+has (some v) = true
+
+abbrev pub tenIsNext : ℕ → Bool
+tenIsNext t = has (recordFor 10 (ticketsAfter nine overtaken t)) && not (has (recordFor 5 (ticketsAfter nine overtaken t)))
+
+abbrev pub isBegin : Option Call → Bool
+isBegin none = false
+isBegin (some (inserting k v)) = false
+isBegin (some (deleting k)) = false
+isBegin (some writing) = false
+isBegin (some (beginning κ s k)) = true
+isBegin (some (turning s)) = false
+isBegin (some (givingUp s)) = false
 
 pub record Computed : Type 0 where
   -- the first insert is accepted; before its turn no slot reads, and a reader's turn for 3 answers absent
@@ -67,12 +97,19 @@ pub record Computed : Type 0 where
   pub key1 : word (before .pool) 1 keyWord ≡ 3
   pub key2 : word (before .pool) 2 keyWord ≡ 1
   pub tree : changedBy leaf (acceptedWrites (plainAfter start rotation 5)) ≡ threeKeys
+  -- slot 0 searches when call 18 comes, begun by no call before call 10; from then on 10 is the next ticket at no moment
+  pub reads18 : reading (indexAfter nine overtaken 18) 0 ≡ true
+  pub kind18 : readerOf (indexAfter nine overtaken 18 .register) 0 .kind ≡ kind.Next
+  pub key18 : readerOf (indexAfter nine overtaken 18 .register) 0 .key ≡ 3
+  pub answers18 : call (indexAfter nine overtaken 18) (turning 0) .answer ≡ next 10 100
+  pub begins10 : allIn (λ i. not (isBegin (callAt overtaken i))) 0 10 ≡ true
+  pub never : allIn (λ t. not (tenIsNext t)) 11 20 ≡ true
 
 pub computed : Computed
 unfolding after rel allFrom allIn foldFrom foldIn word setWord nodeInRange poolInRange lengthRight freshNodes freshPool withRoot withQueue withHeld
-    withReader withWrite nodeAt setLink putSlot readingSlots storeInRange registerInRange freshRegister fresh writeOf lessFirst takeFree fillNode
-    takeNode retire seek trail insertFixup fixupAfterInsert paintInsertFixup deleteFixup fixupAfterRemoval paintDeleteLevels paintDeleteFixup
-    insertPlan unlinkPlan deletePlan insertStore unlinkStore stepFinds stepMade insert delete stored writerTurn begin readerStep readerTurn
+    withReader withAwaited withWrite nodeAt setLink putSlot dropSlot readingSlots storeInRange registerInRange freshRegister fresh writeOf lessFirst takeFree fillNode
+    takeNode freeNode retire release endReading seek trail insertFixup fixupAfterInsert paintInsertFixup deleteFixup fixupAfterRemoval paintDeleteLevels paintDeleteFixup
+    insertPlan unlinkPlan deletePlan leftmost unlinkStore adoptStore replaceStore insertStore stepFinds stepMade insert delete stored writerTurn begin readerStep readerTurn
 computed = record {
   accepted = refl;
   readers1 = refl;
@@ -94,4 +131,10 @@ computed = record {
   key1 = refl;
   key2 = refl;
   tree = refl;
+  reads18 = refl;
+  kind18 = refl;
+  key18 = refl;
+  answers18 = refl;
+  begins10 = refl;
+  never = refl;
 }

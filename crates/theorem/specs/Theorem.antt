@@ -8,6 +8,7 @@ use native.Mathlib.Omega.{arith}
 use lib.ListN.{length}
 use native.Mathlib.Decide.{ℕ-discrete}
 use borrow.Author.Tests.{eq-eqb, ne-eqb}
+use Rattle.datatypes.specs.declared.Kind.{Kind}
 use Rattle.datatypes.specs.declared.Register.{Register}
 use Rattle.spec.specs.Numbers.{nodeWords, leastNodes, mostNodes}
 use Rattle.spec.specs.Pool.{nodes as poolNodes, word, colourWord, standingWord, redColour, standingLinked}
@@ -129,12 +130,12 @@ module _ (p : List ℕ) (r : Register) (N : ℕ) (lo : leastNodes ≤ N) (hi : N
   pub promise-after-set-up : (cs : List Call) → PromiseFrom (afterSetUp (state p r)) cs
   promise-after-set-up cs = rw (nodes-is, set-up) (promise N lo hi cs)
 
--- Two facts of every run from a sound start (runs: Facts), between the stores of a write too; C-11 and C-13 will use them.
+-- Two facts of every run from a sound start (runs: Facts), between the stores of a write too; C-13 will use them.
 -- each linked node has its ticket in the plain list
 pub linked-ticket : (S : Start) → SoundStart S → (cs : List Call) (j m : ℕ) → word (indexAfter S cs j .pool) m standingWord ≡ standingLinked → TicketAt S cs j m j
 linked-ticket S h cs j m e = Facts.linked-ticket WriterSide writer S (starts-sound S h) cs j m e
 
 -- each node kept for a slot (linked, or retired with its bit) had its ticket at a moment of that slot's reading
-pub kept-ticket : (S : Start) → SoundStart S → (cs : List Call) (s k i j m : ℕ) → Reading S cs s k i j → Kept (indexAfter S cs j .pool) s m
+pub kept-ticket : (S : Start) → SoundStart S → (cs : List Call) (κ : Kind) (s k i j m : ℕ) → Reading S cs κ s k i j → Kept (indexAfter S cs j .pool) s m
     → (t : ℕ) × (i < t) × (t ≤ j) × TicketAt S cs j m t
-kept-ticket S h cs s k i j m l e = Facts.kept-ticket WriterSide writer S (starts-sound S h) cs s k i j m l e
+kept-ticket S h cs κ s k i j m l e = Facts.kept-ticket WriterSide writer S (starts-sound S h) cs κ s k i j m l e
