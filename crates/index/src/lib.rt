@@ -109,21 +109,6 @@ pub fn writer_turn(pool: &mut [u32], reg: Register) -> WriterReply
     turns::make_first(pool, reg)
 }
 
-// Begins a search of this kind.
-fn begin_search(pool: &[u32], mut reg: Register, kind: Kind, s: u32, k: u32) -> Reply
-    ensures { λ r. ⌜ accepts (r .answer) ≡ begin kind (state (now (pool .entry)) reg) s k .answer ⌝ }
-    ensures { λ r. ⌜ state (now (pool .entry)) (r .register) ≡ begin kind (state (now (pool .entry)) reg) s k .after ⌝ }
-{
-    let lent = refusals::lent_refusal(pool, reg);
-    let i = refusals::slot_index(s);
-    let why = refusals::slot_refusal(lent, s, reg.readers[i].reading, 4);
-    if why != 0 {
-        return replies::refused(why, reg);
-    }
-    reg.readers[i] = register::begun_reader(kind, k);
-    replies::accepted(reg)
-}
-
 // Begin: starts a lookup of the key k in the slot s. It loads no node yet.
 // Needs: one caller for each slot. Nothing tests this.
 // Answers: Accepted. Then reader_turn is to be called until it answers Found or Absent; give_up ends the lookup before.
@@ -133,7 +118,7 @@ pub fn begin(pool: &[u32], reg: Register, s: u32, k: u32) -> Reply
     ensures { λ r. ⌜ accepts (r .answer) ≡ begin kind.Lookup (state (now (pool .entry)) reg) s k .answer ⌝ }
     ensures { λ r. ⌜ state (now (pool .entry)) (r .register) ≡ begin kind.Lookup (state (now (pool .entry)) reg) s k .after ⌝ }
 {
-    begin_search(pool, reg, Kind::Lookup, s, k)
+    begins::begin(pool, reg, Kind::Lookup, s, k)
 }
 
 // Begin a search for the next ticket: starts, in the slot s, a search for the ticket with the smallest key greater than k. It loads no node
@@ -145,7 +130,7 @@ pub fn begin_next(pool: &[u32], reg: Register, s: u32, k: u32) -> Reply
     ensures { λ r. ⌜ accepts (r .answer) ≡ begin kind.Next (state (now (pool .entry)) reg) s k .answer ⌝ }
     ensures { λ r. ⌜ state (now (pool .entry)) (r .register) ≡ begin kind.Next (state (now (pool .entry)) reg) s k .after ⌝ }
 {
-    begin_search(pool, reg, Kind::Next, s, k)
+    begins::begin(pool, reg, Kind::Next, s, k)
 }
 
 // Reader's turn: loads one node more for the search of the slot s, first the root, then a child; or ends the search.

@@ -7,10 +7,10 @@ use Rattle.refusals.specs.Slots.{index-of, slot-tests}
 use Rattle.datatypes.specs.declared.Reader.{Reader}
 use Rattle.spec.specs.Calls.{Outcome, outcome, ok, firstOf, begin, beginTests, reading}
 use borrow.Author.Needs.{needs}
-use Rattle.index.proofs.begin_search.Statement.{statement}
-use Rattle.index.proofs.begin_search.Tie as tie
-use Rattle.index.proofs.begin_search.Reads as reads
-use Rattle.index.proofs.begin_search.Lts as lts
+use Rattle.begins.proofs.begin.Statement.{statement}
+use Rattle.begins.proofs.begin.Tie as tie
+use Rattle.begins.proofs.begin.Reads as reads
+use Rattle.begins.proofs.begin.Lts as lts
 use Rattle.register.proofs.begun_reader.Reads as begun-reader-reads
 use Rattle.replies.proofs.refused.Reads as refused-reads
 use Rattle.replies.proofs.accepted.Reads as accepted-reads
@@ -82,8 +82,8 @@ returns-2 c =
           (sym (ap (λ (o : Outcome). o .after) e)),
     )
 
-pub begin-search-spec : {M : Type 1} → statement M
-begin-search-spec =
+pub begin-spec : {M : Type 1} → statement M
+begin-spec =
     tie.close
     (tie.spec
     lent-refusal-requires
