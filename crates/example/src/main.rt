@@ -1,5 +1,5 @@
-// The least program that uses the ticket index: it sets one up, inserts, looks up, deletes, and
-// handles a refusal.
+// The least program that uses the ticket index: it sets one up, inserts, looks up, searches for the
+// next ticket, deletes, and handles a refusal.
 use datatypes::Acceptance;
 use datatypes::ReaderAnswer;
 use datatypes::Register;
@@ -49,12 +49,17 @@ fn writes_on(answer: WriterAnswer) -> bool {
     }
 }
 
-// Answers whether the lookup goes on after this turn.
+// Answers whether the search goes on after this turn.
 fn reads_on(answer: ReaderAnswer) -> bool {
     match answer {
         ReaderAnswer::Go => true,
         ReaderAnswer::Found(record) => {
             say(b"  found ", record);
+            false
+        }
+        ReaderAnswer::Next(key, record) => {
+            say(b"  key ", key);
+            say(b"  record ", record);
             false
         }
         ReaderAnswer::Absent => {
@@ -100,11 +105,9 @@ fn delete(pool: &mut [u32], reg: Register, key: u32) -> Register {
     carry_out(pool, asked)
 }
 
-// Begins a lookup in a slot and makes its turns until it answers. The writer's turns may come
+// Makes the turns of a search begun in a slot until it answers. The writer's turns may come
 // between any two of them.
-fn look_up(pool: &mut [u32], reg: Register, slot: u32, key: u32) -> Register {
-    say(b"look up ", key);
-    let asked = index::begin(pool, reg, slot, key);
+fn search(pool: &mut [u32], asked: Reply, slot: u32) -> Register {
     let mut reg = asked.register;
     let answer = asked.answer;
     if !accepted(answer) {
@@ -123,6 +126,20 @@ fn look_up(pool: &mut [u32], reg: Register, slot: u32, key: u32) -> Register {
     reg
 }
 
+// Looks a key up in a slot.
+fn look_up(pool: &mut [u32], reg: Register, slot: u32, key: u32) -> Register {
+    say(b"look up ", key);
+    let asked = index::begin(pool, reg, slot, key);
+    search(pool, asked, slot)
+}
+
+// Searches in a slot for the next ticket: the one with the smallest key greater than this one.
+fn look_next(pool: &mut [u32], reg: Register, slot: u32, key: u32) -> Register {
+    say(b"next after ", key);
+    let asked = index::begin_next(pool, reg, slot, key);
+    search(pool, asked, slot)
+}
+
 // Inserts two tickets, and a third whose key is held already.
 fn fill(pool: &mut [u32], reg: Register) -> Register {
     let mut r = insert(pool, reg, 1, 10);
@@ -130,12 +147,18 @@ fn fill(pool: &mut [u32], reg: Register) -> Register {
     insert(pool, r, 2, 21)
 }
 
-// Fills the index, looks a key up in slot 0, deletes it and looks it up again.
+// Looks the key 2 up, and searches for the next ticket after 1.
+fn read(pool: &mut [u32], reg: Register) -> Register {
+    let r = look_up(pool, reg, 0, 2);
+    look_next(pool, r, 0, 1)
+}
+
+// Fills the index and reads it, deletes a key and reads it again.
 fn run(pool: &mut [u32], reg: Register) {
     let mut r = fill(pool, reg);
-    r = look_up(pool, r, 0, 2);
+    r = read(pool, r);
     r = delete(pool, r, 2);
-    look_up(pool, r, 0, 2);
+    read(pool, r);
 }
 
 fn main() {

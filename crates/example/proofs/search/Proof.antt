@@ -2,36 +2,22 @@ use borrow.Author.Needs.{needs}
 use mathlib.Core.Path.{_≡_}
 use Prim.Native.Nat.{_-_}
 use lib.ListN.{length}
-use Rattle.example.proofs.look_up.Statement.{statement}
-use Rattle.example.proofs.look_up.Tie as tie
-use Rattle.example.proofs.look_up.Reads as reads
-use Rattle.example.proofs.look_up.Lts as lts
+use Rattle.example.proofs.search.Statement.{statement}
+use Rattle.example.proofs.search.Tie as tie
+use Rattle.example.proofs.search.Reads as reads
+use Rattle.example.proofs.search.Lts as lts
 use Rattle.example.proofs.accepted.Reads as accepted-reads
 use Rattle.example.proofs.reads_on.Reads as reads-on-reads
-use Rattle.example.proofs.say.Reads as say-reads
-use Rattle.index.proofs.begin.Reads as begin-reads
 use Rattle.index.proofs.reader_turn.Reads as reader-turn-reads
 
 abbrev Inv-loop : tie.InvT-loop
-Inv-loop pool₀ slot key reg₀ turns₀ pool reg turns = length pool ≡ length pool₀
+Inv-loop pool₀ slot reg₀ turns₀ pool reg turns = length pool ≡ length pool₀
 
 abbrev μ-loop : tie.MeasureT-loop
-μ-loop pool₀ slot key reg₀ turns₀ pool reg turns = 64 - turns
-
-slice-aggregate-say : tie.Need-slice-aggregate-say Inv-loop μ-loop
-slice-aggregate-say c = search needs
-
-say-requires : tie.Need-say-requires Inv-loop μ-loop
-say-requires c κs = tt
-
-begin-requires : tie.Need-begin-requires Inv-loop μ-loop
-begin-requires c κs = tt
+μ-loop pool₀ slot reg₀ turns₀ pool reg turns = 64 - turns
 
 accepted-requires : tie.Need-accepted-requires Inv-loop μ-loop
 accepted-requires c κs = tt
-
-same-length : tie.Need-same-length Inv-loop μ-loop
-same-length c = search needs
 
 returns : tie.Need-returns Inv-loop μ-loop
 returns c = tt
@@ -45,8 +31,8 @@ reader-turn-requires c κs = tt
 reads-on-requires : tie.Need-reads-on-requires Inv-loop μ-loop
 reads-on-requires c κs = tt
 
-same-length-2 : tie.Need-same-length-2 Inv-loop μ-loop
-same-length-2 c = search needs
+same-length : tie.Need-same-length Inv-loop μ-loop
+same-length c = search needs
 
 returns-2 : tie.Need-returns-2 Inv-loop μ-loop
 returns-2 c = tt
@@ -60,31 +46,27 @@ loop-less c = search needs
 loop-again : tie.Need-loop-again Inv-loop μ-loop
 loop-again c = search needs
 
-same-length-3 : tie.Need-same-length-3 Inv-loop μ-loop
-same-length-3 c = search needs
+same-length-2 : tie.Need-same-length-2 Inv-loop μ-loop
+same-length-2 c = search needs
 
 returns-3 : tie.Need-returns-3 Inv-loop μ-loop
 returns-3 c = tt
 
-pub look-up-spec : {M : Type 1} → statement M
-look-up-spec =
+pub search-spec : {M : Type 1} → statement M
+search-spec =
     tie.close
     (tie.spec
     Inv-loop
     μ-loop
-    slice-aggregate-say
-    say-requires
-    begin-requires
     accepted-requires
-    same-length
     returns
     loop-holds
     reader-turn-requires
     reads-on-requires
-    same-length-2
+    same-length
     returns-2
     add-turns
     loop-less
     loop-again
-    same-length-3
+    same-length-2
     returns-3)
