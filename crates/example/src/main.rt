@@ -57,6 +57,10 @@ fn reads_on(answer: ReaderAnswer) -> bool {
             say(b"  found ", record);
             false
         }
+        ReaderAnswer::Next(key, _) => {
+            say(b"  next ", key);
+            false
+        }
         ReaderAnswer::Absent => {
             io::write_all(STDOUT_FILENO, b"  absent\n");
             false
