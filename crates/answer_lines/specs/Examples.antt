@@ -1,8 +1,8 @@
--- Worked lines, checked by computation: lines of 01's run, a refusal and an ill-formed line. Quoted `\t` is a tab.
+-- Worked lines, checked by computation: lines of 01's run, a next ticket, a refusal and an ill-formed line. Quoted `\t` is a tab.
 use Prim.Native.Char.{code}
 use mathlib.Core.Path.{_≡_, refl}
 use Rattle.datatypes.specs.declared.Link.the-variants.{Root, Left, Right}
-use Rattle.spec.specs.Calls.{ok, found, more, done, refused}
+use Rattle.spec.specs.Calls.{ok, found, next, more, done, refused}
 use Rattle.texts.specs.Ascii.{text}
 use Rattle.texts.specs.Decimal.{digits, decimal}
 use Rattle.answer_lines.specs.Text.{linkText, lineOf, badLine}
@@ -26,6 +26,10 @@ line-12 = refl
 line-14 : lineOf 14 (code "R") (found 10) ≡ text "14\tR\tfound\t-\t10\n"
 unfolding digits decimal lineOf
 line-14 = refl
+
+line-next : lineOf 9 (code "R") (next 2 20) ≡ text "9\tR\tfound\t2\t20\n"
+unfolding digits decimal lineOf
+line-next = refl
 
 line-refused : lineOf 7 (code "D") (refused 11) ≡ text "7\tD\tno\t-\t11\n"
 unfolding digits decimal lineOf

@@ -2,7 +2,7 @@
 use Prim.Native.Nat.{ℕ}
 use mathlib.Core.Path.{_≡_, refl, sym}
 use mathlib.Core.List.{List, [], _∷_, _++_}
-use Rattle.spec.specs.Calls.{Answer, ok, go, absent, wait, found, more, done, refused}
+use Rattle.spec.specs.Calls.{Answer, ok, go, absent, wait, found, next, more, done, refused}
 use Rattle.texts.specs.Ascii.{tab}
 use Rattle.texts.specs.Decimal.{decimal}
 use Rattle.texts.specs.Line.{line}
@@ -16,6 +16,7 @@ answer-line f go = refl
 answer-line f absent = refl
 answer-line f wait = refl
 answer-line f (found v) = refl
+answer-line f (next k v) = refl
 answer-line f (more l n) = refl
 answer-line f (done l n) = refl
 answer-line f (refused n) = refl

@@ -22,6 +22,7 @@ pub enum Said {
     Absent,
     Wait,
     Found(u32),
+    Next(u32, u32),
     More(Link, u32),
     Done(Link, u32),
     No(u32),
@@ -56,6 +57,7 @@ pub fn reader_said(a: ReaderAnswer) -> Said
     match a {
         ReaderAnswer::Go => Said::Go,
         ReaderAnswer::Found(v) => Said::Found(v),
+        ReaderAnswer::Next(k, v) => Said::Next(k, v),
         ReaderAnswer::Absent => Said::Absent,
         ReaderAnswer::Refused(n) => Said::No(n),
     }
@@ -71,6 +73,7 @@ pub fn letter_of(c: Command) -> u8
         Command::Delete(_) => b'D',
         Command::Write => b'W',
         Command::Begin(_, _) => b'B',
+        Command::BeginNext(_, _) => b'S',
         Command::Turn(_) => b'R',
         Command::GiveUp(_) => b'E',
         Command::Show => b'T',
@@ -102,7 +105,7 @@ fn link_field(out: &mut [u8], at: usize, l: Link) -> usize
     }
 }
 
-// An answer's fields: a word with two unused ones, with a number in the last, and with a link and its new node.
+// An answer's fields: a word with two unused ones, with a number in the last, with two numbers, and with a link and its new node.
 fn plain(out: &mut [u8], at: usize, word: &[u8]) -> usize
     requires { ⌜ at + length (now word) + 5 ≤ length (now out) ⌝ }
     ensures { λ r. ⌜ Put (now (out .entry)) at (line (now (word .entry) ∷ text "-" ∷ text "-" ∷ [])) (now (out .exit)) r ⌝ }
@@ -119,6 +122,15 @@ fn numbered(out: &mut [u8], at: usize, word: &[u8], n: u32) -> usize
     let link = texts::text_field(out, at, word, texts::TAB);
     let last = texts::text_field(out, link, b"-", texts::TAB);
     texts::number_field(out, last, n as u64, texts::NEWLINE)
+}
+
+fn ticket(out: &mut [u8], at: usize, word: &[u8], k: u32, v: u32) -> usize
+    requires { ⌜ at + length (now word) + 23 ≤ length (now out) ⌝ }
+    ensures { λ r. ⌜ Put (now (out .entry)) at (line (now (word .entry) ∷ decimal k ∷ decimal v ∷ [])) (now (out .exit)) r ⌝ }
+{
+    let key = texts::text_field(out, at, word, texts::TAB);
+    let last = texts::number_field(out, key, k as u64, texts::TAB);
+    texts::number_field(out, last, v as u64, texts::NEWLINE)
 }
 
 fn linked(out: &mut [u8], at: usize, word: &[u8], l: Link, n: u32) -> usize
@@ -141,6 +153,7 @@ fn put_said(out: &mut [u8], at: usize, a: Said) -> usize
         Said::Absent => plain(out, at, b"absent"),
         Said::Wait => plain(out, at, b"wait"),
         Said::Found(v) => numbered(out, at, b"found", v),
+        Said::Next(k, v) => ticket(out, at, b"found", k, v),
         Said::More(l, n) => linked(out, at, b"more", l, n),
         Said::Done(l, n) => linked(out, at, b"done", l, n),
         Said::No(n) => numbered(out, at, b"no", n),

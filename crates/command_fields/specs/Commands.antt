@@ -1,6 +1,6 @@
 -- 01, 'Examples': the command that a line's bytes, without the newline, are. Commands: P nodes; I key record; D key; W; B slot key; R slot;
--- E slot; T. A tab stands between two fields. A line that isn't one of these letters with just its fields, each of decimal digits and below
--- 4,294,967,296, is ill-formed.
+-- E slot; T; and S slot key (02, C-11). A tab stands between two fields. A line that isn't one of these letters with just its fields, each of
+-- decimal digits and below 4,294,967,296, is ill-formed.
 use Prim.Native.Nat.{ℕ, _+_, _*_, _-_}
 use Prim.Native.Char.{code}
 use mathlib.Core.Bool.{Bool, true, cond, _&&_}
@@ -8,7 +8,7 @@ use mathlib.Core.List.{List, [], _∷_, map}
 use mathlib.Core.Option.{Option, none, some}
 use lib.Dec.{eqb, leb, ltb}
 use Rattle.command_fields.specs.declared.Command.{Command}
-use Rattle.command_fields.specs.declared.Command.the-variants.{SetUp, Insert, Delete, Write, Begin, Turn, GiveUp, Show, Ill}
+use Rattle.command_fields.specs.declared.Command.the-variants.{SetUp, Insert, Delete, Write, Begin, BeginNext, Turn, GiveUp, Show, Ill}
 use Rattle.texts.specs.Ascii.{tab}
 
 -- the bytes before the first tab, and the fields after it
@@ -51,7 +51,8 @@ withOne l a =
     (cond (eqb l (code "D")) (Delete a) (cond (eqb l (code "R")) (Turn a) (cond (eqb l (code "E")) (GiveUp a) Ill)))
 
 unfoldable pub withTwo : ℕ → ℕ → ℕ → Command
-withTwo l a b = cond (eqb l (code "I")) (Insert a b) (cond (eqb l (code "B")) (Begin a b) Ill)
+withTwo l a b =
+    cond (eqb l (code "I")) (Insert a b) (cond (eqb l (code "B")) (Begin a b) (cond (eqb l (code "S")) (BeginNext a b) Ill))
 
 -- a letter and what its fields are
 abbrev pub ofNumbers : ℕ → List (Option ℕ) → Command

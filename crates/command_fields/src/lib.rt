@@ -14,6 +14,7 @@ pub enum Command {
     Delete(u32),
     Write,
     Begin(u32, u32),
+    BeginNext(u32, u32),
     Turn(u32),
     GiveUp(u32),
     Show,
@@ -98,6 +99,9 @@ pub fn with_two(l: u8, a: u32, b: u32) -> Command
     }
     if l == b'B' {
         return Command::Begin(a, b);
+    }
+    if l == b'S' {
+        return Command::BeginNext(a, b);
     }
     Command::Ill
 }

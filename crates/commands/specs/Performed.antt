@@ -1,8 +1,9 @@
--- 01, 'Examples': what each command of trace does to the words lent and the register.
+-- 01, 'Examples', and 02, C-11: what each command of trace does to the words lent and the register.
 use Prim.Native.Nat.{ℕ}
 use mathlib.Core.Path.{_≡_, ap}
 use mathlib.Core.List.{List, [], _∷_}
 use lib.ListN.{take}
+use Rattle.datatypes.specs.declared.Kind.the-variants as kind
 use Rattle.datatypes.specs.declared.Register.{Register}
 use Rattle.spec.specs.Register.{State, state}
 use Rattle.spec.specs.Calls.{
@@ -35,7 +36,8 @@ called st (command.SetUp n) = setUp st
 called st (command.Insert k v) = insert st k v
 called st (command.Delete k) = delete st k
 called st command.Write = writerTurn st
-called st (command.Begin s k) = begin st s k
+called st (command.Begin s k) = begin kind.Lookup st s k
+called st (command.BeginNext s k) = begin kind.Next st s k
 called st (command.Turn s) = readerTurn st s
 called st (command.GiveUp s) = giveUp st s
 called st command.Show = shown st

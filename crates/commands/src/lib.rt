@@ -79,6 +79,7 @@ pub fn call(pool: &mut [u32], reg: Register, c: Command) -> Called
         Command::Delete(k) => accepted(index::delete(pool, reg, k)),
         Command::Write => written(index::writer_turn(pool, reg)),
         Command::Begin(s, k) => accepted(index::begin(pool, reg, s, k)),
+        Command::BeginNext(s, k) => accepted(index::begin_next(pool, reg, s, k)),
         Command::Turn(s) => looked(index::reader_turn(pool, reg, s)),
         Command::GiveUp(s) => accepted(index::give_up(pool, reg, s)),
         Command::Show => show(pool, reg),

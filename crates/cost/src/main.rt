@@ -1,8 +1,10 @@
 // Repeats one call, and puts the pool back before each, so that the instructions of a call can be counted.
 // Arguments: CALL SIZE MODE SLOT. Instructions of a call: those of a run in mode 1 less those in mode 0, by 1,000.
-// CALL: P set up, I insert, D delete, B begin, G F A a reader's turn that answers go, found, absent, E give up,
-// W a writer's turn that answers wait. A small letter is a writer's turn, by its store: i insert under a black parent, j with colours above
-// alone, k with a rotation to come; d e diag lower, raise; x y z zig lower A, lower C, raise; u unlink, a adopt, r replace, p publish, t detach.
+// CALL: P set up, I insert, D delete, B begin, G F A a reader's turn that answers go (it loads the root), found, absent, E give up,
+// W a writer's turn that answers wait. Of a search for the next ticket: S begin, L R a turn that answers go at a greater key (to the left,
+// remembering it) and at a smaller one (to the right), N O a turn that answers next and none.
+// A small letter is a writer's turn, by its store: i insert under a black parent, j with colours above alone, k with a rotation to come;
+// d e diag lower, raise; x y z zig lower A, lower C, raise; u unlink, a adopt, r replace, p publish, t detach.
 // SIZE: s m l: N 8, 128, 1,023, with about N / 2 − 1 keys; v: N 128, a damaged tree with a path of 64 nodes.
 // MODE: 1,000 times, 0: the pool is put back, 1: and the call is made. SLOT: the slot of a reader's call, 0 or 1; in a writer's turn 1: slot 1
 // reads, so that a node let go is retired, 0: none does.
@@ -139,16 +141,33 @@ fn wanted(call: u8) -> u8 {
     if call < b'a' { NONE } else { call }
 }
 
-// The key of a call on the way. A begin's: the root's, or for absent one that is not held; a write's: the even ones for a capital letter, else any.
+// whether a call is a turn of a search for the next ticket
+fn seeks_next(call: u8) -> bool {
+    (call == b'L') | (call == b'R') | (call == b'N') | (call == b'O')
+}
+
+// whether a call is a reader's turn
+fn reads(call: u8) -> bool {
+    (call == b'G') | (call == b'F') | (call == b'A') | seeks_next(call)
+}
+
+// the key of a begin on the way: one below all, one above all, or the root's
+fn begin_key(pool: &[u32], root: u32, call: u8) -> u32 {
+    if (call == b'A') | (call == b'L') | (call == b'N') {
+        return 1;
+    }
+    if (call == b'R') | (call == b'O') {
+        return u32::MAX;
+    }
+    pool::word(pool, root, pool::KEY)
+}
+
+// The key of a call on the way; a write's: the even ones for a capital letter, else any.
 fn way_key(pool: &[u32], act: u8, root: u32, call: u8, keys: u32, held: u32, seed: u32) -> u32
     requires { ⌜ (1 ≤ keys) × (keys ≤ 510) ⌝ }
 {
-    if act == b'B' {
-        return if call == b'A' {
-            1
-        } else {
-            pool::word(pool, root, pool::KEY)
-        };
+    if (act == b'B') | (act == b'S') {
+        return begin_key(pool, root, call);
     }
     if keys == DEEP {
         return deep_key(call);
@@ -176,18 +195,22 @@ fn way_write(call: u8, keys: u32, held: u32, seed: u32) -> u8
     }
 }
 
-// while slot 1 reads: to the root for found, to the last node on the left for absent, and the turn that has to wait
+// while the slot reads: to the root for found and for go at a node, to the last node on the left for absent and next, on the right for none,
+// and the turn that has to wait
 fn while_reading(pool: &[u32], call: u8, node: u32, awaited: u32) -> u8 {
     if (call == b'W') & (awaited == 0) {
         return b'w';
     }
-    if (call == b'F') & (node == 0) {
+    if ((call == b'F') | (call == b'L') | (call == b'R')) & (node == 0) {
         return b'G';
     }
-    if call != b'A' {
-        return NONE;
-    }
-    if (node == 0) | (pool::word(pool, node, pool::LEFT) != 0) {
+    let onward = if call == b'O' {
+        pool::RIGHT
+    } else {
+        pool::LEFT
+    };
+    let last = (call == b'A') | (call == b'N') | (call == b'O');
+    if last & ((node == 0) | (pool::word(pool, node, onward) != 0)) {
         b'G'
     } else {
         NONE
@@ -212,12 +235,28 @@ fn once(pool: &mut [u32], reg: Register, call: u8, k: u32, s: u32) -> Register {
         let reply = index::begin(pool, reg, s, k);
         return reply.register;
     }
+    if call == b'S' {
+        let reply = index::begin_next(pool, reg, s, k);
+        return reply.register;
+    }
     if call == b'G' {
         let reply = index::reader_turn(pool, reg, s);
         return reply.register;
     }
     let reply = index::writer_turn(pool, reg);
     reply.register
+}
+
+// the begin on the way, or none
+fn way_begin(call: u8, s: u32) -> u8 {
+    if seeks_next(call) {
+        return b'S';
+    }
+    if reads(call) | (call == b'E') | (call == b'W') | (s == 1) {
+        b'B'
+    } else {
+        NONE
+    }
 }
 
 // the next call on the way: set up, writes and their turns to the wanted one with about as many keys as wanted, then a begin
@@ -236,12 +275,7 @@ fn way_call(pool: &[u32], reg: Register, call: u8, keys: u32, s: u32, seed: u32)
     let store = hand.stores[0];
     let next = turn_of(pool, store, hand.count);
     if (next == wanted(call)) & ((reg.held == keys) | (next != NONE) & (reg.held >= keys - 2)) {
-        let reads = (call == b'G')
-            | (call == b'F')
-            | (call == b'A')
-            | (call == b'E')
-            | (call == b'W');
-        return if reads | (s == 1) { b'B' } else { NONE };
+        return way_begin(call, s);
     }
     if hand.count != 0 {
         return b'w';
@@ -336,8 +370,12 @@ fn counted(pool: &mut [u32], reg: Register, act: u8, k: u32, s: u32) -> u32 {
         let reply = index::give_up(pool, reg, s);
         return reply.register.free;
     }
-    if (act == b'G') | (act == b'F') | (act == b'A') {
+    if reads(act) {
         let reply = index::reader_turn(pool, reg, s);
+        return reply.register.free;
+    }
+    if act == b'S' {
+        let reply = index::begin_next(pool, reg, s, k);
         return reply.register.free;
     }
     let reply = index::writer_turn(pool, reg);

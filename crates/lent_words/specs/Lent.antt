@@ -6,7 +6,7 @@ use native.Mathlib.Omega.{arith}
 use borrow.Author.Tests.{leb-true}
 use lib.Dec.{leb}
 use Rattle.spec.specs.Numbers.{nodeWords, mostNodes, poolLimit}
-use Rattle.spec.specs.Calls.{Answer, ok, go, absent, wait, found, more, done, refused}
+use Rattle.spec.specs.Calls.{Answer, ok, go, absent, wait, found, next, more, done, refused}
 use Rattle.command_fields.specs.declared.Command.{Command}
 use Rattle.command_fields.specs.declared.Command.the-variants as command
 
@@ -18,6 +18,7 @@ triedWords lent (command.Insert k v) = lent
 triedWords lent (command.Delete k) = lent
 triedWords lent command.Write = lent
 triedWords lent (command.Begin s k) = lent
+triedWords lent (command.BeginNext s k) = lent
 triedWords lent (command.Turn s) = lent
 triedWords lent (command.GiveUp s) = lent
 triedWords lent command.Show = lent
@@ -30,6 +31,7 @@ keptWords lent tried go = tried
 keptWords lent tried absent = tried
 keptWords lent tried wait = tried
 keptWords lent tried (found v) = tried
+keptWords lent tried (next k v) = tried
 keptWords lent tried (more l n) = tried
 keptWords lent tried (done l n) = tried
 keptWords lent tried (refused n) = lent
@@ -45,6 +47,7 @@ tried-fits lent (command.Insert k v) h = h
 tried-fits lent (command.Delete k) h = h
 tried-fits lent command.Write h = h
 tried-fits lent (command.Begin s k) h = h
+tried-fits lent (command.BeginNext s k) h = h
 tried-fits lent (command.Turn s) h = h
 tried-fits lent (command.GiveUp s) h = h
 tried-fits lent command.Show h = h
@@ -56,6 +59,7 @@ kept-fits lent tried go h g = g
 kept-fits lent tried absent h g = g
 kept-fits lent tried wait h g = g
 kept-fits lent tried (found v) h g = g
+kept-fits lent tried (next k v) h g = g
 kept-fits lent tried (more l n) h g = g
 kept-fits lent tried (done l n) h g = g
 kept-fits lent tried (refused n) h g = h

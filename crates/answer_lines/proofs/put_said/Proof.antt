@@ -6,6 +6,7 @@ use Rattle.answer_lines.proofs.put_said.Lts as lts
 use Rattle.answer_lines.proofs.linked.Reads as linked-reads
 use Rattle.answer_lines.proofs.numbered.Reads as numbered-reads
 use Rattle.answer_lines.proofs.plain.Reads as plain-reads
+use Rattle.answer_lines.proofs.ticket.Reads as ticket-reads
 
 enum-told : tie.Need-enum-told
 enum-told c = search needs
@@ -55,14 +56,23 @@ numbered-requires c κs = search needs
 enum-known-a-2 : tie.Need-enum-known-a-2
 enum-known-a-2 c = search needs
 
+slice-aggregate-ticket : tie.Need-slice-aggregate-ticket
+slice-aggregate-ticket c = search needs
+
+ticket-requires : tie.Need-ticket-requires
+ticket-requires c κs = search needs
+
+enum-known-a-3 : tie.Need-enum-known-a-3
+enum-known-a-3 c = search needs
+
 slice-aggregate-linked : tie.Need-slice-aggregate-linked
 slice-aggregate-linked c = search needs
 
 linked-requires : tie.Need-linked-requires
 linked-requires c κs = search needs
 
-enum-known-a-3 : tie.Need-enum-known-a-3
-enum-known-a-3 c = search needs
+enum-known-a-4 : tie.Need-enum-known-a-4
+enum-known-a-4 c = search needs
 
 slice-aggregate-linked-2 : tie.Need-slice-aggregate-linked-2
 slice-aggregate-linked-2 c = search needs
@@ -70,8 +80,8 @@ slice-aggregate-linked-2 c = search needs
 linked-requires-2 : tie.Need-linked-requires-2
 linked-requires-2 c κs = search needs
 
-enum-known-a-4 : tie.Need-enum-known-a-4
-enum-known-a-4 c = search needs
+enum-known-a-5 : tie.Need-enum-known-a-5
+enum-known-a-5 c = search needs
 
 slice-aggregate-numbered-2 : tie.Need-slice-aggregate-numbered-2
 slice-aggregate-numbered-2 c = search needs
@@ -113,19 +123,25 @@ same-length-6 : tie.Need-same-length-6
 same-length-6 c = search needs
 
 returns-6 : tie.Need-returns-6
-returns-6 c = rw (c .before .before .before .before .before .before .a2 .given .1) (c .before .before .linked .ensures)
+returns-6 c = rw (c .before .before .before .before .before .before .a2 .given .1) (c .before .before .ticket .ensures)
 
 same-length-7 : tie.Need-same-length-7
 same-length-7 c = search needs
 
 returns-7 : tie.Need-returns-7
-returns-7 c = rw (c .before .before .before .before .before .before .a3 .given .1) (c .before .before .linked2 .ensures)
+returns-7 c = rw (c .before .before .before .before .before .before .a3 .given .1) (c .before .before .linked .ensures)
 
 same-length-8 : tie.Need-same-length-8
 same-length-8 c = search needs
 
 returns-8 : tie.Need-returns-8
-returns-8 c = rw (c .before .before .before .before .before .before .a4 .given .1) (c .before .before .numbered2 .ensures)
+returns-8 c = rw (c .before .before .before .before .before .before .a4 .given .1) (c .before .before .linked2 .ensures)
+
+same-length-9 : tie.Need-same-length-9
+same-length-9 c = search needs
+
+returns-9 : tie.Need-returns-9
+returns-9 c = rw (c .before .before .before .before .before .before .a5 .given .1) (c .before .before .numbered2 .ensures)
 
 pub put-said-spec : {M : Type 1} → statement M
 put-said-spec =
@@ -147,12 +163,15 @@ put-said-spec =
     slice-aggregate-numbered
     numbered-requires
     enum-known-a-2
+    slice-aggregate-ticket
+    ticket-requires
+    enum-known-a-3
     slice-aggregate-linked
     linked-requires
-    enum-known-a-3
+    enum-known-a-4
     slice-aggregate-linked-2
     linked-requires-2
-    enum-known-a-4
+    enum-known-a-5
     slice-aggregate-numbered-2
     numbered-requires-2
     same-length
@@ -170,4 +189,6 @@ put-said-spec =
     same-length-7
     returns-7
     same-length-8
-    returns-8)
+    returns-8
+    same-length-9
+    returns-9)

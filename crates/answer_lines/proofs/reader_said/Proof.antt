@@ -10,11 +10,14 @@ enum-told c = search needs
 enum-known-a : tie.Need-enum-known-a
 enum-known-a c = search needs
 
+enum-known-a-2 : tie.Need-enum-known-a-2
+enum-known-a-2 c = search needs
+
 enum-told-2 : tie.Need-enum-told-2
 enum-told-2 c = search needs
 
-enum-known-a-2 : tie.Need-enum-known-a-2
-enum-known-a-2 c = search needs
+enum-known-a-3 : tie.Need-enum-known-a-3
+enum-known-a-3 c = search needs
 
 returns : tie.Need-returns
 returns c = search needs
@@ -23,10 +26,13 @@ returns-2 : tie.Need-returns-2
 returns-2 c = rw (c .before .a .given .1)
 
 returns-3 : tie.Need-returns-3
-returns-3 c = search needs
+returns-3 c = rw (c .before .a2 .given .1)
 
 returns-4 : tie.Need-returns-4
-returns-4 c = rw (c .before .a2 .given .1)
+returns-4 c = search needs
+
+returns-5 : tie.Need-returns-5
+returns-5 c = rw (c .before .a3 .given .1)
 
 pub reader-said-spec : {M : Type 1} → statement M
 reader-said-spec =
@@ -34,9 +40,11 @@ reader-said-spec =
     (tie.spec
     enum-told
     enum-known-a
-    enum-told-2
     enum-known-a-2
+    enum-told-2
+    enum-known-a-3
     returns
     returns-2
     returns-3
-    returns-4)
+    returns-4
+    returns-5)

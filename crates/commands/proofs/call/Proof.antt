@@ -9,6 +9,7 @@ use Rattle.commands.proofs.looked.Reads as looked-reads
 use Rattle.commands.proofs.show.Reads as show-reads
 use Rattle.commands.proofs.written.Reads as written-reads
 use Rattle.index.proofs.begin.Reads as begin-reads
+use Rattle.index.proofs.begin_next.Reads as begin-next-reads
 use Rattle.index.proofs.delete.Reads as delete-reads
 use Rattle.index.proofs.give_up.Reads as give-up-reads
 use Rattle.index.proofs.insert.Reads as insert-reads
@@ -64,20 +65,29 @@ accepted-requires-4 c κs = search needs
 enum-known-c-4 : tie.Need-enum-known-c-4
 enum-known-c-4 c = search needs
 
+begin-next-requires : tie.Need-begin-next-requires
+begin-next-requires c κs = search needs
+
+accepted-requires-5 : tie.Need-accepted-requires-5
+accepted-requires-5 c κs = search needs
+
+enum-known-c-5 : tie.Need-enum-known-c-5
+enum-known-c-5 c = search needs
+
 reader-turn-requires : tie.Need-reader-turn-requires
 reader-turn-requires c κs = search needs
 
 looked-requires : tie.Need-looked-requires
 looked-requires c κs = search needs
 
-enum-known-c-5 : tie.Need-enum-known-c-5
-enum-known-c-5 c = search needs
+enum-known-c-6 : tie.Need-enum-known-c-6
+enum-known-c-6 c = search needs
 
 give-up-requires : tie.Need-give-up-requires
 give-up-requires c κs = search needs
 
-accepted-requires-5 : tie.Need-accepted-requires-5
-accepted-requires-5 c κs = search needs
+accepted-requires-6 : tie.Need-accepted-requires-6
+accepted-requires-6 c κs = search needs
 
 enum-told-3 : tie.Need-enum-told-3
 enum-told-3 c = search needs
@@ -131,10 +141,7 @@ same-length-6 : tie.Need-same-length-6
 same-length-6 c = search needs
 
 returns-6 : tie.Need-returns-6
-returns-6 c =
-    let c3 = c .before .before .before in
-    let c6 = c3 .before .before .before in
-    rw (c6 .c4 .given .1) (c .looked .ensures .0 ∙ c3 .reader-turn .ensures .0, rw (c .looked .ensures .1) (c3 .reader-turn .ensures .1))
+returns-6 c = rw (c .before .before .before .before .c4 .given .1) (c .accepted5 .ensures .0 ∙ c .before .begin-next .ensures .0, rw (c .accepted5 .ensures .1) (c .before .begin-next .ensures .1))
 
 same-length-7 : tie.Need-same-length-7
 same-length-7 c = search needs
@@ -143,19 +150,28 @@ returns-7 : tie.Need-returns-7
 returns-7 c =
     let c3 = c .before .before .before in
     let c6 = c3 .before .before .before in
-    rw (c6 .c5 .given .1) (c .accepted5 .ensures .0 ∙ c3 .give-up .ensures .0, rw (c .accepted5 .ensures .1) (c3 .give-up .ensures .1))
+    rw (c6 .c5 .given .1) (c .looked .ensures .0 ∙ c3 .reader-turn .ensures .0, rw (c .looked .ensures .1) (c3 .reader-turn .ensures .1))
 
 same-length-8 : tie.Need-same-length-8
 same-length-8 c = search needs
 
 returns-8 : tie.Need-returns-8
-returns-8 c = rw (c .before .before .enum-told3 .given .1) (c .show .ensures)
+returns-8 c =
+    let c3 = c .before .before .before in
+    let c6 = c3 .before .before .before in
+    rw (c6 .c6 .given .1) (c .accepted6 .ensures .0 ∙ c3 .give-up .ensures .0, rw (c .accepted6 .ensures .1) (c3 .give-up .ensures .1))
 
 same-length-9 : tie.Need-same-length-9
 same-length-9 c = search needs
 
 returns-9 : tie.Need-returns-9
-returns-9 c = rw (c .before .before .enum-told4 .given .1) (c .show2 .ensures)
+returns-9 c = rw (c .before .before .enum-told3 .given .1) (c .show .ensures)
+
+same-length-10 : tie.Need-same-length-10
+same-length-10 c = search needs
+
+returns-10 : tie.Need-returns-10
+returns-10 c = rw (c .before .before .enum-told4 .given .1) (c .show2 .ensures)
 
 pub call-spec : {M : Type 1} → statement M
 call-spec =
@@ -177,11 +193,14 @@ call-spec =
     begin-requires
     accepted-requires-4
     enum-known-c-4
+    begin-next-requires
+    accepted-requires-5
+    enum-known-c-5
     reader-turn-requires
     looked-requires
-    enum-known-c-5
+    enum-known-c-6
     give-up-requires
-    accepted-requires-5
+    accepted-requires-6
     enum-told-3
     show-requires
     enum-told-4
@@ -203,4 +222,6 @@ call-spec =
     same-length-8
     returns-8
     same-length-9
-    returns-9)
+    returns-9
+    same-length-10
+    returns-10)

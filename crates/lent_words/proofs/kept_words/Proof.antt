@@ -15,15 +15,16 @@ use Rattle.lent_words.proofs.kept_words.Reads as reads
 use Rattle.lent_words.proofs.kept_words.Lts as lts
 
 -- an answer that isn't a refusal
-others : (lent tried : ℕ) (x : Said) → OneOf (0 ∷ 1 ∷ 2 ∷ 3 ∷ 4 ∷ 5 ∷ 6 ∷ []) (tagOf the-type x) → tried ≡ keptWords lent tried (says x)
+others : (lent tried : ℕ) (x : Said) → OneOf (0 ∷ 1 ∷ 2 ∷ 3 ∷ 4 ∷ 5 ∷ 6 ∷ 7 ∷ []) (tagOf the-type x) → tried ≡ keptWords lent tried (says x)
 others lent tried said.Ok h = refl
 others lent tried said.Go h = refl
 others lent tried said.Absent h = refl
 others lent tried said.Wait h = refl
 others lent tried (said.Found v) h = refl
+others lent tried (said.Next k v) h = refl
 others lent tried (said.More l n) h = refl
 others lent tried (said.Done l n) h = refl
-others lent tried (said.No n) h = absurd (miss (0 ∷ 1 ∷ 2 ∷ 3 ∷ 4 ∷ 5 ∷ 6 ∷ []) 7 tt h)
+others lent tried (said.No n) h = absurd (miss (0 ∷ 1 ∷ 2 ∷ 3 ∷ 4 ∷ 5 ∷ 6 ∷ 7 ∷ []) 8 tt h)
 
 enum-told : tie.Need-enum-told
 enum-told c = search needs

@@ -15,12 +15,13 @@ use Rattle.lent_words.proofs.tried_words.Reads as reads
 use Rattle.lent_words.proofs.tried_words.Lts as lts
 
 -- a command that isn't P
-others : (lent : ℕ) (c : Command) → OneOf (1 ∷ 2 ∷ 3 ∷ 4 ∷ 5 ∷ 6 ∷ 7 ∷ 8 ∷ []) (tagOf the-type c) → lent ≡ triedWords lent c
-others lent (command.SetUp n) h = absurd (miss (1 ∷ 2 ∷ 3 ∷ 4 ∷ 5 ∷ 6 ∷ 7 ∷ 8 ∷ []) 0 tt h)
+others : (lent : ℕ) (c : Command) → OneOf (1 ∷ 2 ∷ 3 ∷ 4 ∷ 5 ∷ 6 ∷ 7 ∷ 8 ∷ 9 ∷ []) (tagOf the-type c) → lent ≡ triedWords lent c
+others lent (command.SetUp n) h = absurd (miss (1 ∷ 2 ∷ 3 ∷ 4 ∷ 5 ∷ 6 ∷ 7 ∷ 8 ∷ 9 ∷ []) 0 tt h)
 others lent (command.Insert k v) h = refl
 others lent (command.Delete k) h = refl
 others lent command.Write h = refl
 others lent (command.Begin s k) h = refl
+others lent (command.BeginNext s k) h = refl
 others lent (command.Turn s) h = refl
 others lent (command.GiveUp s) h = refl
 others lent command.Show h = refl
