@@ -228,8 +228,8 @@ standing = 5
 abbrev pub holders : ℕ
 holders = 6
 
-abbrev pub next : ℕ
-next = 7
+abbrev pub nextFree : ℕ
+nextFree = 7
 
 -- A change of a word or field: node n's word f, a number of the register, a slot's record, a planned store; or one store in hand; or a node
 -- filled anew, which stands linked; or no write in hand.

@@ -10,7 +10,7 @@ use Rattle.datatypes.specs.declared.Step.the-variants.{Publish, Detach}
 use Rattle.spec.specs.Register.{State}
 use Rattle.spec.specs.Calls.{ok, go, absent, found, done, refused}
 use Rattle.table.specs.Picture.{row, slot_wants_at_, root_held_awaited_stores_, picture, none, _on_, key, value, left, right, colour, standing}
-use Rattle.table.specs.Picture.{holders, next, Change, _of_:=_, root:=_, first:=_, last:=_, free:=_, held:=_, awaited:=_, count:=_, hand}
+use Rattle.table.specs.Picture.{holders, nextFree, Change, _of_:=_, root:=_, first:=_, last:=_, free:=_, held:=_, awaited:=_, count:=_, hand}
 use Rattle.table.specs.Picture.{reader_:=_, store_:=_, reads, idle, _but_, words, unset}
 use Rattle.table.specs.Entry.{P, I, D, W, B, S, R, E, _⇒_, stands, Entry, entry}
 use Rattle.table.specs.Lent.{three, planned}
@@ -41,16 +41,16 @@ refusals =
     (B 0 1 ⇒ refused 2 ∷ S 0 1 ⇒ refused 2 ∷ R 1 ⇒ refused 2 ∷ E 1 ⇒ refused 2 ∷ I 20 5 ⇒ refused 2 ∷ D 25 ⇒ refused 2 ∷ [])
     ∷ entry "each word of a node at its largest"
     (three but (key of 8 := 4294967295 ∷ value of 8 := 4294967295 ∷ left of 8 := 8 ∷ right of 8 := 8 ∷ colour of 8 := 1 ∷ standing of 8 := 2 ∷ holders of 8 := 255
-    ∷ next of 8 := 8 ∷ []))
+    ∷ nextFree of 8 := 8 ∷ []))
     (B 0 5 ⇒ ok ∷ [])
     ∷ gives2 "2: left one past its range, last node" three (left of 8 := 9 ∷ [])
     ∷ gives2 "2: right one past its range, last node" three (right of 8 := 9 ∷ [])
     ∷ gives2 "2: colour one past its range, last node" three (colour of 8 := 2 ∷ [])
     ∷ gives2 "2: standing one past its range, last node" three (standing of 8 := 3 ∷ [])
     ∷ gives2 "2: holders one past its range, last node" three (holders of 8 := 256 ∷ [])
-    ∷ gives2 "2: next one past its range, last node" three (next of 8 := 9 ∷ [])
+    ∷ gives2 "2: next one past its range, last node" three (nextFree of 8 := 9 ∷ [])
     ∷ gives2 "2: right one past its range, first node" three (right of 1 := 9 ∷ [])
-    ∷ gives2 "2: next one past its range, first node" three (next of 1 := 9 ∷ [])
+    ∷ gives2 "2: next one past its range, first node" three (nextFree of 1 := 9 ∷ [])
     ∷ entry "each number of the register at its largest"
     (three but (root:= 8 ∷ first:= 8 ∷ last:= 8 ∷ free:= 8 ∷ held:= 8 ∷ awaited:= 255 ∷ reader 0 := (idle 4294967295 8) ∷ reader 7 := (reads 4294967295 8) ∷ []))
     (B 0 5 ⇒ ok ∷ [])
