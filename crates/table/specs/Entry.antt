@@ -16,15 +16,20 @@ use Rattle.datatypes.specs.declared.Step.{Step}
 use Rattle.datatypes.specs.declared.Step.the-variants.{Vacant, Insert, DiagLower, DiagRaise, ZigLowerA, ZigLowerC, ZigRaise, Unlink, Adopt, Replace}
 use Rattle.datatypes.specs.declared.Step.the-variants.{Publish, Detach}
 use Rattle.datatypes.specs.declared.Store.{Store}
+use Rattle.datatypes.specs.declared.Kind.{Kind}
+use Rattle.datatypes.specs.declared.Kind.the-variants as kind
+use Rattle.datatypes.specs.declared.Remembered.{Remembered}
+use Rattle.datatypes.specs.declared.Remembered.the-variants.{Nothing, Ticket}
 use Rattle.datatypes.specs.declared.Reader.{Reader}
 use Rattle.datatypes.specs.declared.Register.{Register}
 use Rattle.spec.specs.Register.{State}
 use Rattle.spec.specs.Turn.{Profile, profile, countedBy}
-use Rattle.spec.specs.Calls.{Answer, ok, go, absent, wait, found, more, done, refused, Outcome, Call, inserting, deleting, writing, beginning}
-use Rattle.spec.specs.Calls.{turning, givingUp, call, setUp}
+use Rattle.spec.specs.Calls.{Answer, ok, go, absent, wait, found, next, more, done, refused, Outcome, Call, inserting, deleting, writing}
+use Rattle.spec.specs.Calls.{beginning, turning, givingUp, call, setUp}
 use Rattle.table.specs.Picture.{Row, Picture, Change, rowWords, nodeIn, drawn, none, standing, _but_}
 
--- The calls by the letters of trace: P set up, I insert, D delete, W writer's turn, B begin, R reader's turn, E give up.
+-- The calls by the letters of trace: P set up, I insert, D delete, W writer's turn, B begin, S begin a search for the next ticket, R reader's
+-- turn, E give up.
 pub data Request : Type 0 where
   P : Request
   calls : (c : Call) → Request
@@ -39,7 +44,10 @@ abbrev pub W : Request
 W = calls writing
 
 abbrev pub B : ℕ → ℕ → Request
-B s k = calls (beginning s k)
+B s k = calls (beginning kind.Lookup s k)
+
+abbrev pub S : ℕ → ℕ → Request
+S s g = calls (beginning kind.Next s g)
 
 abbrev pub R : ℕ → Request
 R s = calls (turning s)
@@ -85,6 +93,7 @@ answerNumbers (found v) = 4 ∷ v ∷ []
 answerNumbers (more l n) = 5 ∷ n ∷ linkNumbers l
 answerNumbers (done l n) = 6 ∷ n ∷ linkNumbers l
 answerNumbers (refused n) = 7 ∷ n ∷ []
+answerNumbers (next k v) = 8 ∷ k ∷ v ∷ []
 
 abbrev sideNumber : Side → ℕ
 sideNumber side.L = 0
@@ -114,9 +123,18 @@ abbrev storesNumbers : List Store → List ℕ
 storesNumbers [] = []
 storesNumbers (x ∷ xs) = linkNumbers (x .link) ++ stepNumbers (x .step) ++ storesNumbers xs
 
+abbrev kindNumber : Kind → ℕ
+kindNumber kind.Lookup = 0
+kindNumber kind.Next = 1
+
+abbrev rememberedNumbers : Remembered → List ℕ
+rememberedNumbers Nothing = 0 ∷ []
+rememberedNumbers (Ticket k v) = 1 ∷ k ∷ v ∷ []
+
 abbrev readersNumbers : List Reader → List ℕ
 readersNumbers [] = []
-readersNumbers (x ∷ xs) = cond (x .reading) 1 0 ∷ x .key ∷ x .node ∷ readersNumbers xs
+readersNumbers (x ∷ xs) =
+    cond (x .reading) 1 0 ∷ kindNumber (x .kind) ∷ x .key ∷ x .node ∷ rememberedNumbers (x .remembered) ++ readersNumbers xs
 
 abbrev headNumbers : Register → List ℕ
 headNumbers r = r .root ∷ r .first ∷ r .last ∷ r .free ∷ r .held ∷ r .awaited ∷ r .write .count ∷ readersNumbers (r .readers)
@@ -180,6 +198,7 @@ agrees go x y = true
 agrees absent x y = true
 agrees wait x y = sameState x y
 agrees (found v) x y = true
+agrees (next k v) x y = true
 agrees (more l n) x y = asProfiled (profile (firstStep x)) x y
 agrees (done l n) x y = asProfiled (profile (firstStep x)) x y
 agrees (refused n) x y = sameState x y

@@ -10,6 +10,7 @@ use lib.ListN.{getD, drop, replicate}
 use lib.Seq.{getD-drop, drop-drop}
 use lib.Dec.{eqb, leb}
 use Rattle.base.specs.Walk.{allFrom, allIn}
+use Rattle.datatypes.specs.declared.Kind.the-variants as kind
 use Rattle.datatypes.specs.declared.Register.{Register}
 use Rattle.spec.specs.Numbers.{nodeWords, allSlots}
 use Rattle.spec.specs.Pool.{word, nodes, nodeInRange, poolInRange, lengthRight, redColour, standingRetired}
@@ -95,32 +96,32 @@ fails : poolInRange (largePool 1024) ≡ false
 unfolding largePool wordsInRange
 fails = pool-right (largePool 1024)
 
--- the six calls that test the pool, each on this register, and their answers
-abbrev pub sixCalls : List Call
-sixCalls = inserting 5 50 ∷ deleting 5 ∷ writing ∷ beginning 0 5 ∷ turning 7 ∷ givingUp 7 ∷ []
+-- the seven calls that test the pool, each on this register, and their answers
+abbrev pub sevenCalls : List Call
+sevenCalls = inserting 5 50 ∷ deleting 5 ∷ writing ∷ beginning kind.Lookup 0 5 ∷ beginning kind.Next 0 5 ∷ turning 7 ∷ givingUp 7 ∷ []
 
 abbrev pub answersOn : List ℕ → List Call → List Answer
 answersOn p [] = []
 answersOn p (c ∷ cs) = call (state p largeRegister) c .answer ∷ answersOn p cs
 
 abbrev pub whenFit : List Answer
-whenFit = ok ∷ refused 9 ∷ refused 7 ∷ ok ∷ absent ∷ ok ∷ []
+whenFit = ok ∷ refused 9 ∷ refused 7 ∷ ok ∷ ok ∷ absent ∷ ok ∷ []
 
 abbrev pub whenPast : List Answer
-whenPast = refused 2 ∷ refused 2 ∷ refused 2 ∷ refused 2 ∷ refused 2 ∷ refused 2 ∷ []
+whenPast = refused 2 ∷ refused 2 ∷ refused 2 ∷ refused 2 ∷ refused 2 ∷ refused 2 ∷ refused 2 ∷ []
 
-answers-fit : (p : List ℕ) → lengthRight p ≡ true → poolInRange p ≡ true → nodes p ≡ 1023 → answersOn p sixCalls ≡ whenFit
+answers-fit : (p : List ℕ) → lengthRight p ≡ true → poolInRange p ≡ true → nodes p ≡ 1023 → answersOn p sevenCalls ≡ whenFit
 unfolding registerInRange storeInRange allFrom allIn seek insertPlan fixupAfterInsert word insert delete writerTurn begin readerTurn readerStep giveUp
 answers-fit p a b c = rw (a, b, c)
 
-answers-past : (p : List ℕ) → lengthRight p ≡ true → poolInRange p ≡ false → answersOn p sixCalls ≡ whenPast
+answers-past : (p : List ℕ) → lengthRight p ≡ true → poolInRange p ≡ false → answersOn p sevenCalls ≡ whenPast
 unfolding insert delete writerTurn begin readerTurn giveUp
 answers-past p a b = rw (a, b)
 
 -- every word at its largest is accepted; one past it gives 2
 pub record LargePasses : Type 0 where
-  pub largest : answersOn (largePool 1023) sixCalls ≡ whenFit
-  pub past : answersOn (largePool 1024) sixCalls ≡ whenPast
+  pub largest : answersOn (largePool 1023) sevenCalls ≡ whenFit
+  pub past : answersOn (largePool 1024) sevenCalls ≡ whenPast
 
 pub large-passes : LargePasses
 large-passes =

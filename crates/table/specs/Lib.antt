@@ -3,6 +3,7 @@ pub mod Entry
 pub mod Lent
 pub mod Starred
 pub mod Readers
+pub mod NextTickets
 pub mod Inserts
 pub mod Deletes
 pub mod Refusals

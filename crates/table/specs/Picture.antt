@@ -1,7 +1,7 @@
 -- Pictures of an index, and changes of single words and fields: what the entries of the tables lend and look at. A node's words stand here as
 -- 01 lists them; nothing rests on the definitions of crate spec.
 use Prim.Native.Nat.{ℕ, zero, suc, _+_, _*_, _-_}
-use mathlib.Core.Bool.{true, false, cond}
+use mathlib.Core.Bool.{Bool, true, false, cond}
 use mathlib.Core.List.{List, [], _∷_, _++_}
 use lib.ListN.{length, getD, set, take, drop, replicate}
 use lib.Dec.{eqb}
@@ -10,6 +10,10 @@ use Rattle.datatypes.specs.declared.Link.the-variants.{Root, Left}
 use Rattle.datatypes.specs.declared.Step.{Step}
 use Rattle.datatypes.specs.declared.Step.the-variants.{Vacant, Unlink}
 use Rattle.datatypes.specs.declared.Store.{Store}
+use Rattle.datatypes.specs.declared.Kind.{Kind}
+use Rattle.datatypes.specs.declared.Kind.the-variants as kind
+use Rattle.datatypes.specs.declared.Remembered.{Remembered}
+use Rattle.datatypes.specs.declared.Remembered.the-variants.{Nothing, Ticket}
 use Rattle.datatypes.specs.declared.Reader.{Reader}
 use Rattle.datatypes.specs.declared.Register.{Register}
 use Rattle.spec.specs.Register.{State, state}
@@ -35,15 +39,41 @@ infix 70 _keptBy_
 abbrev pub _keptBy_ : Row → ℕ → Retired
 r keptBy m = record { node = r; holders = m }
 
--- a reading slot, its wanted key, the node that it is at
+-- A slot's record: one that reads the key k and is at node n; one that doesn't read but has a key and a node; one that searches for the next
+-- ticket after the key g; and each of another kind, or with what it remembers. A lookup and nothing remembered where neither is said.
+abbrev reader : Bool → Kind → ℕ → ℕ → Remembered → Reader
+reader reading κ k n m = record { reading = reading; kind = κ; key = k; node = n; remembered = m }
+
+abbrev pub reads : ℕ → ℕ → Reader
+reads k n = reader true kind.Lookup k n Nothing
+
+abbrev pub idle : ℕ → ℕ → Reader
+idle k n = reader false kind.Lookup k n Nothing
+
+abbrev pub seeks : ℕ → ℕ → Reader
+seeks g n = reader true kind.Next g n Nothing
+
+infixl 75 _ofKind_
+abbrev pub _ofKind_ : Reader → Kind → Reader
+x ofKind κ = reader (x .reading) κ (x .key) (x .node) (x .remembered)
+
+infixl 75 _remembering_
+abbrev pub _remembering_ : Reader → Remembered → Reader
+x remembering m = reader (x .reading) (x .kind) (x .key) (x .node) m
+
+-- a reading slot: in a lookup its wanted key and the node that it is at; in a search for the next ticket the key given, the node, what it
+-- remembers
 pub record Read : Type 0 where
   pub slot : ℕ
-  pub key : ℕ
-  pub node : ℕ
+  pub reader : Reader
 
 infix 70 slot_wants_at_
 abbrev pub slot_wants_at_ : ℕ → ℕ → ℕ → Read
-slot s wants k at n = record { slot = s; key = k; node = n }
+slot s wants k at n = record { slot = s; reader = reads k n }
+
+infix 70 slot_after_at_with_
+abbrev pub slot_after_at_with_ : ℕ → ℕ → ℕ → Remembered → Read
+slot s after g at n with m = record { slot = s; reader = seeks g n remembering m }
 
 -- numbers of the register; stores is how many are still to come
 pub record Numbers : Type 0 where
@@ -102,8 +132,8 @@ lastIn (n ∷ []) = n
 lastIn (n ∷ m ∷ ms) = lastIn (m ∷ ms)
 
 abbrev pub readerIn : List Read → ℕ → Reader
-readerIn [] s = record { reading = false; key = 0; node = 0 }
-readerIn (x ∷ xs) s = cond (eqb (x .slot) s) (record { reading = true; key = x .key; node = x .node }) (readerIn xs s)
+readerIn [] s = idle 0 0
+readerIn (x ∷ xs) s = cond (eqb (x .slot) s) (x .reader) (readerIn xs s)
 
 -- the records of the k slots from s on
 abbrev pub readersOf : List Read → ℕ → ℕ → List Reader
@@ -198,8 +228,8 @@ standing = 5
 abbrev pub holders : ℕ
 holders = 6
 
-abbrev pub next : ℕ
-next = 7
+abbrev pub nextFree : ℕ
+nextFree = 7
 
 -- A change of a word or field: node n's word f, a number of the register, a slot's record, a planned store; or one store in hand; or a node
 -- filled anew, which stands linked; or no write in hand.
@@ -221,12 +251,6 @@ pub data Change : Type 0 where
   hand : (x : Store) → Change
   fills : (r : Row) → Change
   atRest : Change
-
-abbrev pub reads : ℕ → ℕ → Reader
-reads k n = record { reading = true; key = k; node = n }
-
-abbrev pub idle : ℕ → ℕ → Reader
-idle k n = record { reading = false; key = k; node = n }
 
 abbrev withNumbers : Register → ℕ → ℕ → ℕ → ℕ → ℕ → ℕ → ℕ → Register
 withNumbers r a b c d e f g =
@@ -300,7 +324,7 @@ used =
       last = 97;
       free = 96;
       held = 95;
-      readers = replicate 8 (reads 94 93);
+      readers = replicate 8 (seeks 94 93 remembering Ticket 89 88);
       awaited = 92;
       write = record { stores = replicate 7 (Unlink on Left 91); count = 7 };
     }

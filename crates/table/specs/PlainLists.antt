@@ -8,7 +8,8 @@ use mathlib.Core.Option.{Option, none, some}
 use lib.ListN.{length}
 use lib.Dec.{eqb}
 use Rattle.sequential.specs.Tree.{leaf, rel}
-use Rattle.spec.specs.Calls.{Answer, ok, go, wait, done, more, refused, Call, inserting, deleting, writing, beginning, turning, givingUp}
+use Rattle.spec.specs.Calls.{Answer, ok, go, wait, absent, next, done, more, refused, Call, inserting, deleting, writing, beginning, turning, givingUp}
+use Rattle.datatypes.specs.declared.Kind.the-variants as kind
 use Rattle.datatypes.specs.declared.Link.the-variants.{Root}
 use Rattle.spec.specs.PlainList.{Plain, noneAccepted, noticeOf, recordFor, feed}
 
@@ -95,17 +96,23 @@ plainLists =
     ∷ writing gave done Root 1
     ∷ lists (1 is 10 ∷ 3 is 30 ∷ 4 is 40 ∷ 5 is 50 ∷ [])
     ∷ [])
-    ∷ entry "plain list: wait, refused calls, begin, reader's turn and give up change nothing"
+    ∷ entry "plain list: wait, refused calls, begin of either kind, reader's turn and give up change nothing"
     (insertOf 3 30
     ++ inserting 4 40 gave ok
     ∷ inserting 5 50 gave refused 6
     ∷ deleting 3 gave refused 6
     ∷ writing gave refused 12
     ∷ writing gave wait
-    ∷ beginning 0 4 gave ok
+    ∷ beginning kind.Lookup 0 4 gave ok
     ∷ turning 0 gave go
     ∷ givingUp 0 gave ok
-    ∷ beginning 9 4 gave refused 3
+    ∷ beginning kind.Lookup 9 4 gave refused 3
+    ∷ beginning kind.Next 0 1 gave ok
+    ∷ turning 0 gave go
+    ∷ turning 0 gave next 3 30
+    ∷ beginning kind.Next 0 3 gave ok
+    ∷ turning 0 gave absent
+    ∷ beginning kind.Next 9 4 gave refused 3
     ∷ lists (3 is 30 ∷ [])
     ∷ writing gave done Root 1
     ∷ lists (3 is 30 ∷ 4 is 40 ∷ [])

@@ -10,16 +10,17 @@ use Rattle.datatypes.specs.declared.Step.the-variants.{Publish, Detach}
 use Rattle.spec.specs.Register.{State}
 use Rattle.spec.specs.Calls.{ok, go, absent, found, done, refused}
 use Rattle.table.specs.Picture.{row, slot_wants_at_, root_held_awaited_stores_, picture, none, _on_, key, value, left, right, colour, standing}
-use Rattle.table.specs.Picture.{holders, next, Change, _of_:=_, root:=_, first:=_, last:=_, free:=_, held:=_, awaited:=_, count:=_, hand}
+use Rattle.table.specs.Picture.{holders, nextFree, Change, _of_:=_, root:=_, first:=_, last:=_, free:=_, held:=_, awaited:=_, count:=_, hand}
 use Rattle.table.specs.Picture.{reader_:=_, store_:=_, reads, idle, _but_, words, unset}
-use Rattle.table.specs.Entry.{P, I, D, W, B, R, E, _⇒_, stands, Entry, entry}
+use Rattle.table.specs.Entry.{P, I, D, W, B, S, R, E, _⇒_, stands, Entry, entry}
 use Rattle.table.specs.Lent.{three, planned}
 
--- n words: refused by 1 in all seven calls, before 2 and 3
+-- n words: refused by 1 in all eight calls, before 2 and 3
 abbrev gives1 : String → ℕ → Entry
 gives1 title n =
     entry title (words n)
-    (P ⇒ refused 1 ∷ I 1 10 ⇒ refused 1 ∷ D 1 ⇒ refused 1 ∷ W ⇒ refused 1 ∷ B 8 1 ⇒ refused 1 ∷ R 8 ⇒ refused 1 ∷ E 8 ⇒ refused 1 ∷ [])
+    (P ⇒ refused 1 ∷ I 1 10 ⇒ refused 1 ∷ D 1 ⇒ refused 1 ∷ W ⇒ refused 1 ∷ B 8 1 ⇒ refused 1 ∷ S 8 1 ⇒ refused 1 ∷ R 8 ⇒ refused 1 ∷ E 8 ⇒ refused 1
+    ∷ [])
 
 -- a begin that is refused by 2
 abbrev gives2 : String → State → List Change → Entry
@@ -27,28 +28,29 @@ gives2 title lent cs = entry title (lent but cs) (B 0 5 ⇒ refused 2 ∷ [])
 
 abbrev pub refusals : List Entry
 refusals =
-    gives1 "1 in all seven calls, before 2 and 3: no words" 0
-    ∷ gives1 "1 in all seven calls, before 2 and 3: 7 nodes" 56
-    ∷ gives1 "1 in all seven calls, before 2 and 3: 63 words" 63
-    ∷ gives1 "1 in all seven calls, before 2 and 3: 65 words" 65
-    ∷ gives1 "1 in all seven calls, before 2 and 3: 1,024 nodes" 8192
-    ∷ entry "2 in six calls, before 3, 7 and the search; set up tests 1 only" (three but (left of 1 := 9 ∷ []))
-    (I 20 5 ⇒ refused 2 ∷ D 25 ⇒ refused 2 ∷ W ⇒ refused 2 ∷ B 8 1 ⇒ refused 2 ∷ R 8 ⇒ refused 2 ∷ E 8 ⇒ refused 2 ∷ P ⇒ ok
+    gives1 "1 in all eight calls, before 2 and 3: no words" 0
+    ∷ gives1 "1 in all eight calls, before 2 and 3: 7 nodes" 56
+    ∷ gives1 "1 in all eight calls, before 2 and 3: 63 words" 63
+    ∷ gives1 "1 in all eight calls, before 2 and 3: 65 words" 65
+    ∷ gives1 "1 in all eight calls, before 2 and 3: 1,024 nodes" 8192
+    ∷ entry "2 in seven calls, before 3, 7 and the search; set up tests 1 only" (three but (left of 1 := 9 ∷ []))
+    (I 20 5 ⇒ refused 2 ∷ D 25 ⇒ refused 2 ∷ W ⇒ refused 2 ∷ B 8 1 ⇒ refused 2 ∷ S 8 1 ⇒ refused 2 ∷ R 8 ⇒ refused 2 ∷ E 8 ⇒ refused 2
+    ∷ P ⇒ ok
     ∷ stands (picture (root 0 held 0 awaited 0 stores 0) [] [] [] (1 ∷ 2 ∷ 3 ∷ 4 ∷ 5 ∷ 6 ∷ 7 ∷ 8 ∷ [])) ∷ [])
     ∷ entry "2 before 4, 5 and 6" (three but (reader 0 := (reads 5 0) ∷ hand (Unlink on Root) ∷ last:= 9 ∷ []))
-    (B 0 1 ⇒ refused 2 ∷ R 1 ⇒ refused 2 ∷ E 1 ⇒ refused 2 ∷ I 20 5 ⇒ refused 2 ∷ D 25 ⇒ refused 2 ∷ [])
+    (B 0 1 ⇒ refused 2 ∷ S 0 1 ⇒ refused 2 ∷ R 1 ⇒ refused 2 ∷ E 1 ⇒ refused 2 ∷ I 20 5 ⇒ refused 2 ∷ D 25 ⇒ refused 2 ∷ [])
     ∷ entry "each word of a node at its largest"
     (three but (key of 8 := 4294967295 ∷ value of 8 := 4294967295 ∷ left of 8 := 8 ∷ right of 8 := 8 ∷ colour of 8 := 1 ∷ standing of 8 := 2 ∷ holders of 8 := 255
-    ∷ next of 8 := 8 ∷ []))
+    ∷ nextFree of 8 := 8 ∷ []))
     (B 0 5 ⇒ ok ∷ [])
     ∷ gives2 "2: left one past its range, last node" three (left of 8 := 9 ∷ [])
     ∷ gives2 "2: right one past its range, last node" three (right of 8 := 9 ∷ [])
     ∷ gives2 "2: colour one past its range, last node" three (colour of 8 := 2 ∷ [])
     ∷ gives2 "2: standing one past its range, last node" three (standing of 8 := 3 ∷ [])
     ∷ gives2 "2: holders one past its range, last node" three (holders of 8 := 256 ∷ [])
-    ∷ gives2 "2: next one past its range, last node" three (next of 8 := 9 ∷ [])
+    ∷ gives2 "2: next one past its range, last node" three (nextFree of 8 := 9 ∷ [])
     ∷ gives2 "2: right one past its range, first node" three (right of 1 := 9 ∷ [])
-    ∷ gives2 "2: next one past its range, first node" three (next of 1 := 9 ∷ [])
+    ∷ gives2 "2: next one past its range, first node" three (nextFree of 1 := 9 ∷ [])
     ∷ entry "each number of the register at its largest"
     (three but (root:= 8 ∷ first:= 8 ∷ last:= 8 ∷ free:= 8 ∷ held:= 8 ∷ awaited:= 255 ∷ reader 0 := (idle 4294967295 8) ∷ reader 7 := (reads 4294967295 8) ∷ []))
     (B 0 5 ⇒ ok ∷ [])
@@ -118,7 +120,7 @@ refusals =
     ∷ R 1 ⇒ go ∷ R 1 ⇒ absent ∷ B 2 1 ⇒ ok ∷ R 2 ⇒ go ∷ R 2 ⇒ go ∷ R 2 ⇒ absent ∷ I 0 1 ⇒ refused 8 ∷ I 4294967295 1 ⇒ refused 8 ∷ D 1 ⇒ refused 9
     ∷ D 0 ⇒ ok ∷ W ⇒ done Root 2
     ∷ stands (picture (root 2 held 1 awaited 0 stores 0) [] (row 2 4294967295 0 0 0 0 ∷ []) [] (3 ∷ 4 ∷ 5 ∷ 6 ∷ 7 ∷ 8 ∷ 1 ∷ [])) ∷ [])
-    ∷ gives1 "1 in all seven calls, before 2 and 3: 68 words" 68
+    ∷ gives1 "1 in all eight calls, before 2 and 3: 68 words" 68
     ∷ gives2 "2: left one past its range, a node between" three (left of 5 := 9 ∷ [])
     ∷ entry "2: the node of slot 4 one past its range" (three but (reader 4 := (idle 0 9) ∷ []))
     (B 1 5 ⇒ refused 2 ∷ [])

@@ -15,6 +15,7 @@ use Rattle.spec.specs.Calls.{setUp, insert, delete, stored, writerTurn, begin, 
 use Rattle.table.specs.Entry.{allPass}
 use Rattle.table.specs.Starred.{starred}
 use Rattle.table.specs.Readers.{readers}
+use Rattle.table.specs.NextTickets.{nextTickets}
 use Rattle.table.specs.Inserts.{inserts}
 use Rattle.table.specs.Deletes.{deletes}
 use Rattle.table.specs.Refusals.{refusals}
@@ -26,6 +27,7 @@ use Rattle.table.specs.Large.{LargePasses, large-passes}
 pub record TablesPass : Type 0 where
   pub starred : allPass starred ≡ true
   pub readers : allPass readers ≡ true
+  pub nextTickets : allPass nextTickets ≡ true
   pub inserts : allPass inserts ≡ true
   pub deletes : allPass deletes ≡ true
   pub refusals : allPass refusals ≡ true
@@ -45,6 +47,7 @@ tables-pass =
     record {
       starred = refl;
       readers = refl;
+      nextTickets = refl;
       inserts = refl;
       deletes = refl;
       refusals = refl;
