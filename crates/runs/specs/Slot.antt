@@ -1,7 +1,7 @@
 -- A slot that reads, by its kind of search: what holds of it (LookupSlot, NextSlot) through its begin, its own turns, the stores of the writer and
 -- the ends of other slots; and that what it answers is right.
 use Prim.Native.Nat.{ℕ, _<_}
-use mathlib.Core.Path.{_≡_, refl, sym, ap, _∙_, subst}
+use mathlib.Core.Path.{_≡_, refl, sym, ap, _∙_}
 use mathlib.Core.Bool.{true}
 use mathlib.Core.List.{List}
 use mathlib.Core.Option.{Option, none, some}
