@@ -12,6 +12,15 @@ pub const READER_TURN: u32 = 5;
 
 pub const GIVE_UP: u32 = 6;
 
+pub const BEGIN_NEXT: u32 = 7;
+
+// the most tickets of a run; their keys are so far apart, but that the last has the largest key
+pub const TICKETS: u32 = 2048;
+
+const KEY_STEP: u32 = 2_097_152;
+
+const LARGEST: u32 = 4_294_967_295;
+
 // A call drawn: its kind, and arguments for any kind.
 pub struct Call {
     pub kind: u32,
@@ -60,18 +69,39 @@ fn tickets(nodes: u32) -> u32 {
     if nodes <= numbers::MOST_NODES as u32 {
         nodes + nodes / 2
     } else {
-        2048
+        TICKETS
     }
 }
 
-// The key of a ticket: spread over all 32-bit numbers, 0 the first and 4,294,967,295 the last.
+// The key of a ticket: spread over all 32-bit numbers, 0 the first and 4,294,967,295 the last. A greater ticket has a greater key.
 fn key_of(t: u32, tickets: u32) -> u32 {
     if t < tickets {
         if t == tickets - 1 {
-            return 4_294_967_295;
+            return LARGEST;
         }
     }
-    t % 2048 * 2_097_152
+    t % TICKETS * KEY_STEP
+}
+
+// the ticket that may have this key
+fn ticket_near(key: u32, tickets: u32) -> u32 {
+    if key == LARGEST {
+        if 0 < tickets {
+            return tickets - 1;
+        }
+    }
+    key / KEY_STEP
+}
+
+// Answers the ticket with this key in a run on so many nodes, TICKETS if there is none.
+pub fn ticket_of(key: u32, nodes: u32) -> u32 {
+    let n = tickets(nodes);
+    let t = ticket_near(key, n);
+    if (t < n) & (key_of(t, n) == key) {
+        t
+    } else {
+        TICKETS
+    }
 }
 
 // a slot, now and then one too high
@@ -81,7 +111,7 @@ fn slot_of(q: u32) -> u32 {
         return numbers::SLOT_LIMIT;
     }
     if spread == 1 {
-        return 4_294_967_295 - q % numbers::SLOT_LIMIT;
+        return LARGEST - q % numbers::SLOT_LIMIT;
     }
     q % numbers::SLOT_LIMIT
 }
@@ -90,9 +120,13 @@ fn write_kind(growing: bool, often: bool) -> u32 {
     if growing == often { INSERT } else { DELETE }
 }
 
+fn begin_kind(even: bool) -> u32 {
+    if even { BEGIN } else { BEGIN_NEXT }
+}
+
 fn reader_kind(c: u32, begins: u32) -> u32 {
     if c < begins {
-        return BEGIN;
+        return begin_kind(c % 2 == 0);
     }
     if c < 63 {
         return READER_TURN;

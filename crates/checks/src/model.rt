@@ -1,17 +1,41 @@
-// What a run knows beside the reference tree: document 01's plain list, the moments of each lookup, and the write in hand. It is lent as
-// WORDS words; a word past the end reads 0, and setting one changes nothing.
+// What a run knows beside the reference tree: document 01's plain list with its latest changes, the moments of each lookup and of each search
+// for the next ticket, and the write in hand. It is lent as WORDS words; a word past the end reads 0, and setting one changes nothing.
+use crate::draws;
 
-// The plain list has two words for each ticket number: whether it is there, and its record.
-const FIRST_SLOT: usize = 4096;
+// The plain list has three words for each ticket number: whether it is there, its record, and how many changes the list had made once this
+// ticket last changed.
+const TICKET_SPAN: usize = 3;
+
+const THERE: u32 = 0;
+
+const ITS_RECORD: u32 = 1;
+
+const CHANGED: u32 = 2;
+
+const FIRST_SLOT: usize = draws::TICKETS as usize * TICKET_SPAN;
 
 const SLOT_SPAN: usize = 32;
 
 const HAND: usize = FIRST_SLOT + numbers::SLOTS * SLOT_SPAN;
 
-pub const WORDS: usize = HAND + 8;
+const HAND_SPAN: usize = 8;
 
-// A slot's words: reading, the wanted ticket, awaited, whether the list lacked the ticket at some moment, how many records it was seen with, and
-// those records.
+// The latest changes of the list, in a ring by their numbers: the ticket put in or taken out, and its record.
+const LOG: usize = HAND + HAND_SPAN;
+
+const LOG_SPAN: usize = 2;
+
+const LOGGED: u32 = 256;
+
+const LOG_TICKET: u32 = 0;
+
+const LOG_RECORD: u32 = 1;
+
+pub const WORDS: usize = LOG + LOGGED as usize * LOG_SPAN;
+
+// A slot's words: reading, the wanted ticket (or the one given to a search for the next), awaited, whether the list lacked the ticket at some
+// moment, how many records it was seen with, whether it searches for the next ticket, how many changes the list had made at its begin, and
+// the records seen.
 const READING: u32 = 0;
 
 const WANTED: u32 = 1;
@@ -22,12 +46,16 @@ const LACKED: u32 = 3;
 
 const SEEN: u32 = 4;
 
+const SEEKS: u32 = 5;
+
+const SINCE: u32 = 6;
+
 const RECORDS: u32 = 8;
 
 const MEMORY: u32 = 24;
 
-// The words of the write in hand: its kind, ticket, record, the form of a delete, its stores in all and those made; and the number of
-// tickets in the list.
+// The words of the write in hand: its kind, ticket, record, the form of a delete, its stores in all and those made; the number of tickets in
+// the list, and of its changes.
 const KIND: u32 = 0;
 
 const TICKET: u32 = 1;
@@ -42,11 +70,16 @@ const MADE: u32 = 5;
 
 const HELD: u32 = 6;
 
+const CHANGES: u32 = 7;
+
 pub const NONE: u32 = 0;
 
 pub const INSERT: u32 = 1;
 
 pub const DELETE: u32 = 2;
+
+// where a count stops
+const MOST: u32 = 4_294_967_295;
 
 fn word(model: &[u32], at: usize) -> u32 {
     if at < model.len() { model[at] } else { 0 }
@@ -56,6 +89,14 @@ fn set_word(model: &mut [u32], at: usize, v: u32) {
     if at < model.len() {
         model[at] = v;
     }
+}
+
+fn ticket_word(model: &[u32], t: u32, f: u32) -> u32 {
+    word(model, t as usize * TICKET_SPAN + f as usize)
+}
+
+fn set_ticket_word(model: &mut [u32], t: u32, f: u32, v: u32) {
+    set_word(model, t as usize * TICKET_SPAN + f as usize, v);
 }
 
 fn slot_word(model: &[u32], s: u32, f: u32) -> u32 {
@@ -74,7 +115,22 @@ fn set_hand_word(model: &mut [u32], f: u32, v: u32) {
     set_word(model, HAND + f as usize, v);
 }
 
-// Clears the model: no ticket, no lookup, no write in hand.
+fn logged_word(model: &[u32], change: u32, f: u32) -> u32 {
+    word(
+        model,
+        LOG + (change % LOGGED) as usize * LOG_SPAN + f as usize,
+    )
+}
+
+fn set_logged_word(model: &mut [u32], change: u32, f: u32, v: u32) {
+    set_word(
+        model,
+        LOG + (change % LOGGED) as usize * LOG_SPAN + f as usize,
+        v,
+    );
+}
+
+// Clears the model: no ticket, no reading slot, no write in hand.
 pub fn clear(model: &mut [u32]) {
     let mut i: usize = 0;
     while i < model.len() {
@@ -90,28 +146,42 @@ pub fn held(model: &[u32]) -> u32 {
 
 // Answers whether the plain list has a ticket.
 pub fn listed(model: &[u32], t: u32) -> bool {
-    word(model, t as usize * 2) == 1
+    ticket_word(model, t, THERE) == 1
 }
 
 // Answers the record of a ticket in the plain list.
 pub fn list_record(model: &[u32], t: u32) -> u32 {
-    word(model, t as usize * 2 + 1)
+    ticket_word(model, t, ITS_RECORD)
+}
+
+// Notes a change of the list: this ticket, with this record, is put in or taken out.
+fn note_change(model: &mut [u32], t: u32, v: u32) {
+    let n = hand_word(model, CHANGES);
+    if n < MOST {
+        set_logged_word(model, n, LOG_TICKET, t);
+        set_logged_word(model, n, LOG_RECORD, v);
+        set_ticket_word(model, t, CHANGED, n + 1);
+        set_hand_word(model, CHANGES, n + 1);
+    }
 }
 
 fn put_in(model: &mut [u32], t: u32, v: u32) {
     let n = held(model);
-    if n < 4294967295 {
-        set_word(model, t as usize * 2, 1);
-        set_word(model, t as usize * 2 + 1, v);
+    if n < MOST {
+        set_ticket_word(model, t, THERE, 1);
+        set_ticket_word(model, t, ITS_RECORD, v);
         set_hand_word(model, HELD, n + 1);
+        note_change(model, t, v);
     }
 }
 
 fn take_out(model: &mut [u32], t: u32) {
     let n = held(model);
     if 0 < n {
-        set_word(model, t as usize * 2, 0);
+        let v = list_record(model, t);
+        set_ticket_word(model, t, THERE, 0);
         set_hand_word(model, HELD, n - 1);
+        note_change(model, t, v);
     }
 }
 
@@ -126,10 +196,25 @@ pub fn begin_lookup(model: &mut [u32], s: u32, t: u32) {
     set_slot_word(model, s, WANTED, t);
     set_slot_word(model, s, LACKED, 0);
     set_slot_word(model, s, SEEN, 0);
+    set_slot_word(model, s, SEEKS, 0);
 }
 
-// Ends a slot's lookup; it is no longer awaited.
-pub fn end_lookup(model: &mut [u32], s: u32) {
+// Begins a slot's search for the next ticket after this one.
+pub fn begin_next(model: &mut [u32], s: u32, t: u32) {
+    let changes = hand_word(model, CHANGES);
+    set_slot_word(model, s, READING, 1);
+    set_slot_word(model, s, WANTED, t);
+    set_slot_word(model, s, SEEKS, 1);
+    set_slot_word(model, s, SINCE, changes);
+}
+
+// Answers whether a slot searches for the next ticket.
+pub fn seeks(model: &[u32], s: u32) -> bool {
+    slot_word(model, s, SEEKS) == 1
+}
+
+// Ends a slot's lookup or search; it is no longer awaited.
+pub fn end_reading(model: &mut [u32], s: u32) {
     set_slot_word(model, s, READING, 0);
     set_slot_word(model, s, AWAITED, 0);
 }
@@ -159,11 +244,24 @@ fn remember(model: &mut [u32], s: u32, v: u32) -> bool {
     true
 }
 
-// A moment of a slot's lookup: what the plain list says of its ticket now.
+// whether the changes since a search's begin are all among the latest
+fn all_logged(model: &[u32], s: u32) -> bool {
+    let since = slot_word(model, s, SINCE);
+    let changes = hand_word(model, CHANGES);
+    if changes < since {
+        return false;
+    }
+    changes - since <= LOGGED
+}
+
+// A moment of a slot's lookup: what the plain list says of its ticket now. Of a search the list's changes tell the moments.
 fn observe_slot(model: &mut [u32], s: u32) -> bool {
     let t = slot_word(model, s, WANTED);
     if !reading(model, s) {
         return true;
+    }
+    if seeks(model, s) {
+        return all_logged(model, s);
     }
     if listed(model, t) {
         let v = list_record(model, t);
@@ -173,7 +271,7 @@ fn observe_slot(model: &mut [u32], s: u32) -> bool {
     true
 }
 
-// Notes a moment of all lookups; answers false if one has no room for a record.
+// Notes a moment of all lookups and searches; answers false if one has no room for a record or a change.
 pub fn observe(model: &mut [u32]) -> bool {
     let mut ok = true;
     let mut s: u32 = 0;
@@ -212,6 +310,71 @@ pub fn is_listed(model: &[u32], s: u32, v: u32) -> bool {
 pub fn is_lacking(model: &[u32], s: u32) -> bool {
     let t = slot_word(model, s, WANTED);
     listed(model, t) == false
+}
+
+// whether a change since a search's begin was of this ticket with this record
+fn was_changed(model: &[u32], s: u32, t: u32, v: u32) -> bool {
+    let changes = hand_word(model, CHANGES);
+    let mut i = slot_word(model, s, SINCE);
+    while i < changes {
+        if (logged_word(model, i, LOG_TICKET) == t) & (logged_word(model, i, LOG_RECORD) == v) {
+            return true;
+        }
+        i += 1;
+    }
+    false
+}
+
+// Whether the list had this ticket with this record at one of the search's moments: it has it now, or a change since the begin put it in or took
+// it out.
+fn was_held(model: &[u32], s: u32, t: u32, v: u32) -> bool {
+    let now = listed(model, t) & (list_record(model, t) == v);
+    now | was_changed(model, s, t, v)
+}
+
+// The first ticket after t that the list has, and had without a break since it had made so many changes; TICKETS if there is none.
+fn first_after(model: &[u32], t: u32, since: u32) -> u32 {
+    let mut next = t;
+    while next < draws::TICKETS - 1 {
+        next += 1;
+        if listed(model, next) & (ticket_word(model, next, CHANGED) <= since) {
+            return next;
+        }
+    }
+    draws::TICKETS
+}
+
+// the first ticket after the one given to a search that the list had at all its moments
+fn first_throughout(model: &[u32], s: u32) -> u32 {
+    let since = slot_word(model, s, SINCE);
+    first_after(model, slot_word(model, s, WANTED), since)
+}
+
+fn first_now(model: &[u32], s: u32) -> u32 {
+    let changes = hand_word(model, CHANGES);
+    first_after(model, slot_word(model, s, WANTED), changes)
+}
+
+// Answers whether a search may answer this ticket with this record: it comes after the given one, the list had it at one of the search's moments,
+// and none between at all of them.
+pub fn was_next(model: &[u32], s: u32, t: u32, v: u32) -> bool {
+    let after = (slot_word(model, s, WANTED) < t) & (t < draws::TICKETS);
+    after & was_held(model, s, t, v) & (t <= first_throughout(model, s))
+}
+
+// Answers whether a search may answer none: the list had no ticket after the given one at all of the search's moments.
+pub fn was_none(model: &[u32], s: u32) -> bool {
+    first_throughout(model, s) == draws::TICKETS
+}
+
+// Answers whether this ticket with this record is the next one now.
+pub fn is_next(model: &[u32], s: u32, t: u32, v: u32) -> bool {
+    (first_now(model, s) == t) & (list_record(model, t) == v)
+}
+
+// Answers whether there is no next ticket now.
+pub fn is_none(model: &[u32], s: u32) -> bool {
+    first_now(model, s) == draws::TICKETS
 }
 
 // Answers the awaited slots, a bit each.

@@ -1,4 +1,5 @@
 // The counts, a line each.
+use crate::draws;
 use crate::tally;
 ghost use Prim.Native.Nat.{_<_};
 ghost use Rattle.spec.specs.Numbers.{slots};
@@ -19,14 +20,23 @@ pub fn run(nodes: u32, calls: u64, most: u32) {
     line(b"\tmost keys held", most as u64);
 }
 
+// how many calls of a kind were made
+fn made(counts: &[u64], kind: u32) -> u64 {
+    tally::get(counts, tally::CALLS + kind as usize)
+}
+
 fn calls(counts: &[u64]) {
     line(b"set up", tally::get(counts, tally::CALLS));
-    line(b"insert", tally::get(counts, 1));
-    line(b"delete", tally::get(counts, 2));
-    line(b"writer's turn", tally::get(counts, 3));
-    line(b"begin", tally::get(counts, 4));
-    line(b"reader's turn", tally::get(counts, 5));
-    line(b"give up", tally::get(counts, 6));
+    line(b"insert", made(counts, draws::INSERT));
+    line(b"delete", made(counts, draws::DELETE));
+    line(b"writer's turn", made(counts, draws::WRITER_TURN));
+    line(b"begin", made(counts, draws::BEGIN));
+    line(
+        b"begin a search for the next ticket",
+        made(counts, draws::BEGIN_NEXT),
+    );
+    line(b"reader's turn", made(counts, draws::READER_TURN));
+    line(b"give up", made(counts, draws::GIVE_UP));
 }
 
 fn refusals(counts: &[u64]) {
@@ -73,6 +83,23 @@ fn readers(counts: &[u64]) {
     line(b"given up", tally::get(counts, tally::GIVEN_UP));
 }
 
+fn next_searches(counts: &[u64]) {
+    line(
+        b"searches for the next ticket begun",
+        tally::get(counts, tally::NEXT_BEGUN),
+    );
+    line(b"next", tally::get(counts, tally::NEXT));
+    line(b"none", tally::get(counts, tally::NONE));
+    line(
+        b"answers that are no longer the next ticket at the last moment",
+        tally::get(counts, tally::NEXT_OLDER),
+    );
+    line(
+        b"searches given up",
+        tally::get(counts, tally::NEXT_GIVEN_UP),
+    );
+}
+
 fn steps(counts: &[u64]) {
     line(b"store insert", tally::get(counts, tally::STEPS));
     line(b"store unlink", tally::get(counts, tally::STEPS + 1));
@@ -114,6 +141,10 @@ fn comparisons(counts: &[u64]) {
         b"lookups compared with their moments",
         tally::get(counts, tally::LOOKUPS),
     );
+    line(
+        b"searches compared with their moments",
+        tally::get(counts, tally::NEXT_SEARCHES),
+    );
     line(b"trees compared", tally::get(counts, tally::TREES));
     line(b"nodes compared", tally::get(counts, tally::NODES));
     line(
@@ -129,6 +160,7 @@ pub fn all(counts: &[u64]) {
     refusals(counts);
     writer(counts);
     readers(counts);
+    next_searches(counts);
     steps(counts);
     rotations(counts);
     comparisons(counts);

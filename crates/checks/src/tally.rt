@@ -35,6 +35,17 @@ pub const BEGUN: usize = 43;
 
 pub const GIVEN_UP: usize = 44;
 
+// searches for the next ticket begun, their answers, those answers that were no longer the next ticket at the last moment, and searches given up
+pub const NEXT_BEGUN: usize = 45;
+
+pub const NEXT: usize = 46;
+
+pub const NONE: usize = 47;
+
+pub const NEXT_OLDER: usize = 48;
+
+pub const NEXT_GIVEN_UP: usize = 49;
+
 // comparisons made
 pub const ANSWERS: usize = 50;
 
@@ -47,6 +58,8 @@ pub const NODES: usize = 53;
 pub const STATES: usize = 54;
 
 pub const DIFFERENCES: usize = 55;
+
+pub const NEXT_SEARCHES: usize = 56;
 
 // stores made, by their step
 pub const STEPS: usize = 60;

@@ -25,10 +25,13 @@ pub const FOUND: u32 = 105;
 
 pub const ABSENT: u32 = 106;
 
-// A call made: the register after it, its answer's number, and the record of found.
+pub const NEXT: u32 = 107;
+
+// A call made: the register after it, its answer's number, the key of next, and the record of found or next.
 pub struct Made {
     pub register: Register,
     pub number: u32,
+    pub key: u32,
     pub record: u32,
 }
 
@@ -52,8 +55,19 @@ fn reader_number(a: ReaderAnswer) -> u32 {
     match a {
         ReaderAnswer::Go => GO,
         ReaderAnswer::Found(_) => FOUND,
+        ReaderAnswer::Next(_, _) => NEXT,
         ReaderAnswer::Absent => ABSENT,
         ReaderAnswer::Refused(n) => n,
+    }
+}
+
+fn key_found(a: ReaderAnswer) -> u32 {
+    match a {
+        ReaderAnswer::Go => 0,
+        ReaderAnswer::Found(_) => 0,
+        ReaderAnswer::Next(k, _) => k,
+        ReaderAnswer::Absent => 0,
+        ReaderAnswer::Refused(_) => 0,
     }
 }
 
@@ -61,6 +75,7 @@ fn record_found(a: ReaderAnswer) -> u32 {
     match a {
         ReaderAnswer::Go => 0,
         ReaderAnswer::Found(v) => v,
+        ReaderAnswer::Next(_, v) => v,
         ReaderAnswer::Absent => 0,
         ReaderAnswer::Refused(_) => 0,
     }
@@ -72,6 +87,7 @@ fn accepted(reply: Reply) -> Made {
     Made {
         register,
         number: acceptance_number(answer),
+        key: 0,
         record: 0,
     }
 }
@@ -82,6 +98,7 @@ fn written(reply: WriterReply) -> Made {
     Made {
         register,
         number: writer_number(answer),
+        key: 0,
         record: 0,
     }
 }
@@ -92,6 +109,7 @@ fn read(reply: ReaderReply) -> Made {
     Made {
         register,
         number: reader_number(answer),
+        key: key_found(answer),
         record: record_found(answer),
     }
 }
@@ -111,6 +129,9 @@ fn ask(pool: &mut [u32], reg: Register, call: Call) -> Reply {
     }
     if call.kind == draws::BEGIN {
         return index::begin(pool, reg, call.slot, call.key);
+    }
+    if call.kind == draws::BEGIN_NEXT {
+        return index::begin_next(pool, reg, call.slot, call.key);
     }
     index::give_up(pool, reg, call.slot)
 }

@@ -1,6 +1,6 @@
 // Long random runs of the index beside a plain sequential red-black tree (crate reference) and document 01's plain list (model): after every
-// finished write both trees are walked together, every lookup's answer is held against its moments, and of every call it is foretold
-// whether it is refused, of a writer's turn whether it answers more, done or wait.
+// finished write both trees are walked together, every answer of a lookup or of a search for the next ticket is held against its moments, and
+// of every call it is foretold whether it is refused, of a writer's turn whether it answers more, done or wait.
 mod calls;
 mod reading;
 mod writing;
@@ -20,11 +20,30 @@ struct Said {
     free_before: u32,
     row: usize,
     number: u32,
+    key: u32,
     record: u32,
     root: u32,
     free: u32,
     held: u32,
     awaited: u32,
+}
+
+// the calls of readers
+fn compare_reading(nodes: u32, model: &mut [u32], counts: &mut [u64], call: Call, said: Said) {
+    if call.kind == draws::BEGIN {
+        reading::begin(model, counts, call, said.number);
+        return;
+    }
+    if call.kind == draws::BEGIN_NEXT {
+        reading::begin_next(model, counts, call, said.number);
+        return;
+    }
+    if call.kind == draws::READER_TURN {
+        let ticket = draws::ticket_of(said.key, nodes);
+        reading::reader_turn(model, counts, call.slot, said.number, ticket, said.record);
+        return;
+    }
+    reading::give_up(model, counts, call.slot, said.number);
 }
 
 fn compare_answer(
@@ -56,18 +75,10 @@ fn compare_answer(
         writing::writer_turn(pool, said.root, tree, model, counts, said.row, said.number);
         return;
     }
-    if call.kind == draws::BEGIN {
-        reading::begin(model, counts, call, said.number);
-        return;
-    }
-    if call.kind == draws::READER_TURN {
-        reading::reader_turn(model, counts, call.slot, said.number, said.record);
-        return;
-    }
-    reading::give_up(model, counts, call.slot, said.number);
+    compare_reading(walk::nodes(pool), model, counts, call, said);
 }
 
-// What holds after every call: keys held, free nodes and awaited slots; and a moment of every lookup passes.
+// What holds after every call: keys held, free nodes and awaited slots; and a moment of every lookup and search passes.
 fn compare_state(pool: &[u32], model: &mut [u32], counts: &mut [u64], said: Said) {
     let room = model::observe(model);
     let held = said.held == model::held(model);
@@ -118,6 +129,7 @@ fn make_calls(
             free_before: reg.free,
             row,
             number: made.number,
+            key: made.key,
             record: made.record,
             root: made.register.root,
             free: made.register.free,
@@ -177,7 +189,7 @@ fn nodes_of(run: u32) -> u32 {
 }
 
 fn calls_of(run: u32) -> u64 {
-    if run < 7 { 150_000 } else { 250_000 }
+    if run < 7 { 300_000 } else { 500_000 }
 }
 
 // a run's number is its seed

@@ -36,18 +36,38 @@ pub fn begin(model: &mut [u32], counts: &mut [u64], call: Call, number: u32) {
     }
 }
 
+// Compares the answer of a begin of a search for the next ticket, and begins it in the model.
+pub fn begin_next(model: &mut [u32], counts: &mut [u64], call: Call, number: u32) {
+    let foretold = begin_foretold(model, call.slot);
+    writing::answered(counts, number, foretold);
+    if foretold == calls::ACCEPTED {
+        model::begin_next(model, call.slot, call.ticket);
+        tally::one(counts, tally::NEXT_BEGUN);
+    }
+}
+
 // An answer is right if it was so at one of the lookup's moments; it is counted as an older one if it isn't so at the last.
 fn end_lookup(model: &mut [u32], counts: &mut [u64], s: u32, right: bool, now: bool) {
     tally::same(counts, right);
     tally::one(counts, tally::LOOKUPS);
-    model::end_lookup(model, s);
+    model::end_reading(model, s);
     if !now {
         tally::one(counts, tally::OLDER);
     }
 }
 
+// likewise of a search for the next ticket
+fn end_next(model: &mut [u32], counts: &mut [u64], s: u32, right: bool, now: bool) {
+    tally::same(counts, right);
+    tally::one(counts, tally::NEXT_SEARCHES);
+    model::end_reading(model, s);
+    if !now {
+        tally::one(counts, tally::NEXT_OLDER);
+    }
+}
+
 fn found(model: &mut [u32], counts: &mut [u64], s: u32, v: u32) {
-    let right = model::was_listed(model, s, v);
+    let right = !model::seeks(model, s) & model::was_listed(model, s, v);
     let now = model::is_listed(model, s, v);
     tally::one(counts, tally::FOUND);
     end_lookup(model, counts, s, right, now);
@@ -60,8 +80,38 @@ fn absent(model: &mut [u32], counts: &mut [u64], s: u32) {
     end_lookup(model, counts, s, right, now);
 }
 
+fn next(model: &mut [u32], counts: &mut [u64], s: u32, t: u32, v: u32) {
+    let right = model::seeks(model, s) & model::was_next(model, s, t, v);
+    let now = model::is_next(model, s, t, v);
+    tally::one(counts, tally::NEXT);
+    end_next(model, counts, s, right, now);
+}
+
+fn none(model: &mut [u32], counts: &mut [u64], s: u32) {
+    let right = model::was_none(model, s);
+    let now = model::is_none(model, s);
+    tally::one(counts, tally::NONE);
+    end_next(model, counts, s, right, now);
+}
+
+// absent, of either kind of reading
+fn absent_or_none(model: &mut [u32], counts: &mut [u64], s: u32) {
+    if model::seeks(model, s) {
+        none(model, counts, s);
+    } else {
+        absent(model, counts, s);
+    }
+}
+
 // The list stays in a reader's turn, so the moment after it is like the last one seen.
-fn follow_turn(model: &mut [u32], counts: &mut [u64], s: u32, number: u32, record: u32) {
+fn follow_turn(
+    model: &mut [u32],
+    counts: &mut [u64],
+    s: u32,
+    number: u32,
+    ticket: u32,
+    record: u32,
+) {
     if number == calls::GO {
         tally::one(counts, tally::GO);
         return;
@@ -70,8 +120,12 @@ fn follow_turn(model: &mut [u32], counts: &mut [u64], s: u32, number: u32, recor
         found(model, counts, s, record);
         return;
     }
+    if number == calls::NEXT {
+        next(model, counts, s, ticket, record);
+        return;
+    }
     if number == calls::ABSENT {
-        absent(model, counts, s);
+        absent_or_none(model, counts, s);
     }
 }
 
@@ -83,19 +137,34 @@ fn turn_number(number: u32) -> u32 {
     }
 }
 
-// Compares the answer of a reader's turn; found and absent are held against the lookup's moments.
-pub fn reader_turn(model: &mut [u32], counts: &mut [u64], s: u32, number: u32, record: u32) {
+// Compares the answer of a reader's turn; found, absent and next are held against the moments of the lookup or search. `ticket`: that of next.
+pub fn reader_turn(
+    model: &mut [u32],
+    counts: &mut [u64],
+    s: u32,
+    number: u32,
+    ticket: u32,
+    record: u32,
+) {
     let foretold = slot_foretold(model, s);
     writing::answered(counts, turn_number(number), foretold);
-    follow_turn(model, counts, s, number, record);
+    follow_turn(model, counts, s, number, ticket, record);
 }
 
-// Compares the answer of a give up, and ends the lookup in the model.
+fn count_given_up(counts: &mut [u64], seeks: bool) {
+    if seeks {
+        tally::one(counts, tally::NEXT_GIVEN_UP);
+    } else {
+        tally::one(counts, tally::GIVEN_UP);
+    }
+}
+
+// Compares the answer of a give up, and ends the lookup or search in the model.
 pub fn give_up(model: &mut [u32], counts: &mut [u64], s: u32, number: u32) {
     let foretold = slot_foretold(model, s);
     writing::answered(counts, number, foretold);
     if foretold == calls::ACCEPTED {
-        model::end_lookup(model, s);
-        tally::one(counts, tally::GIVEN_UP);
+        count_given_up(counts, model::seeks(model, s));
+        model::end_reading(model, s);
     }
 }
