@@ -15,7 +15,7 @@ ghost use Rattle.texts.specs.Put.{Put};
 ghost use Rattle.texts.specs.Line.{line, room};
 ghost use Rattle.answer_lines.specs.Text.{letterOf, linkText, answerFields, says, lineOf, badLine};
 
-// What a call answers: the cases of document 01's Answer.
+// What a call answers: the cases of Answer (crate spec, Calls).
 pub enum Said {
     Ok,
     Go,

@@ -94,7 +94,7 @@ pub struct Performed {
     pub lent: usize,
 }
 
-// Runs a command on the first `lent` of the words, the pool; answer, register and every word are document 01's.
+// Runs a command on the first `lent` of the words, the pool; answer, register and every word are those of documents 01 and 02.
 pub fn perform(words: &mut [u32], lent: usize, reg: Register, c: Command) -> Performed
     requires { ⌜ (lent ≤ poolLimit) × (length (now words) ≡ poolLimit) ⌝ }
     ensures { λ r. ⌜ says (r .said) ≡ performed (now (words .entry)) lent reg c .answer ⌝ }
