@@ -80,20 +80,16 @@ pub enum Kind {
     Next,
 }
 
-// What a search for the next ticket remembers: nothing yet, or the key and record of the last node with a greater key than the given one.
-pub enum Remembered {
-    Nothing,
-    Ticket(u32, u32),
-}
-
-// A reader slot's record: reading or not, the kind of search, the given key, the node it is at (0 before its first turn), and what it
-// remembers (a lookup: nothing).
+// A reader slot's record: reading or not, the kind of search, the given key, the node it is at (0 before its first turn); and of a search for
+// the next ticket whether it remembers one, the best so far, with its key and record (`best`, `value`).
 pub struct Reader {
     pub reading: bool,
     pub kind: Kind,
+    pub remembers: bool,
     pub key: u32,
     pub node: u32,
-    pub remembered: Remembered,
+    pub best: u32,
+    pub value: u32,
 }
 
 // The register: root, free queue, counts, readers, awaited slots (one bit for each slot), the write in hand.

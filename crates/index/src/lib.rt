@@ -161,15 +161,15 @@ pub fn reader_turn(pool: &mut [u32], mut reg: Register, s: u32) -> ReaderReply
         held: reg.held,
         awaited: reg.awaited,
     };
-    let left = lookups::leave(pool, h, s, looked.node);
+    let reader = looked.reader;
+    let left = lookups::leave(pool, h, s, reader.reading);
     reg.root = left.root;
     reg.first = left.first;
     reg.last = left.last;
     reg.free = left.free;
     reg.held = left.held;
     reg.awaited = left.awaited;
-    let remembered = looked.remembered;
-    reg.readers[i] = lookups::reader_at(x, remembered, looked.node);
+    reg.readers[i] = reader;
     let answer = looked.answer;
     replies::answers_reader(answer, reg)
 }

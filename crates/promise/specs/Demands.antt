@@ -16,14 +16,13 @@ use Rattle.datatypes.specs.declared.Link.the-variants.{Root, Left, Right}
 use Rattle.datatypes.specs.declared.Step.{Step}
 use Rattle.datatypes.specs.declared.Kind.{Kind}
 use Rattle.datatypes.specs.declared.Kind.the-variants as kind
-use Rattle.datatypes.specs.declared.Remembered.the-variants.{Nothing}
 use Rattle.sequential.specs.Tree.{Colour, red, black, Tree, leaf, node}
 use Rattle.sequential.specs.Delete.{changedBy}
 use Rattle.base.specs.Lists.{_∈_, Distinct}
 use Rattle.spec.specs.Numbers.{slots, mostStores}
 use Rattle.spec.specs.Pool.{word, child, nodes, keyWord, recordAt, colourWord, standingWord, holdersWord}
 use Rattle.spec.specs.Pool.{standingFree, standingLinked, standingRetired, blackColour, redColour}
-use Rattle.spec.specs.Register.{State, state, withReader, readerOf, storeOf, linkNode, hasSlot, readingAt}
+use Rattle.spec.specs.Register.{State, state, withReader, readerOf, storeOf, linkNode, hasSlot, begunReader, movedReader}
 use Rattle.spec.specs.Turn.{profile}
 use Rattle.spec.specs.Calls.{Answer, go, absent, found, next, more, done, wait, refused, Outcome, Call, writing, call, reading, writeInHand, readerStep}
 use Rattle.spec.specs.PlainList.{carriedOut, noticeOf, recordFor, acceptedWrites}
@@ -57,7 +56,7 @@ pub record NextSearchesRight (S : Start) (cs : List Call) : Type 0 where
 -- 'Holds': going from the root as a reader's turns do, with no other call between. It is the reader's own step: what it answers with the
 -- key k at node n (0 before any), made of the same pool and root again and again. Which slot's record it goes by does not matter: slot 0.
 abbrev pub turnAt : State → ℕ → ℕ → Outcome
-turnAt st k n = readerStep (state (st .pool) (withReader (st .register) 0 (readingAt kind.Lookup k Nothing n))) 0
+turnAt st k n = readerStep (state (st .pool) (withReader (st .register) 0 (movedReader (begunReader kind.Lookup k) n))) 0
 
 -- from node n the turns for the key k end with the answer a
 pub data Going (st : State) (k : ℕ) : ℕ → Answer → Type 0 where

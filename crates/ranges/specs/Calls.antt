@@ -15,7 +15,6 @@ use Rattle.datatypes.specs.declared.Place.the-variants.{Held, Empty, TooDeep}
 use Rattle.datatypes.specs.declared.Step.{Step}
 use Rattle.datatypes.specs.declared.Step.the-variants.{Vacant, Insert, DiagLower, DiagRaise, ZigLowerA, ZigLowerC, ZigRaise, Unlink, Adopt, Replace, Publish, Detach}
 use Rattle.datatypes.specs.declared.Write.{Write}
-use Rattle.datatypes.specs.declared.Remembered.{Remembered}
 use Rattle.datatypes.specs.declared.Reader.{Reader}
 use Rattle.spec.specs.Numbers.{slots, allSlots, pathBound, mostStores}
 use Rattle.spec.specs.Pool.{word, leftWord, rightWord, colourWord, standingWord, holdersWord, nextWord, nodeInRange, poolInRange}
@@ -142,10 +141,10 @@ child-loaded-fits capacity st s h =
     let x = readerOf (st .register) s in
     child-fits capacity (st .pool) (towards (st .pool) (x .key) (x .node)) (x .node) (h .fits)
 
-load-fits : (capacity : ℕ) (st : State) (s : ℕ) (m : Remembered) (n : ℕ) → Within capacity st → Loads st s m n → n ≤ capacity
-load-fits capacity st s m n h (atRoot a e f) = rw f (h .root)
-load-fits capacity st s m n h (lookingUp κ a b e f) = rw f (child-loaded-fits capacity st s h)
-load-fits capacity st s m n h (searching κ a e f) = rw f (child-loaded-fits capacity st s h)
+load-fits : (capacity : ℕ) (st : State) (s : ℕ) (y : Reader) (n : ℕ) → Within capacity st → Loads st s y n → n ≤ capacity
+load-fits capacity st s y n h (atRoot a e f) = rw f (h .root)
+load-fits capacity st s y n h (lookingUp κ a b e f) = rw f (child-loaded-fits capacity st s h)
+load-fits capacity st s y n h (searching κ a e f) = rw f (child-loaded-fits capacity st s h)
 
 pub ranged-next : (capacity : ℕ) (st : State) (c : Call) (o : Outcome) → CallCase st c o → Ranged capacity st → Ranged capacity (o .after)
 ranged-next capacity st c o (refuses d x) h = h
@@ -156,8 +155,8 @@ ranged-next capacity st c o (plansDelete k e) h =
 ranged-next capacity st c o (waits d) h = h
 ranged-next capacity st c o (stores a w f) h = ranged-store capacity st (storeOf (st .register) 0 .link) (storeOf (st .register) 0 .step) h f
 ranged-next capacity st c o (begins κ s k u e) h = ranged-reader capacity st s _ (omega arith) h
-ranged-next capacity st c o (loads s m n p l d) h = ranged-reader capacity st s _ (load-fits capacity st s m n (h .within) l) h
-ranged-next capacity st c o (misses s m n p l e f) h = ranged-end capacity st s h
-ranged-next capacity st c o (meets s k v n p l e f) h = ranged-end capacity st s h
+ranged-next capacity st c o (loads s y n p l d) h = ranged-reader capacity st s _ (load-fits capacity st s y n (h .within) l) h
+ranged-next capacity st c o (misses s y n p l e f) h = ranged-end capacity st s h
+ranged-next capacity st c o (meets s y n p l e f g) h = ranged-end capacity st s h
 ranged-next capacity st c o (finds s p κ d e) h = ranged-end capacity st s h
 ranged-next capacity st c o (leaves s p) h = ranged-end capacity st s h

@@ -1,6 +1,6 @@
 -- What a call does, case by case: it is refused and changes nothing, or it does one of these, its tests passed.
 use Prim.Native.Nat.{ℕ, _<_}
-use mathlib.Core.Path.{_≡_, refl}
+use mathlib.Core.Path.{_≡_, refl, sym, ap, _∙_}
 use mathlib.Core.Bool.{Bool, true, false, cond, not, _&&_}
 use mathlib.Core.List.{List, [], _∷_}
 use mathlib.Core.Logic.{_≢_}
@@ -10,8 +10,7 @@ use lib.Dec.{eqb}
 use borrow.Author.Tests.{not-false, eqb-true, eqb-false, leb-false}
 use Rattle.datatypes.specs.declared.Kind.{Kind}
 use Rattle.datatypes.specs.declared.Kind.the-variants as kind
-use Rattle.datatypes.specs.declared.Remembered.{Remembered}
-use Rattle.datatypes.specs.declared.Remembered.the-variants.{Nothing, Ticket}
+use Rattle.datatypes.specs.declared.Reader.{Reader}
 use Rattle.spec.specs.Numbers.{slots}
 use Rattle.spec.specs.Pool.{word, child, keyWord, recordAt}
 use Rattle.spec.specs.Register.{State, state, readerOf, storeOf, withReader, withWrite, writeOf, begunReader, movedReader}
@@ -26,20 +25,18 @@ use Rattle.spec.specs.Calls.{beginning, turning, givingUp, call}
 use Rattle.promise.specs.Run.{Reads}
 use Rattle.readers.specs.Descends.{step-root, step-found, step-child, step-next, load-none, load-some}
 
--- the child of slot s's node on the side that its key lies on, and what a search for the next ticket remembers there
+-- the child of slot s's node on the side that its key lies on
 abbrev pub childLoaded : State → ℕ → ℕ
 childLoaded st s = let x = readerOf (st .register) s in child (st .pool) (towards (st .pool) (x .key) (x .node)) (x .node)
 
-abbrev pub recalledAt : State → ℕ → Remembered
-recalledAt st s = let x = readerOf (st .register) s in recalled (st .pool) (x .key) (x .node) (x .remembered)
-
--- the node n that slot s loads next, the root or the child by comparing, and what it remembers then
-pub data Loads (st : State) (s : ℕ) (m : Remembered) (n : ℕ) : Type 0 where
-  atRoot : readerOf (st .register) s .node ≡ 0 → m ≡ readerOf (st .register) s .remembered → n ≡ st .register .root → Loads st s m n
+-- the node n that slot s loads next, the root or the child by comparing; and the record y that it has compared with, what it remembers included
+pub data Loads (st : State) (s : ℕ) (y : Reader) (n : ℕ) : Type 0 where
+  atRoot : readerOf (st .register) s .node ≡ 0 → y ≡ readerOf (st .register) s → n ≡ st .register .root → Loads st s y n
   lookingUp : readerOf (st .register) s .kind ≡ kind.Lookup → readerOf (st .register) s .node ≢ 0
       → readerOf (st .register) s .key ≢ word (st .pool) (readerOf (st .register) s .node) keyWord
-      → m ≡ readerOf (st .register) s .remembered → n ≡ childLoaded st s → Loads st s m n
-  searching : readerOf (st .register) s .kind ≡ kind.Next → readerOf (st .register) s .node ≢ 0 → m ≡ recalledAt st s → n ≡ childLoaded st s → Loads st s m n
+      → y ≡ readerOf (st .register) s → n ≡ childLoaded st s → Loads st s y n
+  searching : readerOf (st .register) s .kind ≡ kind.Next → readerOf (st .register) s .node ≢ 0
+      → y ≡ recalled (st .pool) (readerOf (st .register) s) → n ≡ childLoaded st s → Loads st s y n
 
 pub record Passed (st : State) (s : ℕ) : Type 0 where
   pub low : s < slots
@@ -65,12 +62,12 @@ pub data CallCase (st : State) : Call → Outcome → Type 0 where
       → CallCase st writing (stored (stepMade st (storeOf (st .register) 0 .link) (storeOf (st .register) 0 .step)))
   begins : (κ : Kind) (s k : ℕ) → s < slots → reading st s ≡ false
       → CallCase st (beginning κ s k) (outcome ok (state (st .pool) (withReader (st .register) s (begunReader κ k))))
-  loads : (s : ℕ) (m : Remembered) (n : ℕ) → Passed st s → Loads st s m n → n ≢ 0
-      → CallCase st (turning s) (outcome go (state (st .pool) (withReader (st .register) s (movedReader (readerOf (st .register) s) m n))))
-  misses : (s : ℕ) (m : Remembered) (n : ℕ) → Passed st s → Loads st s m n → n ≡ 0 → emptyAnswer (readerOf (st .register) s .kind) m ≡ absent
+  loads : (s : ℕ) (y : Reader) (n : ℕ) → Passed st s → Loads st s y n → n ≢ 0
+      → CallCase st (turning s) (outcome go (state (st .pool) (withReader (st .register) s (movedReader y n))))
+  misses : (s : ℕ) (y : Reader) (n : ℕ) → Passed st s → Loads st s y n → n ≡ 0 → (y .kind ≡ kind.Next → y .remembers ≡ false)
       → CallCase st (turning s) (outcome absent (endReading st s))
-  meets : (s k v n : ℕ) → Passed st s → Loads st s (Ticket k v) n → n ≡ 0 → readerOf (st .register) s .kind ≡ kind.Next
-      → CallCase st (turning s) (outcome (next k v) (endReading st s))
+  meets : (s : ℕ) (y : Reader) (n : ℕ) → Passed st s → Loads st s y n → n ≡ 0 → y .kind ≡ kind.Next → y .remembers ≡ true
+      → CallCase st (turning s) (outcome (next (y .best) (y .value)) (endReading st s))
   finds : (s : ℕ) → Passed st s → readerOf (st .register) s .kind ≡ kind.Lookup → readerOf (st .register) s .node ≢ 0
       → readerOf (st .register) s .key ≡ word (st .pool) (readerOf (st .register) s .node) keyWord
       → CallCase st (turning s) (outcome (found (recordAt (st .pool) (readerOf (st .register) s .node))) (endReading st s))
@@ -98,20 +95,23 @@ tests-pass [] h e = tt
 tests-pass ((true gives n) ∷ ts) h e = absurd (h .0 e)
 tests-pass ((false gives n) ∷ ts) h e = (refl, tests-pass ts (h .1) e)
 
--- what a loaded 0 answers
-empty-case : (st : State) (s : ℕ) (m : Remembered) (n : ℕ) → Passed st s → Loads st s m n → n ≡ 0 → (κ : Kind) → readerOf (st .register) s .kind ≡ κ
-    → CallCase st (turning s) (outcome (emptyAnswer κ m) (endReading st s))
-empty-case st s m n p l e kind.Lookup i = misses s m n p l e (rw i)
-empty-case st s Nothing n p l e kind.Next i = misses s Nothing n p l e (rw i)
-empty-case st s (Ticket k v) n p l e kind.Next i = meets s k v n p l e i
+-- the kinds differ
+abbrev pub kindNumber : Kind → ℕ
+kindNumber kind.Lookup = 0
+kindNumber kind.Next = 1
 
-load-case : (st : State) (s : ℕ) (m : Remembered) (n : ℕ) → Passed st s → Loads st s m n → CallCase st (turning s) (loaded st s (readerOf (st .register) s) m n)
-load-case st s m n p l =
-    let x = readerOf (st .register) s in
-    elim (ℕ-discrete n 0) [
-      | yes e ↦ rw (load-none st s x m n e) (empty-case st s m n p l e (x .kind) refl)
-      | no d ↦ rw (load-some st s x m n d) (loads s m n p l d)
-    ]
+-- what a loaded 0 answers
+empty-case : (st : State) (s : ℕ) (y : Reader) (n : ℕ) → Passed st s → Loads st s y n → n ≡ 0 → (κ : Kind) → y .kind ≡ κ → (b : Bool) → y .remembers ≡ b
+    → CallCase st (turning s) (outcome (emptyAnswer κ y) (endReading st s))
+empty-case st s y n p l e kind.Lookup i b j = misses s y n p l e (λ k. absurd (let z = ap kindNumber (sym i ∙ k) in omega arith))
+empty-case st s y n p l e kind.Next i true j = rw j (meets s y n p l e i j)
+empty-case st s y n p l e kind.Next i false j = rw j (misses s y n p l e (λ _. j))
+
+load-case : (st : State) (s : ℕ) (y : Reader) (n : ℕ) → Passed st s → Loads st s y n → CallCase st (turning s) (loaded st s y n)
+load-case st s y n p l = elim (ℕ-discrete n 0) [
+  | yes e ↦ rw (load-none st s y n e) (empty-case st s y n p l e (y .kind) refl (y .remembers) refl)
+  | no d ↦ rw (load-some st s y n d) (loads s y n p l d)
+]
 
 node-case : (st : State) (s : ℕ) → Passed st s → readerOf (st .register) s .node ≢ 0 → (κ : Kind) → readerOf (st .register) s .kind ≡ κ
     → CallCase st (turning s) (readerStep st s)
@@ -127,7 +127,7 @@ step-case : (st : State) (s : ℕ) → Passed st s → CallCase st (turning s) (
 step-case st s p =
     let x = readerOf (st .register) s in
     elim (ℕ-discrete (x .node) 0) [
-      | yes e ↦ rw (step-root st s x refl e) (load-case st s (x .remembered) (st .register .root) p (atRoot e refl refl))
+      | yes e ↦ rw (step-root st s x refl e) (load-case st s x (st .register .root) p (atRoot e refl refl))
       | no d ↦ node-case st s p d (x .kind) refl
     ]
 

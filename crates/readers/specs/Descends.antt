@@ -12,12 +12,10 @@ use lib.ListN.{length, length-set}
 use borrow.Author.Tests.{eq-eqb, ne-eqb, lt-ltb, le-ltb}
 use Rattle.datatypes.specs.declared.Side.the-variants.{L}
 use Rattle.datatypes.specs.declared.Kind.the-variants as kind
-use Rattle.datatypes.specs.declared.Remembered.{Remembered}
-use Rattle.datatypes.specs.declared.Remembered.the-variants.{Nothing}
 use Rattle.datatypes.specs.declared.Reader.{Reader}
 use Rattle.spec.specs.Numbers.{slots}
 use Rattle.spec.specs.Pool.{word, child, keyWord, recordAt}
-use Rattle.spec.specs.Register.{State, state, readerOf, withReader, movedReader, readingAt}
+use Rattle.spec.specs.Register.{State, state, readerOf, withReader, begunReader, movedReader}
 use Rattle.spec.specs.Free.{endReading}
 use Rattle.spec.specs.Search.{towards}
 use Rattle.spec.specs.Calls.{go, absent, found, outcome, emptyAnswer, loaded, recalled, readerStep}
@@ -31,7 +29,7 @@ use Rattle.readers.specs.Lookups.{Unlinked, Finds, OnWay}
 
 -- What a reader's step is: before any node; in a lookup at a node with the key and at another node; in a search for the next ticket at a node.
 module _ (st : State) (s : ℕ) (x : Reader) (at : readerOf (st .register) s ≡ x) where
-  pub step-root : x .node ≡ 0 → readerStep st s ≡ loaded st s x (x .remembered) (st .register .root)
+  pub step-root : x .node ≡ 0 → readerStep st s ≡ loaded st s x (st .register .root)
   unfolding readerStep
   step-root e = rw (at, e)
 
@@ -41,23 +39,22 @@ module _ (st : State) (s : ℕ) (x : Reader) (at : readerOf (st .register) s ≡
   step-found κ d e = rw (at, κ, ne-eqb (x .node) 0 d, eq-eqb (x .key) (word (st .pool) (x .node) keyWord) e)
 
   pub step-child : x .kind ≡ kind.Lookup → x .node ≢ 0 → x .key ≢ word (st .pool) (x .node) keyWord
-      → readerStep st s ≡ loaded st s x (x .remembered) (child (st .pool) (towards (st .pool) (x .key) (x .node)) (x .node))
+      → readerStep st s ≡ loaded st s x (child (st .pool) (towards (st .pool) (x .key) (x .node)) (x .node))
   unfolding readerStep
   step-child κ d e = rw (at, κ, ne-eqb (x .node) 0 d, ne-eqb (x .key) (word (st .pool) (x .node) keyWord) e)
 
   pub step-next : x .kind ≡ kind.Next → x .node ≢ 0
-      → readerStep st s
-      ≡ loaded st s x (recalled (st .pool) (x .key) (x .node) (x .remembered)) (child (st .pool) (towards (st .pool) (x .key) (x .node)) (x .node))
+      → readerStep st s ≡ loaded st s (recalled (st .pool) x) (child (st .pool) (towards (st .pool) (x .key) (x .node)) (x .node))
   unfolding readerStep
   step-next κ d = rw (at, κ, ne-eqb (x .node) 0 d)
 
 -- what a loaded link answers
-pub load-none : (st : State) (s : ℕ) (x : Reader) (m : Remembered) (n : ℕ) → n ≡ 0 → loaded st s x m n ≡ outcome (emptyAnswer (x .kind) m) (endReading st s)
-load-none st s x m n e = rw (eq-eqb n 0 e)
+pub load-none : (st : State) (s : ℕ) (x : Reader) (n : ℕ) → n ≡ 0 → loaded st s x n ≡ outcome (emptyAnswer (x .kind) x) (endReading st s)
+load-none st s x n e = rw (eq-eqb n 0 e)
 
-pub load-some : (st : State) (s : ℕ) (x : Reader) (m : Remembered) (n : ℕ) → n ≢ 0
-    → loaded st s x m n ≡ outcome go (state (st .pool) (withReader (st .register) s (movedReader x m n)))
-load-some st s x m n d = rw (ne-eqb n 0 d)
+pub load-some : (st : State) (s : ℕ) (x : Reader) (n : ℕ) → n ≢ 0
+    → loaded st s x n ≡ outcome go (state (st .pool) (withReader (st .register) s (movedReader x n)))
+load-some st s x n d = rw (ne-eqb n 0 d)
 
 -- At a node that unfolds to t: the key is there with its record, or the child loaded has what t has, and the way is one node shorter.
 pub data Compared (p : List ℕ) (n k : ℕ) (t : Linked) : Type 0 where
@@ -114,7 +111,7 @@ turn-absent p A k n e f = case (f .tree) (f .unfolds) (f .answer)
 -- Turn after turn on one state.
 module _ (st : State) (k : ℕ) (perSlot : length (st .register .readers) ≡ slots) where
   abbrev looking : ℕ → Reader
-  looking n = readingAt kind.Lookup k Nothing n
+  looking n = movedReader (begunReader kind.Lookup k) n
 
   abbrev posed : ℕ → State
   posed n = state (st .pool) (withReader (st .register) 0 (looking n))
@@ -128,11 +125,11 @@ module _ (st : State) (k : ℕ) (perSlot : length (st .register .readers) ≡ sl
       (rw (length-set (st .register .readers) 0 (looking n), perSlot) (omega arith))
 
   -- a link is loaded that unfolds to t
-  going-load : (n c : ℕ) (t : Linked) → turnAt st k n ≡ loaded (posed n) 0 (looking n) Nothing c → Rep (st .pool) c t → ((c ≢ 0) → Going st k c (answerOf (find t k))) → Going st k n (answerOf (find t k))
-  going-load n c nil e r next = ends n absent (ap (λ o. o .answer) (e ∙ load-none (posed n) 0 (looking n) Nothing c r))
+  going-load : (n c : ℕ) (t : Linked) → turnAt st k n ≡ loaded (posed n) 0 (looking n) c → Rep (st .pool) c t → ((c ≢ 0) → Going st k c (answerOf (find t k))) → Going st k n (answerOf (find t k))
+  going-load n c nil e r next = ends n absent (ap (λ o. o .answer) (e ∙ load-none (posed n) 0 (looking n) c r))
   going-load n c (cell N l r) e h next =
       let d : c ≢ 0 = (let i = h .0 .is in let j = h .0 .within .low in omega arith) in
-      let o = e ∙ load-some (posed n) 0 (looking n) Nothing c d in
+      let o = e ∙ load-some (posed n) 0 (looking n) c d in
       let there : readerOf (turnAt st k n .after .register) 0 .node ≡ c = ap (λ x. readerOf (x .after .register) 0 .node) o ∙ ap (λ x. x .node) (again n c) in
       goes n _ (ap (λ x. x .answer) o) (subst (λ m. Going st k m (answerOf (find (cell N l r) k))) (sym there) (next d))
 
@@ -143,7 +140,7 @@ module _ (st : State) (k : ℕ) (perSlot : length (st .register .readers) ≡ sl
       let w = h .0 in
       let key : word p n keyWord ≡ N .key = rw (w .is) (w .key-is) in
       let val : recordAt p n ≡ N .val = rw (w .is) (w .val-is) in
-      let step : k ≢ word p n keyWord → turnAt st k n ≡ loaded (posed n) 0 (looking n) Nothing (child p (towards p k n) n) = λ e. step-child (posed n) 0 (looking n) (there n) refl d e in
+      let step : k ≢ word p n keyWord → turnAt st k n ≡ loaded (posed n) 0 (looking n) (child p (towards p k n) n) = λ e. step-child (posed n) 0 (looking n) (there n) refl d e in
       let left : ltb k (word p n keyWord) ≡ true → Rep p (child p (towards p k n) n) l = λ e. rw (e, w .is) (h .1) in
       let right : ltb k (word p n keyWord) ≡ false → Rep p (child p (towards p k n) n) r = λ e. rw (e, w .is) (h .2) in
       tri-case L k (N .key)

@@ -6,16 +6,18 @@
 use Prim.Native.Nat.{ℕ, _<_, _≤_}
 use mathlib.Core.Path.{_≡_, refl, sym, _∙_, subst}
 use mathlib.Core.Logic.{_≢_, ⊎-elim}
+use mathlib.Core.Bool.{Bool, true, false, cond}
 use mathlib.Core.List.{List, [], _∷_, _++_, append-assoc}
 use mathlib.Core.Option.{Option, none, some}
 use native.Mathlib.Omega.{arith}
+use lib.Dec.{ltb}
 use borrow.Author.Tests.{lt-ltb, le-ltb}
 use Rattle.datatypes.specs.declared.Side.{Side}
 use Rattle.datatypes.specs.declared.Side.the-variants.{L}
-use Rattle.datatypes.specs.declared.Remembered.{Remembered}
-use Rattle.datatypes.specs.declared.Remembered.the-variants.{Nothing, Ticket}
+use Rattle.datatypes.specs.declared.Reader.{Reader}
 use Rattle.spec.specs.Pool.{word, child, keyWord, recordAt}
 use Rattle.spec.specs.Search.{towards}
+use Rattle.spec.specs.Register.{remembering}
 use Rattle.spec.specs.Calls.{recalled}
 use Rattle.base.specs.Lists.{_∈_, in-append, Distinct}
 use Rattle.tree.specs.Occurs.{occ, in-occ}
@@ -150,10 +152,29 @@ root-trail p root g T r = record { tree = T; whole = T; unfolds = r; rooted = r;
 pub root-closes : (p : List ℕ) (A : ℕ → Option ℕ → Type 0) (root g : ℕ) (T : Linked) → Rep p root T → Sure T → True T → ((k : ℕ) → A k (find T k)) → Closes p A root g none
 root-closes p A root g T r sure told now = record { tree = T; unfolds = r; gap = gap-now A T g sure now; held = held-now A T told now }
 
--- The search's own turn, at node n: it turns to the side `towards p g n` and remembers `recalled p g n r` (spec: Calls). The key remembered:
+-- What a search remembers: nothing, or a ticket's key and record; by its record x in the register. The key remembered:
+pub data Remembered : Type 0 where
+  Nothing : Remembered
+  Ticket : (k v : ℕ) → Remembered
+
+abbrev pub rememberedBy : Reader → Remembered
+rememberedBy x = cond (x .remembers) (Ticket (x .best) (x .value)) Nothing
+
 abbrev pub keyIn : Remembered → Option ℕ
 keyIn Nothing = none
 keyIn (Ticket k v) = some k
+
+-- The search's own turn, at node n: it turns to the side `towards p g n`, and remembers this then.
+abbrev pub noting : List ℕ → ℕ → ℕ → Remembered → Remembered
+noting p g n r = cond (ltb g (word p n keyWord)) (Ticket (word p n keyWord) (recordAt p n)) r
+
+pub recalled-notes : (p : List ℕ) (x : Reader) → rememberedBy (recalled p x) ≡ noting p (x .key) (x .node) (rememberedBy x)
+recalled-notes p x = go (ltb (x .key) (word p (x .node) keyWord))
+  where
+    go : (b : Bool) → rememberedBy (cond b (remembering x (word p (x .node) keyWord) (recordAt p (x .node))) x)
+        ≡ cond b (Ticket (word p (x .node) keyWord) (recordAt p (x .node))) (rememberedBy x)
+    go true = refl
+    go false = refl
 
 -- the ticket remembered is greater than the given key and may have been held
 abbrev pub RememberedHeld : (ℕ → Option ℕ → Type 0) → ℕ → Remembered → Type 0
@@ -168,10 +189,10 @@ remembered-more A A′ more g (Ticket k v) h = (h .0, more k (some v) (h .1))
 record Moved (p : List ℕ) (A : ℕ → Option ℕ → Type 0) (n g : ℕ) (r : Remembered) (t : Linked) : Type 0 where
   on : Linked
   unfolds : Rep p (child p (towards p g n) n) on
-  way-on : way t g (keyIn r) ≡ met n (keyIn r) ∷ way on g (keyIn (recalled p g n r))
-  above-on : above t g (keyIn r) ≡ above on g (keyIn (recalled p g n r))
+  way-on : way t g (keyIn r) ≡ met n (keyIn r) ∷ way on g (keyIn (noting p g n r))
+  above-on : above t g (keyIn r) ≡ above on g (keyIn (noting p g n r))
   held-on : Held A t → Held A on
-  noted-on : Held A t → RememberedHeld A g r → RememberedHeld A g (recalled p g n r)
+  noted-on : Held A t → RememberedHeld A g r → RememberedHeld A g (noting p g n r)
 
 moved : (p : List ℕ) (A : ℕ → Option ℕ → Type 0) (n g : ℕ) (r : Remembered) (t : Linked) → n ≢ 0 → Rep p n t → Moved p A n g r t
 moved p A n g r nil d h = absurd (d h)
@@ -201,17 +222,17 @@ moved p A n g r (cell N x y) d h =
 
 -- (a), (b) and (c) go on
 pub turn-closes : (p : List ℕ) (A : ℕ → Option ℕ → Type 0) (n g : ℕ) (r : Remembered) → n ≢ 0 → Closes p A n g (keyIn r)
-    → Closes p A (child p (towards p g n) n) g (keyIn (recalled p g n r))
+    → Closes p A (child p (towards p g n) n) g (keyIn (noting p g n r))
 turn-closes p A n g r d f =
     let x = moved p A n g r (f .tree) d (f .unfolds) in
     record { tree = x .on; unfolds = x .unfolds; gap = subst (λ o. Gap A g o) (x .above-on) (f .gap); held = x .held-on (f .held) }
 
 pub turn-remembers : (p : List ℕ) (A : ℕ → Option ℕ → Type 0) (n g : ℕ) (r : Remembered) → n ≢ 0 → Closes p A n g (keyIn r)
-    → RememberedHeld A g r → RememberedHeld A g (recalled p g n r)
+    → RememberedHeld A g r → RememberedHeld A g (noting p g n r)
 turn-remembers p A n g r d f h = moved p A n g r (f .tree) d (f .unfolds) .noted-on (f .held) h
 
 pub turn-trail : (p : List ℕ) (root : ℕ) (seen : List Mark) (n g : ℕ) (r : Remembered) → n ≢ 0 → OnTrail p root seen n g (keyIn r)
-    → OnTrail p root (seen ++ met n (keyIn r) ∷ []) (child p (towards p g n) n) g (keyIn (recalled p g n r))
+    → OnTrail p root (seen ++ met n (keyIn r) ∷ []) (child p (towards p g n) n) g (keyIn (noting p g n r))
 turn-trail p root seen n g r d w =
     let x = moved p (λ k o. Unit {0}) n g r (w .tree) d (w .unfolds) in
     record {
@@ -219,7 +240,7 @@ turn-trail p root seen n g r d w =
       whole = w .whole;
       unfolds = x .unfolds;
       rooted = w .rooted;
-      trails = rw (append-assoc seen (met n (keyIn r) ∷ []) (way (x .on) g (keyIn (recalled p g n r))))
+      trails = rw (append-assoc seen (met n (keyIn r) ∷ []) (way (x .on) g (keyIn (noting p g n r))))
           (subst (λ xs. ThinM (Unlinked p) (seen ++ xs) (way (w .whole) g none)) (x .way-on) (w .trails));
     }
 

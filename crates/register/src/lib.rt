@@ -3,7 +3,6 @@ use datatypes::Kind;
 use datatypes::Link;
 use datatypes::Reader;
 use datatypes::Register;
-use datatypes::Remembered;
 use datatypes::Step;
 use datatypes::Store;
 use datatypes::Write;
@@ -11,7 +10,7 @@ ghost use mathlib.Core.Path.{_≡_};
 ghost use Prim.Native.Nat.{_<_, _+_};
 ghost use mathlib.Core.Bool.{cond, _&&_};
 ghost use Rattle.spec.specs.Numbers.{slots, wordBits, mostStores};
-ghost use Rattle.spec.specs.Register.{noReader, begunReader, movedReader, vacant, noWrite, withWrite, hasSlot, putSlot, dropSlot};
+ghost use Rattle.spec.specs.Register.{noReader, begunReader, movedReader, remembering, vacant, noWrite, withWrite, hasSlot, putSlot, dropSlot};
 ghost use Rattle.spec.specs.Register.{readingSlots, nodeNumber, linkInRange, stepInRange, isRoot, isVacant, storeInRange, readerInRange, registerInRange};
 ghost use Rattle.base.specs.Walk.{allIn};
 
@@ -22,9 +21,11 @@ pub fn no_reader() -> Reader
     Reader {
         reading: false,
         kind: Kind::Lookup,
+        remembers: false,
         key: 0,
         node: 0,
-        remembered: Remembered::Nothing,
+        best: 0,
+        value: 0,
     }
 }
 
@@ -35,23 +36,43 @@ pub fn begun_reader(kind: Kind, k: u32) -> Reader
     Reader {
         reading: true,
         kind,
+        remembers: false,
         key: k,
         node: 0,
-        remembered: Remembered::Nothing,
+        best: 0,
+        value: 0,
     }
 }
 
-// Makes the record of a slot after a turn that loaded node n, remembering m.
-pub fn moved_reader(x: Reader, m: Remembered, n: u32) -> Reader
-    ensures { λ r. ⌜ r ≡ movedReader x m n ⌝ }
+// Makes the record of a slot after a turn that loaded node n.
+pub fn moved_reader(x: Reader, n: u32) -> Reader
+    ensures { λ r. ⌜ r ≡ movedReader x n ⌝ }
 {
     let kind = x.kind;
     Reader {
         reading: true,
         kind,
+        remembers: x.remembers,
         key: x.key,
         node: n,
-        remembered: m,
+        best: x.best,
+        value: x.value,
+    }
+}
+
+// Makes the record of a slot that remembers the key k with its record v.
+pub fn remembering(x: Reader, k: u32, v: u32) -> Reader
+    ensures { λ r. ⌜ r ≡ remembering x k v ⌝ }
+{
+    let kind = x.kind;
+    Reader {
+        reading: true,
+        kind,
+        remembers: true,
+        key: x.key,
+        node: x.node,
+        best: k,
+        value: v,
     }
 }
 

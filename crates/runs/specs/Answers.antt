@@ -9,24 +9,22 @@ use native.Mathlib.Decide.{ℕ-discrete}
 use lib.ListN.{length, getD}
 use Rattle.datatypes.specs.declared.Kind.{Kind}
 use Rattle.datatypes.specs.declared.Kind.the-variants as kind
-use Rattle.datatypes.specs.declared.Remembered.{Remembered}
-use Rattle.datatypes.specs.declared.Remembered.the-variants.{Nothing, Ticket}
 use Rattle.datatypes.specs.declared.Write.{Write}
 use Rattle.spec.specs.Numbers.{slots}
 use Rattle.spec.specs.Register.{State, state, noReader, readerOf, withReader, withWrite, begunReader}
 use Rattle.spec.specs.Free.{endReading}
-use Rattle.spec.specs.Calls.{Answer, ok, go, absent, wait, found, next, more, done, refused, Outcome, firstOf, reading, emptyAnswer}
+use Rattle.spec.specs.Calls.{Answer, ok, go, absent, wait, found, next, more, done, refused, Outcome, firstOf, reading}
 use Rattle.spec.specs.Calls.{Call, inserting, deleting, writing, beginning, turning, givingUp}
 use Rattle.spec.specs.PlainList.{Plain, recordFor}
 use Rattle.promise.specs.Run.{Reads}
 use Rattle.tree.specs.Linked.{Linked}
 use Rattle.readers.specs.Marks.{reader-same, reader-other}
-use Rattle.readers.specs.Trays.{Answered}
+use Rattle.readers.specs.Trays.{Nothing, Ticket, Answered}
 use Rattle.readers.specs.CallCase.{CallCase, refuses, plansInsert, plansDelete, waits, stores, begins, loads, misses, meets, finds, leaves, testsOf}
 use Rattle.readers.specs.Safe.{Safe, end-reader, end-own}
 use Rattle.runs.specs.Writer.{Writer, afterStore}
 use Rattle.runs.specs.Sound.{Sound}
-use Rattle.runs.specs.Slot.{Stand, StandAt, EmptyRight, stand-begin, stand-empty, stand-found}
+use Rattle.runs.specs.Slot.{Stand, StandAt, EmptyRight, stand-begin, load-fields, stand-absent, stand-next-ticket, stand-found}
 use Rattle.runs.specs.Follow.{BeginsBy, EndsBy}
 
 -- which slot a call names, and which call it is
@@ -119,7 +117,7 @@ begun-right st c o A κ s k (begins μ t j u f) safe (e, a) =
     (subst (λ m. m < slots) y u, begun-stand st A κ μ s k t j y z (ap searchOf e) (rw (safe .owned .perSlot) u))
 begun-right st c o A κ s k (loads t m n p l f) safe (e, a) = absurd (let z = ap kindOf e in omega arith)
 begun-right st c o A κ s k (misses t m n p l f g) safe (e, a) = absurd (let z = ap kindOf e in omega arith)
-begun-right st c o A κ s k (meets t j v n p l f g) safe (e, a) = absurd (let z = ap kindOf e in omega arith)
+begun-right st c o A κ s k (meets t m n p l f g i) safe (e, a) = absurd (let z = ap kindOf e in omega arith)
 begun-right st c o A κ s k (finds t p f g i) safe (e, a) = absurd (let z = ap kindOf e in omega arith)
 begun-right st c o A κ s k (leaves t p) safe (e, a) = absurd (let z = ap kindOf e in omega arith)
 
@@ -165,7 +163,7 @@ module _ (W : State → Plain → Linked → Type 0) (writer : Writer W) (st : S
   found-right κ v o (refuses d n) a g = absurd (let z = ap toldOf a in omega arith)
   found-right κ v o (loads t m n p l f) a g = absurd (let z = ap toldOf a in omega arith)
   found-right κ v o (misses t m n p l f i) a g = absurd (let z = ap toldOf a in omega arith)
-  found-right κ v o (meets t j w n p l f i) a g = absurd (let z = ap toldOf a in omega arith)
+  found-right κ v o (meets t m n p l f i e) a g = absurd (let z = ap toldOf a in omega arith)
   found-right κ v o (finds t p i d f) a g =
       let e : kind.Lookup ≡ κ = sym i ∙ g .kind in
       (sym e, subst (λ w. A k (some w)) (ap recordOfAnswer a) (stand-found W writer st x h A was s k u d f (subst (λ μ. StandAt st A μ s k) (sym e) g)))
@@ -174,13 +172,8 @@ module _ (W : State → Plain → Linked → Type 0) (writer : Writer W) (st : S
   pub absent-right : (κ : Kind) (o : Outcome) → CallCase st (turning s) o → o .answer ≡ absent → StandAt st A κ s k → EmptyRight κ A k Nothing
   absent-right κ o (refuses d n) a g = absurd (let z = ap toldOf a in omega arith)
   absent-right κ o (loads t m n p l f) a g = absurd (let z = ap toldOf a in omega arith)
-  absent-right κ o (misses t m n p l f i) a g = empty κ m (subst (λ μ. emptyAnswer μ m ≡ absent) (g .kind) i) (stand-empty W writer st x h A was s k u κ m n l f g)
-    where
-      empty : (κ : Kind) (m : Remembered) → emptyAnswer κ m ≡ absent → EmptyRight κ A k m → EmptyRight κ A k Nothing
-      empty kind.Lookup m e r = r
-      empty kind.Next Nothing e r = r
-      empty kind.Next (Ticket j v) e r = absurd (let z = ap toldOf e in omega arith)
-  absent-right κ o (meets t j w n p l f i) a g = absurd (let z = ap toldOf a in omega arith)
+  absent-right κ o (misses t m n p l f i) a g = stand-absent W writer st x h A was s k u κ m n l f i g
+  absent-right κ o (meets t m n p l f i e) a g = absurd (let z = ap toldOf a in omega arith)
   absent-right κ o (finds t p i d f) a g = absurd (let z = ap toldOf a in omega arith)
 
   -- the next ticket: in a search for it, and right
@@ -188,10 +181,10 @@ module _ (W : State → Plain → Linked → Type 0) (writer : Writer W) (st : S
   next-right κ j v o (refuses d n) a g = absurd (let z = ap toldOf a in omega arith)
   next-right κ j v o (loads t m n p l f) a g = absurd (let z = ap toldOf a in omega arith)
   next-right κ j v o (misses t m n p l f i) a g = absurd (let z = ap toldOf a in omega arith)
-  next-right κ j v o (meets t i w n p l f e) a g =
-      let y : kind.Next ≡ κ = sym e ∙ g .kind in
-      let r = stand-empty W writer st x h A was s k u kind.Next (Ticket i w) n l f (subst (λ μ. StandAt st A μ s k) (sym y) g) in
-      (sym y, subst (λ q. Answered A k (Ticket q v)) (ap keyOfAnswer a) (subst (λ q. Answered A k (Ticket i q)) (ap recordOfAnswer a) r))
+  next-right κ j v o (meets t m n p l f i e) a g =
+      let y : kind.Next ≡ κ = sym i ∙ load-fields W writer st x h A was s k u m n l .0 ∙ g .kind in
+      let r = stand-next-ticket W writer st x h A was s k u m n l f e (subst (λ μ. StandAt st A μ s k) (sym y) g) in
+      (sym y, subst (λ q. Answered A k (Ticket q v)) (ap keyOfAnswer a) (subst (λ q. Answered A k (Ticket (m .best) q)) (ap recordOfAnswer a) r))
   next-right κ j v o (finds t p i d f) a g = absurd (let z = ap toldOf a in omega arith)
 
 module _ (W : State → Plain → Linked → Type 0) (writer : Writer W) where
@@ -215,6 +208,6 @@ module _ (W : State → Plain → Linked → Type 0) (writer : Writer W) where
     | no i ↦ inl (sym (ap (λ y. y .reading) (reader-other (st .register) t s _ i)) ∙ e, not-told (turning t) go s (omega arith) (omega arith) (omega arith) (omega arith))
   ]
   read-before st x c o (misses t m n p l f g) h s u e = ended-before st (turning t) absent t s (p .low) (h .safe) refl e
-  read-before st x c o (meets t k v n p l f g) h s u e = ended-before st (turning t) (next k v) t s (p .low) (h .safe) refl e
+  read-before st x c o (meets t m n p l f g i) h s u e = ended-before st (turning t) (next (m .best) (m .value)) t s (p .low) (h .safe) refl e
   read-before st x c o (finds t p i d f) h s u e = ended-before st (turning t) _ t s (p .low) (h .safe) refl e
   read-before st x c o (leaves t p) h s u e = ended-before st (givingUp t) ok t s (p .low) (h .safe) refl e

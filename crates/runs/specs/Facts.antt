@@ -101,7 +101,7 @@ begun-none st c o κ s k m (begins μ t j u f) safe (e, a) h =
     false≢true (sym (subst (λ i. reading st i ≡ false) y f) ∙ reads)
 begun-none st c o κ s k m (loads t r n p l f) safe (e, a) h = let z = ap kindOf e in omega arith
 begun-none st c o κ s k m (misses t r n p l f g) safe (e, a) h = let z = ap kindOf e in omega arith
-begun-none st c o κ s k m (meets t j v n p l f g) safe (e, a) h = let z = ap kindOf e in omega arith
+begun-none st c o κ s k m (meets t r n p l f g i) safe (e, a) h = let z = ap kindOf e in omega arith
 begun-none st c o κ s k m (finds t p i f g) safe (e, a) h = let z = ap kindOf e in omega arith
 begun-none st c o κ s k m (CallCase.leaves t p) safe (e, a) h = let z = ap kindOf e in omega arith
 
@@ -118,7 +118,7 @@ module _ (W : State → Plain → Linked → Type 0) (writer : Writer W) where
   held-before st x c o (begins κ t j v e) h s m k = held-was _ s m k
   held-before st x c o (loads t r n p l d) h s m k = held-was _ s m k
   held-before st x c o (misses t r n p l e g) h s m k = end-was st t s m (h .safe) k
-  held-before st x c o (meets t j v n p l e g) h s m k = end-was st t s m (h .safe) k
+  held-before st x c o (meets t r n p l e g i) h s m k = end-was st t s m (h .safe) k
   held-before st x c o (finds t p κ d e) h s m k = end-was st t s m (h .safe) k
   held-before st x c o (CallCase.leaves t p) h s m k = end-was st t s m (h .safe) k
 

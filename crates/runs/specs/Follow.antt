@@ -9,7 +9,6 @@ use native.Mathlib.Omega.{arith}
 use native.Mathlib.Decide.{ℕ-discrete}
 use lib.ListN.{getD}
 use Rattle.datatypes.specs.declared.Kind.{Kind}
-use Rattle.datatypes.specs.declared.Remembered.{Remembered}
 use Rattle.datatypes.specs.declared.Reader.{Reader}
 use Rattle.datatypes.specs.declared.Write.{Write}
 use Rattle.spec.specs.Numbers.{slots}
@@ -77,12 +76,12 @@ stand-end st A κ s t k d h g =
 module _ (W : State → Plain → Linked → Type 0) (writer : Writer W) where
   -- a load, its own or another slot's
   load-next : (st : State) (x : Plain) (h : Sound W writer st x) (A A′ : ℕ → Option ℕ → Type 0) (κ : Kind) (s k : ℕ) → s < slots → ((q : ℕ) (y : Option ℕ) → A q y → A′ q y)
-      → ((q : ℕ) → A q (recordFor q (x .tickets))) → StandAt st A κ s k → (t : ℕ) (m : Remembered) (n : ℕ) → Loads st t m n → n ≢ 0 → Dec (t ≡ s)
-      → StandAt (state (st .pool) (withReader (st .register) t (movedReader (readerOf (st .register) t) m n))) A′ κ s k
-  load-next st x h A A′ κ s k u more was g t m n l d (no i) = stand-other st A′ κ s t k _ i (stand-more _ _ _ _ A A′ κ s k more g)
-  load-next st x h A A′ κ s k u more was g t m n l d (yes i) =
-      subst (λ j. StandAt (state (st .pool) (withReader (st .register) j (movedReader (readerOf (st .register) j) m n))) A′ κ s k) (sym i)
-      (stand-own st A′ κ s k _ u (h .safe) (stand-more _ _ _ _ A A′ κ s k more (stand-loads W writer st x h A was s k u κ m n (subst (λ j. Loads st j m n) i l) d g)))
+      → ((q : ℕ) → A q (recordFor q (x .tickets))) → StandAt st A κ s k → (t : ℕ) (z : Reader) (n : ℕ) → Loads st t z n → n ≢ 0 → Dec (t ≡ s)
+      → StandAt (state (st .pool) (withReader (st .register) t (movedReader z n))) A′ κ s k
+  load-next st x h A A′ κ s k u more was g t z n l d (no i) = stand-other st A′ κ s t k _ i (stand-more _ _ _ _ A A′ κ s k more g)
+  load-next st x h A A′ κ s k u more was g t z n l d (yes i) =
+      subst (λ j. StandAt (state (st .pool) (withReader (st .register) j (movedReader z n))) A′ κ s k) (sym i)
+      (stand-own st A′ κ s k _ u (h .safe) (stand-more _ _ _ _ A A′ κ s k more (stand-loads W writer st x h A was s k u κ z n (subst (λ j. Loads st j z n) i l) d g)))
 
   -- a slot ends that isn't this one
   end-next : (st : State) (A A′ : ℕ → Option ℕ → Type 0) (κ : Kind) (s t k : ℕ) → t ≢ s → Safe st → ((q : ℕ) (y : Option ℕ) → A q y → A′ q y) → StandAt st A κ s k
@@ -104,10 +103,10 @@ module _ (W : State → Plain → Linked → Type 0) (writer : Writer W) where
       (stand-stored W writer st x A A′ κ s k h (storeMade x (x .inHand)) u more (rw (store-notice (firstMade st)) at now) a z g)
   stand-next st x c o (begins μ t j v e) h A A′ κ s k u more was now lasts g =
       stand-other st A′ κ s t k _ (λ i. false≢true (sym e ∙ subst (λ m. Reads st m) (sym i) (g .reads))) (stand-more _ _ _ _ A A′ κ s k more g)
-  stand-next st x c o (loads t m n p l d) h A A′ κ s k u more was now lasts g = load-next st x h A A′ κ s k u more was g t m n l d (ℕ-discrete t s)
-  stand-next st x c o (misses t m n p l e f) h A A′ κ s k u more was now lasts g = end-next st A A′ κ s t k (λ i. lasts (inl (ap turning i, refl))) (h .safe) more g
-  stand-next st x c o (meets t j v n p l e f) h A A′ κ s k u more was now lasts g =
-      end-next st A A′ κ s t k (λ i. lasts (inr (inr (inl (j, v, (ap turning i, refl)))))) (h .safe) more g
+  stand-next st x c o (loads t z n p l d) h A A′ κ s k u more was now lasts g = load-next st x h A A′ κ s k u more was g t z n l d (ℕ-discrete t s)
+  stand-next st x c o (misses t z n p l e f) h A A′ κ s k u more was now lasts g = end-next st A A′ κ s t k (λ i. lasts (inl (ap turning i, refl))) (h .safe) more g
+  stand-next st x c o (meets t z n p l e f i) h A A′ κ s k u more was now lasts g =
+      end-next st A A′ κ s t k (λ j. lasts (inr (inr (inl (z .best, z .value, (ap turning j, refl)))))) (h .safe) more g
   stand-next st x c o (finds t p f d e) h A A′ κ s k u more was now lasts g = end-next st A A′ κ s t k (λ i. lasts (inr (inl (_, (ap turning i, refl))))) (h .safe) more g
   stand-next st x c o (leaves t p) h A A′ κ s k u more was now lasts g = end-next st A A′ κ s t k (λ i. lasts (inr (inr (inr (ap givingUp i, refl))))) (h .safe) more g
 
@@ -122,9 +121,9 @@ module _ (W : State → Plain → Linked → Type 0) (writer : Writer W) where
       let z = writer .store st x (h .tree) (h .safe) (h .holds) a w f in
       kept-store (st .pool) (afterStore st .pool) (Reads st) (z .turn .change) s m u r k
   kept-next st x c o (begins κ t j v e) h s m u r lasts k = k
-  kept-next st x c o (loads t j n p l d) h s m u r lasts k = k
-  kept-next st x c o (misses t j n p l e f) h s m u r lasts k = kept-end st t (h .safe .queue) (h .safe .whole) (h .safe .owned .exact) s m (λ i. lasts (inl (ap turning i, refl))) k
-  kept-next st x c o (meets t j v n p l e f) h s m u r lasts k =
-      kept-end st t (h .safe .queue) (h .safe .whole) (h .safe .owned .exact) s m (λ i. lasts (inr (inr (inl (j, v, (ap turning i, refl)))))) k
+  kept-next st x c o (loads t z n p l d) h s m u r lasts k = k
+  kept-next st x c o (misses t z n p l e f) h s m u r lasts k = kept-end st t (h .safe .queue) (h .safe .whole) (h .safe .owned .exact) s m (λ i. lasts (inl (ap turning i, refl))) k
+  kept-next st x c o (meets t z n p l e f i) h s m u r lasts k =
+      kept-end st t (h .safe .queue) (h .safe .whole) (h .safe .owned .exact) s m (λ j. lasts (inr (inr (inl (z .best, z .value, (ap turning j, refl)))))) k
   kept-next st x c o (finds t p κ d e) h s m u r lasts k = kept-end st t (h .safe .queue) (h .safe .whole) (h .safe .owned .exact) s m (λ i. lasts (inr (inl (_, (ap turning i, refl))))) k
   kept-next st x c o (leaves t p) h s m u r lasts k = kept-end st t (h .safe .queue) (h .safe .whole) (h .safe .owned .exact) s m (λ i. lasts (inr (inr (inr (ap givingUp i, refl))))) k

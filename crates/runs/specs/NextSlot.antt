@@ -7,8 +7,6 @@ use mathlib.Core.List.{List, [], _∷_, _++_}
 use mathlib.Core.Option.{Option, none}
 use mathlib.Core.Logic.{_≢_, _⊎_, inl, inr, ⊎-elim, ⊎-map, _↔_}
 use Rattle.datatypes.specs.declared.Link.{Link}
-use Rattle.datatypes.specs.declared.Remembered.{Remembered}
-use Rattle.datatypes.specs.declared.Remembered.the-variants.{Nothing}
 use Rattle.spec.specs.Numbers.{slots}
 use Rattle.spec.specs.Pool.{child, standingLinked}
 use Rattle.spec.specs.Register.{State, hasSlot}
@@ -28,8 +26,7 @@ use Rattle.readers.specs.Marks.{no-bit, reading-bit}
 use Rattle.readers.specs.Reach.{HasStanding, Kept, Closed, kept-stands, kept-store, not-again}
 use Rattle.readers.specs.Lookups.{Unlinked}
 use Rattle.readers.specs.Trays.{Gap, gap-now, Held, held-now, Closes, closes-more, OnTrail, store-closes, store-trail, anew-closes, anew-trail, root-trail, root-closes}
-use Rattle.spec.specs.Calls.{recalled}
-use Rattle.readers.specs.Trays.{keyIn, RememberedHeld, remembered-more, turn-closes, turn-remembers, turn-trail, Answered, turn-answers}
+use Rattle.readers.specs.Trays.{Remembered, Nothing, Ticket, keyIn, noting, RememberedHeld, remembered-more, turn-closes, turn-remembers, turn-trail, Answered, turn-answers}
 use Rattle.readers.specs.Turns.{Turn}
 use Rattle.runs.specs.Writer.{Stores, Writer, firstMade, afterStore}
 use Rattle.runs.specs.Sound.{Sound}
@@ -64,7 +61,7 @@ module _ (p : List ℕ) (root awaited : ℕ) (A : ℕ → Option ℕ → Type 0)
 
   -- it loads a child
   pub nextStand-child : (n : ℕ) (r : Remembered) → n ≢ 0 → Kept p s n → child p (towards p g n) n ≢ 0 → NextStand p root awaited n r A s g
-      → NextStand p root awaited (child p (towards p g n) n) (recalled p g n r) A s g
+      → NextStand p root awaited (child p (towards p g n) n) (noting p g n r) A s g
   nextStand-child n r d kp c h = record {
     closes = λ _. turn-closes p A n g r d (h .closes d);
     remembers = turn-remembers p A n g r d (h .closes d) (h .remembers);
@@ -76,10 +73,10 @@ module _ (p : List ℕ) (root awaited : ℕ) (A : ℕ → Option ℕ → Type 0)
   }
 
   -- the child that it loads is none: it answers what it remembers then
-  pub nextStand-answers : (n : ℕ) (r : Remembered) → n ≢ 0 → child p (towards p g n) n ≡ 0 → NextStand p root awaited n r A s g → Answered A g (recalled p g n r)
+  pub nextStand-answers : (n : ℕ) (r : Remembered) → n ≢ 0 → child p (towards p g n) n ≡ 0 → NextStand p root awaited n r A s g → Answered A g (noting p g n r)
   nextStand-answers n r d e h =
       let f = h .closes d in
-      turn-answers p A (child p (towards p g n) n) g (recalled p g n r) e (turn-closes p A n g r d f) (turn-remembers p A n g r d f (h .remembers))
+      turn-answers p A (child p (towards p g n) n) g (noting p g n r) e (turn-closes p A n g r d f) (turn-remembers p A n g r d f (h .remembers))
 
   -- the root that it loads is none
   pub nextStand-empty : (T : Linked) → Rep p root T → root ≡ 0 → Sure T → True T → ((k : ℕ) → A k (find T k)) → Answered A g Nothing

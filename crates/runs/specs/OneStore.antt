@@ -40,7 +40,7 @@ storing st c o (stores a w f) e = record { unawaited = a; inHand = w; finds-all 
 storing st c o (begins κ t j u f) e = absurd (let z = e .0 in omega arith)
 storing st c o (loads t r i p k f) e = absurd (let z = e .0 in omega arith)
 storing st c o (misses t r i p k f g) e = absurd (let z = e .0 in omega arith)
-storing st c o (meets t j v i p k f g) e = absurd (let z = e .0 in omega arith)
+storing st c o (meets t r i p k f g h) e = absurd (let z = e .0 in omega arith)
 storing st c o (finds t p κ d f) e = absurd (let z = e .0 in omega arith)
 storing st c o (leaves t p) e = absurd (let z = e .0 in omega arith)
 

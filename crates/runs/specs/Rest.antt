@@ -86,7 +86,7 @@ wait-right st c o (stores a w f) h e = absurd (stored-not (stepMade st (storeOf 
 wait-right st c o (begins κ t j u f) h e = absurd (let z = ap toldOf e in omega arith)
 wait-right st c o (loads t r n p l f) h e = absurd (let z = ap toldOf e in omega arith)
 wait-right st c o (misses t r n p l f g) h e = absurd (let z = ap toldOf e in omega arith)
-wait-right st c o (meets t j v n p l f g) h e = absurd (let z = ap toldOf e in omega arith)
+wait-right st c o (meets t r n p l f g i) h e = absurd (let z = ap toldOf e in omega arith)
 wait-right st c o (finds t p κ d f) h e = absurd (let z = ap toldOf e in omega arith)
 wait-right st c o (leaves t p) h e = absurd (let z = ap toldOf e in omega arith)
 
@@ -133,7 +133,7 @@ refused-by st c o n z (stores a w f) e = absurd (z (sym (sym (stored-number (ste
 refused-by st c o n z (begins κ t j u f) e = absurd (z (sym (ap numberOf e)))
 refused-by st c o n z (loads t r m p l f) e = absurd (z (sym (ap numberOf e)))
 refused-by st c o n z (misses t r m p l f g) e = absurd (z (sym (ap numberOf e)))
-refused-by st c o n z (meets t j v m p l f g) e = absurd (z (sym (ap numberOf e)))
+refused-by st c o n z (meets t r m p l f g i) e = absurd (z (sym (ap numberOf e)))
 refused-by st c o n z (finds t p κ d f) e = absurd (z (sym (ap numberOf e)))
 refused-by st c o n z (leaves t p) e = absurd (z (sym (ap numberOf e)))
 
@@ -252,6 +252,6 @@ turn-goes st c o (stores a w f) e z = store-notice (stepMade st (storeOf (st .re
 turn-goes st c o (begins κ t j u f) e z = refl
 turn-goes st c o (loads t r n p l f) e z = refl
 turn-goes st c o (misses t r n p l f g) e z = refl
-turn-goes st c o (meets t j v n p l f g) e z = refl
+turn-goes st c o (meets t r n p l f g i) e z = refl
 turn-goes st c o (finds t p κ d f) e z = refl
 turn-goes st c o (leaves t p) e z = refl

@@ -2,25 +2,25 @@
 -- the ends of other slots; and that what it answers is right.
 use Prim.Native.Nat.{ℕ, _<_}
 use mathlib.Core.Path.{_≡_, refl, sym, ap, _∙_}
-use mathlib.Core.Bool.{true}
+use mathlib.Core.Bool.{Bool, true, false, cond}
 use mathlib.Core.List.{List}
 use mathlib.Core.Option.{Option, none, some}
 use mathlib.Core.Logic.{_≢_}
 use native.Mathlib.Omega.{arith}
+use lib.Dec.{ltb}
 use Rattle.datatypes.specs.declared.Kind.{Kind}
 use Rattle.datatypes.specs.declared.Kind.the-variants as kind
-use Rattle.datatypes.specs.declared.Remembered.{Remembered}
 use Rattle.datatypes.specs.declared.Reader.{Reader}
 use Rattle.spec.specs.Numbers.{slots}
 use Rattle.spec.specs.Pool.{word, keyWord, recordAt, standingLinked}
-use Rattle.spec.specs.Register.{State, hasSlot, readerOf, begunReader, movedReader}
+use Rattle.spec.specs.Register.{State, hasSlot, readerOf, begunReader, movedReader, remembering}
 use Rattle.spec.specs.PlainList.{Plain, recordFor}
 use Rattle.promise.specs.Run.{Reads}
 use Rattle.tree.specs.Linked.{Linked, find}
 use Rattle.heap.specs.Rep.{Alike, upToLinks}
 use Rattle.readers.specs.Reach.{HasStanding, Kept}
-use Rattle.readers.specs.Trays.{Answered}
-use Rattle.readers.specs.CallCase.{Loads, atRoot, lookingUp, searching}
+use Rattle.readers.specs.Trays.{Remembered, Nothing, Ticket, rememberedBy, recalled-notes, Answered}
+use Rattle.readers.specs.CallCase.{kindNumber, Loads, atRoot, lookingUp, searching}
 use Rattle.runs.specs.Writer.{Stores, Writer, firstMade, afterStore}
 use Rattle.runs.specs.Sound.{Sound}
 use Rattle.runs.specs.LookupSlot.{LookupStand, lookupStand-begin, lookupStand-root, lookupStand-child, lookupStand-more, lookupStand-alike, lookupStand-stored}
@@ -38,7 +38,7 @@ pub record Stand (p : List ℕ) (root awaited : ℕ) (x : Reader) (A : ℕ → O
   pub reads : x .reading ≡ true
   pub kind : x .kind ≡ κ
   pub key : x .key ≡ k
-  pub search : SearchStand κ p root awaited (x .node) (x .remembered) A s k
+  pub search : SearchStand κ p root awaited (x .node) (rememberedBy x) A s k
 
 -- more answers are possible
 search-more : (κ : Kind) (p : List ℕ) (root awaited n : ℕ) (m : Remembered) (A A′ : ℕ → Option ℕ → Type 0) (s k : ℕ) → ((q : ℕ) (o : Option ℕ) → A q o → A′ q o)
@@ -49,7 +49,7 @@ search-more kind.Next p root awaited n m A A′ s k more h = nextStand-more p ro
 pub stand-more : (p : List ℕ) (root awaited : ℕ) (x : Reader) (A A′ : ℕ → Option ℕ → Type 0) (κ : Kind) (s k : ℕ) → ((q : ℕ) (o : Option ℕ) → A q o → A′ q o)
     → Stand p root awaited x A κ s k → Stand p root awaited x A′ κ s k
 stand-more p root awaited x A A′ κ s k more h =
-    record { reads = h .reads; kind = h .kind; key = h .key; search = search-more κ p root awaited (x .node) (x .remembered) A A′ s k more (h .search) }
+    record { reads = h .reads; kind = h .kind; key = h .key; search = search-more κ p root awaited (x .node) (rememberedBy x) A A′ s k more (h .search) }
 
 -- a slot begins
 pub stand-begin : (p : List ℕ) (root awaited : ℕ) (A : ℕ → Option ℕ → Type 0) (κ : Kind) (s k : ℕ) → Stand p root awaited (begunReader κ k) A κ s k
@@ -70,13 +70,8 @@ stand-alike p q root awaited awaited′ x A κ s k a linked kept e h = record {
   reads = h .reads;
   kind = h .kind;
   key = h .key;
-  search = search-alike κ p q root awaited awaited′ (x .node) (x .remembered) A s k a linked kept e (h .search);
+  search = search-alike κ p q root awaited awaited′ (x .node) (rememberedBy x) A s k a linked kept e (h .search);
 }
-
--- the kinds differ
-abbrev pub kindNumber : Kind → ℕ
-kindNumber kind.Lookup = 0
-kindNumber kind.Next = 1
 
 abbrev pub StandAt : State → (ℕ → Option ℕ → Type 0) → Kind → ℕ → ℕ → Type 0
 StandAt st A κ s k = Stand (st .pool) (st .register .root) (st .register .awaited) (readerOf (st .register) s) A κ s k
@@ -108,7 +103,7 @@ module _ (W : State → Plain → Linked → Type 0) (writer : Writer W) where
         reads = g .reads;
         kind = g .kind;
         key = g .key;
-        search = search-stored κ st x (y .node) (y .remembered) A A′ s k h x′ u (g .reads) (h .safe .at s u (g .reads)) more now unawaited z (g .search);
+        search = search-stored κ st x (y .node) (rememberedBy y) A A′ s k h x′ u (g .reads) (h .safe .at s u (g .reads)) more now unawaited z (g .search);
       }
 
   -- The slot's own turn, the tree's lookups being possible answers now.
@@ -122,41 +117,61 @@ module _ (W : State → Plain → Linked → Type 0) (writer : Writer W) where
     now : (q : ℕ) → A q (find (h .tree) q)
     now q = rw (writer .finds st x (h .tree) (h .holds) q) (was q)
 
-    -- it loads a node
-    search-loads : (κ : Kind) (m : Remembered) (n : ℕ) → Loads st s m n → n ≢ 0 → Reads st s → y .kind ≡ κ → y .key ≡ k → SearchAt κ (y .node) (y .remembered) → SearchAt κ n m
-    search-loads kind.Lookup m n (atRoot a e f) d r i j g =
-        rw f (lookupStand-root (st .pool) (st .register .root) (st .register .awaited) (A k) s k (h .tree) (writer .unfolds st x (h .tree) (h .holds)) (now k))
-    search-loads kind.Lookup m n (lookingUp κ a b e f) d r i j g =
-        rw (f, j) (lookupStand-child (st .pool) (st .register .root) (st .register .awaited) (A k) s k (y .node) a (λ z. b (j ∙ z)) (h .safe .at s u r a)
-        (λ z. d (f ∙ rw j z)) g)
-    search-loads kind.Lookup m n (searching κ a e f) d r i j g = absurd (let z = ap kindNumber (sym i ∙ κ) in omega arith)
-    search-loads kind.Next m n (atRoot a e f) d r i j g =
-        rw (f, e ∙ g .none a .1) (nextStand-root (st .pool) (st .register .root) (st .register .awaited) A s k (h .tree) (writer .unfolds st x (h .tree) (h .holds))
-        (writer .sure st x (h .tree) (h .holds)) (writer .told st x (h .tree) (h .holds)) now)
-    search-loads kind.Next m n (lookingUp κ a b e f) d r i j g = absurd (let z = ap kindNumber (sym i ∙ κ) in omega arith)
-    search-loads kind.Next m n (searching κ a e f) d r i j g =
-        rw (e, f, j) (nextStand-child (st .pool) (st .register .root) (st .register .awaited) A s k (y .node) (y .remembered) a (h .safe .at s u r a) (λ z. d (f ∙ rw j z)) g)
+    -- the record that a load goes by has the slot's kind and key; a search remembers then what it has noted
+    recalled-fields : (b : Bool) (k v : ℕ) → (cond b (remembering y k v) y .kind ≡ y .kind) × (cond b (remembering y k v) y .key ≡ y .key)
+    recalled-fields true k v = (refl, refl)
+    recalled-fields false k v = (refl, refl)
 
-    pub stand-loads : (κ : Kind) (m : Remembered) (n : ℕ) → Loads st s m n → n ≢ 0 → StandAt st A κ s k
-        → Stand (st .pool) (st .register .root) (st .register .awaited) (movedReader y m n) A κ s k
-    stand-loads κ m n l d g = record { reads = refl; kind = g .kind; key = g .key; search = search-loads κ m n l d (g .reads) (g .kind) (g .key) (g .search) }
+    pub load-fields : (z : Reader) (n : ℕ) → Loads st s z n → (z .kind ≡ y .kind) × (z .key ≡ y .key)
+    load-fields z n (atRoot a e f) = rw e (refl, refl)
+    load-fields z n (lookingUp κ a b e f) = rw e (refl, refl)
+    load-fields z n (searching κ a e f) = rw e (recalled-fields (ltb (y .key) (word (st .pool) (y .node) keyWord)) _ _)
+
+    -- it loads a node
+    search-loads : (κ : Kind) (z : Reader) (n : ℕ) → Loads st s z n → n ≢ 0 → Reads st s → y .kind ≡ κ → y .key ≡ k → SearchAt κ (y .node) (rememberedBy y)
+        → SearchAt κ n (rememberedBy z)
+    search-loads kind.Lookup z n (atRoot a e f) d r i j g =
+        rw f (lookupStand-root (st .pool) (st .register .root) (st .register .awaited) (A k) s k (h .tree) (writer .unfolds st x (h .tree) (h .holds)) (now k))
+    search-loads kind.Lookup z n (lookingUp κ a b e f) d r i j g =
+        rw (f, j) (lookupStand-child (st .pool) (st .register .root) (st .register .awaited) (A k) s k (y .node) a (λ q. b (j ∙ q)) (h .safe .at s u r a)
+        (λ q. d (f ∙ rw j q)) g)
+    search-loads kind.Lookup z n (searching κ a e f) d r i j g = absurd (let q = ap kindNumber (sym i ∙ κ) in omega arith)
+    search-loads kind.Next z n (atRoot a e f) d r i j g =
+        rw (f, e, g .none a .1) (nextStand-root (st .pool) (st .register .root) (st .register .awaited) A s k (h .tree) (writer .unfolds st x (h .tree) (h .holds))
+        (writer .sure st x (h .tree) (h .holds)) (writer .told st x (h .tree) (h .holds)) now)
+    search-loads kind.Next z n (lookingUp κ a b e f) d r i j g = absurd (let q = ap kindNumber (sym i ∙ κ) in omega arith)
+    search-loads kind.Next z n (searching κ a e f) d r i j g =
+        rw (e, f, recalled-notes (st .pool) y, j)
+        (nextStand-child (st .pool) (st .register .root) (st .register .awaited) A s k (y .node) (rememberedBy y) a (h .safe .at s u r a) (λ q. d (f ∙ rw j q)) g)
+
+    pub stand-loads : (κ : Kind) (z : Reader) (n : ℕ) → Loads st s z n → n ≢ 0 → StandAt st A κ s k
+        → Stand (st .pool) (st .register .root) (st .register .awaited) (movedReader z n) A κ s k
+    stand-loads κ z n l d g =
+        let e = load-fields z n l in
+        record { reads = refl; kind = e .0 ∙ g .kind; key = e .1 ∙ g .key; search = search-loads κ z n l d (g .reads) (g .kind) (g .key) (g .search) }
 
     -- it loads none
-    search-empty : (κ : Kind) (m : Remembered) (n : ℕ) → Loads st s m n → n ≡ 0 → y .kind ≡ κ → y .key ≡ k → SearchAt κ (y .node) (y .remembered) → EmptyRight κ A k m
-    search-empty kind.Lookup m n (atRoot a e f) d i j g =
+    search-empty : (κ : Kind) (z : Reader) (n : ℕ) → Loads st s z n → n ≡ 0 → y .kind ≡ κ → y .key ≡ k → SearchAt κ (y .node) (rememberedBy y) → EmptyRight κ A k (rememberedBy z)
+    search-empty kind.Lookup z n (atRoot a e f) d i j g =
         lookupStand-empty (st .pool) (st .register .root) (st .register .awaited) (A k) s k (h .tree) (writer .unfolds st x (h .tree) (h .holds)) (sym f ∙ d) (now k)
-    search-empty kind.Lookup m n (lookingUp κ a b e f) d i j g =
-        lookupStand-absent (st .pool) (st .register .root) (st .register .awaited) (A k) s k (y .node) a (λ z. b (j ∙ z)) (rw j at (sym f ∙ d)) g
-    search-empty kind.Lookup m n (searching κ a e f) d i j g = absurd (let z = ap kindNumber (sym i ∙ κ) in omega arith)
-    search-empty kind.Next m n (atRoot a e f) d i j g =
-        rw (e ∙ g .none a .1) (nextStand-empty (st .pool) (st .register .root) (st .register .awaited) A s k (h .tree) (writer .unfolds st x (h .tree) (h .holds)) (sym f ∙ d)
+    search-empty kind.Lookup z n (lookingUp κ a b e f) d i j g =
+        lookupStand-absent (st .pool) (st .register .root) (st .register .awaited) (A k) s k (y .node) a (λ q. b (j ∙ q)) (rw j at (sym f ∙ d)) g
+    search-empty kind.Lookup z n (searching κ a e f) d i j g = absurd (let q = ap kindNumber (sym i ∙ κ) in omega arith)
+    search-empty kind.Next z n (atRoot a e f) d i j g =
+        rw (e, g .none a .1) (nextStand-empty (st .pool) (st .register .root) (st .register .awaited) A s k (h .tree) (writer .unfolds st x (h .tree) (h .holds)) (sym f ∙ d)
         (writer .sure st x (h .tree) (h .holds)) (writer .told st x (h .tree) (h .holds)) now)
-    search-empty kind.Next m n (lookingUp κ a b e f) d i j g = absurd (let z = ap kindNumber (sym i ∙ κ) in omega arith)
-    search-empty kind.Next m n (searching κ a e f) d i j g =
-        rw (e, j) (nextStand-answers (st .pool) (st .register .root) (st .register .awaited) A s k (y .node) (y .remembered) a (rw j at (sym f ∙ d)) g)
+    search-empty kind.Next z n (lookingUp κ a b e f) d i j g = absurd (let q = ap kindNumber (sym i ∙ κ) in omega arith)
+    search-empty kind.Next z n (searching κ a e f) d i j g =
+        rw (e, recalled-notes (st .pool) y, j)
+        (nextStand-answers (st .pool) (st .register .root) (st .register .awaited) A s k (y .node) (rememberedBy y) a (rw j at (sym f ∙ d)) g)
 
-    pub stand-empty : (κ : Kind) (m : Remembered) (n : ℕ) → Loads st s m n → n ≡ 0 → StandAt st A κ s k → EmptyRight κ A k m
-    stand-empty κ m n l d g = search-empty κ m n l d (g .kind) (g .key) (g .search)
+    -- so of an answer by kind: absent if nothing is remembered, else the ticket
+    pub stand-absent : (κ : Kind) (z : Reader) (n : ℕ) → Loads st s z n → n ≡ 0 → (z .kind ≡ kind.Next → z .remembers ≡ false) → StandAt st A κ s k → EmptyRight κ A k Nothing
+    stand-absent kind.Lookup z n l d e g = search-empty kind.Lookup z n l d (g .kind) (g .key) (g .search)
+    stand-absent kind.Next z n l d e g = rw (e (load-fields z n l .0 ∙ g .kind)) at (search-empty kind.Next z n l d (g .kind) (g .key) (g .search))
+
+    pub stand-next-ticket : (z : Reader) (n : ℕ) → Loads st s z n → n ≡ 0 → z .remembers ≡ true → StandAt st A kind.Next s k → Answered A k (Ticket (z .best) (z .value))
+    stand-next-ticket z n l d e g = rw e at (search-empty kind.Next z n l d (g .kind) (g .key) (g .search))
 
     -- a lookup finds its key
     pub stand-found : y .node ≢ 0 → y .key ≡ word (st .pool) (y .node) keyWord → StandAt st A kind.Lookup s k → A k (some (recordAt (st .pool) (y .node)))

@@ -7,7 +7,6 @@ use mathlib.Core.Logic.{_≢_, inl, _↔_}
 use native.Mathlib.Omega.{arith}
 use lib.ListN.{length-append}
 use lib.Dec.{eqb}
-use Rattle.datatypes.specs.declared.Remembered.{Remembered}
 use Rattle.datatypes.specs.declared.Reader.{Reader}
 use Rattle.spec.specs.Numbers.{leastNodes, mostNodes, slots}
 use Rattle.spec.specs.Pool.{child, standingLinked, nodes as poolNodes}
@@ -85,10 +84,10 @@ module _ (W : State → Plain → Linked → Type 0) (writer : Writer W) where
       let x = readerOf (st .register) s in
       rw i (kept-child (st .pool) s (x .node) (towards (st .pool) (x .key) (x .node)) (p .low) (h .closed) (h .at s (p .low) (p .reads) a) (λ z. d (i ∙ z)))
 
-  kept-load : (st : State) (s : ℕ) (m : Remembered) (n : ℕ) → Safe st → Passed st s → Loads st s m n → n ≢ 0 → Kept (st .pool) s n
-  kept-load st s m n h p (atRoot e j i) d = rw i (inl (h .root (λ z. d (i ∙ z))))
-  kept-load st s m n h p (lookingUp κ a b j i) d = kept-loaded st s n h p a i d
-  kept-load st s m n h p (searching κ a j i) d = kept-loaded st s n h p a i d
+  kept-load : (st : State) (s : ℕ) (y : Reader) (n : ℕ) → Safe st → Passed st s → Loads st s y n → n ≢ 0 → Kept (st .pool) s n
+  kept-load st s y n h p (atRoot e j i) d = rw i (inl (h .root (λ z. d (i ∙ z))))
+  kept-load st s y n h p (lookingUp κ a b j i) d = kept-loaded st s n h p a i d
+  kept-load st s y n h p (searching κ a j i) d = kept-loaded st s n h p a i d
 
   safe-store : (st : State) (m : Made) (x : Plain) (T : Linked) → Safe st → (s : Stores st m T (λ t. W (stored m .after) x t)) → Safe (stored m .after)
   safe-store st m x T h s =
@@ -123,9 +122,9 @@ module _ (W : State → Plain → Linked → Type 0) (writer : Writer W) where
       rw (store-notice (firstMade st))
       (record { safe = safe-store st (firstMade st) _ (h .tree) (h .safe) s; tree = s .tree; holds = s .kept })
   sound-next st x c o (begins κ s k u e) h = sound-reader st x s _ u refl (λ d. absurd (d refl)) h
-  sound-next st x c o (loads s m n p l d) h = sound-reader st x s _ (p .low) refl (λ _. kept-load st s m n (h .safe) p l d) h
-  sound-next st x c o (misses s m n p l e f) h = sound-end st x s (p .low) h
-  sound-next st x c o (meets s k v n p l e f) h = sound-end st x s (p .low) h
+  sound-next st x c o (loads s y n p l d) h = sound-reader st x s _ (p .low) refl (λ _. kept-load st s y n (h .safe) p l d) h
+  sound-next st x c o (misses s y n p l e f) h = sound-end st x s (p .low) h
+  sound-next st x c o (meets s y n p l e f g) h = sound-end st x s (p .low) h
   sound-next st x c o (finds s p κ d e) h = sound-end st x s (p .low) h
   sound-next st x c o (leaves s p) h = sound-end st x s (p .low) h
 

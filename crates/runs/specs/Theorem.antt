@@ -8,7 +8,6 @@ use native.Mathlib.Omega.{arith}
 use native.Mathlib.Decide.{ℕ-discrete}
 use Rattle.datatypes.specs.declared.Kind.{Kind}
 use Rattle.datatypes.specs.declared.Kind.the-variants as kind
-use Rattle.datatypes.specs.declared.Remembered.the-variants.{Nothing, Ticket}
 use Rattle.spec.specs.Numbers.{slots}
 use Rattle.spec.specs.Pool.{standingWord}
 use Rattle.spec.specs.Register.{State}
@@ -20,13 +19,13 @@ use Rattle.promise.specs.Run.{Start, Reads, Moment, thenPerhaps, callAt, after,
 use Rattle.promise.specs.Demands.{AtOneMoment, LookupsRight, NextSearchesRight, Going, answerOf, TreeHolds, Reaches, NodesKept, Demand3}
 use Rattle.readers.specs.Reach.{Kept, kept-stands}
 use Rattle.readers.specs.QueueExact.{QueueExact}
-use Rattle.readers.specs.Trays.{Answered}
+use Rattle.readers.specs.Trays.{Nothing, Ticket, Answered}
 use Rattle.readers.specs.Descends.{going-root}
-use Rattle.readers.specs.CallCase.{call-case}
+use Rattle.readers.specs.CallCase.{kindNumber, call-case}
 use Rattle.readers.specs.Safe.{Safe, safe-reach}
 use Rattle.runs.specs.Writer.{Writer}
 use Rattle.runs.specs.Sound.{Sound, sound-next, Starts}
-use Rattle.runs.specs.Slot.{kindNumber, StandAt, EmptyRight, stand-more}
+use Rattle.runs.specs.Slot.{StandAt, EmptyRight, stand-more}
 use Rattle.runs.specs.Follow.{BeginsBy, EndsBy, stand-next, kept-next}
 use Rattle.runs.specs.Answers.{begun-right, found-right, absent-right, next-right, read-before}
 

@@ -10,8 +10,6 @@ use Rattle.datatypes.specs.declared.Place.{Place}
 use Rattle.datatypes.specs.declared.Place.the-variants.{Held, Empty, TooDeep}
 use Rattle.datatypes.specs.declared.Kind.{Kind}
 use Rattle.datatypes.specs.declared.Kind.the-variants as kind
-use Rattle.datatypes.specs.declared.Remembered.{Remembered}
-use Rattle.datatypes.specs.declared.Remembered.the-variants.{Nothing, Ticket}
 use Rattle.datatypes.specs.declared.Reader.{Reader}
 use Rattle.datatypes.specs.declared.Acceptance.{Acceptance}
 use Rattle.datatypes.specs.declared.Acceptance.the-variants as acceptance
@@ -21,7 +19,7 @@ use Rattle.datatypes.specs.declared.ReaderAnswer.{ReaderAnswer}
 use Rattle.datatypes.specs.declared.ReaderAnswer.the-variants as reader
 use Rattle.spec.specs.Numbers.{slots, pathBound, reserve, freeForInsert, freeForDelete}
 use Rattle.spec.specs.Pool.{word, child, recordAt, keyWord, nodes, poolInRange, lengthRight}
-use Rattle.spec.specs.Register.{State, state, fresh, begunReader, movedReader, withReader, withWrite, readerOf, storeOf, registerInRange, writeOf, lessFirst}
+use Rattle.spec.specs.Register.{State, state, fresh, begunReader, movedReader, remembering, withReader, withWrite, readerOf, storeOf, registerInRange, writeOf, lessFirst}
 use Rattle.spec.specs.Free.{endReading}
 use Rattle.spec.specs.Search.{towards, seek}
 use Rattle.spec.specs.Plan.{Plan, insertPlan, deletePlan}
@@ -203,21 +201,22 @@ begin κ st s k =
     unless (beginTests st s) st (outcome ok (state (st .pool) (withReader (st .register) s (begunReader κ k))))
 
 -- What a loaded 0 answers: absent in a lookup; in a search for the next ticket the ticket remembered, absent if there is none.
-abbrev pub emptyAnswer : Kind → Remembered → Answer
-emptyAnswer kind.Lookup m = absent
-emptyAnswer kind.Next Nothing = absent
-emptyAnswer kind.Next (Ticket k v) = next k v
+abbrev pub emptyAnswer : Kind → Reader → Answer
+emptyAnswer kind.Lookup x = absent
+emptyAnswer kind.Next x = cond (x .remembers) (next (x .best) (x .value)) absent
 
--- The slot, whose record is x, loads node n, remembering m. A loaded 0 answers that and ends the reading, else go.
-abbrev pub loaded : State → ℕ → Reader → Remembered → ℕ → Outcome
-loaded st s x m n =
+-- The slot s, whose record is x, loads node n. A loaded 0 answers that and ends the reading, else go.
+abbrev pub loaded : State → ℕ → Reader → ℕ → Outcome
+loaded st s x n =
     cond (eqb n 0)
-    (outcome (emptyAnswer (x .kind) m) (endReading st s))
-    (outcome go (state (st .pool) (withReader (st .register) s (movedReader x m n))))
+    (outcome (emptyAnswer (x .kind) x) (endReading st s))
+    (outcome go (state (st .pool) (withReader (st .register) s (movedReader x n))))
 
--- what a search for the next ticket after the key k remembers at node n, having remembered m: its ticket, if its key is greater
-abbrev pub recalled : List ℕ → ℕ → ℕ → Remembered → Remembered
-recalled p k n m = cond (ltb k (word p n keyWord)) (Ticket (word p n keyWord) (recordAt p n)) m
+-- the record of a search for the next ticket that has compared its node: a greater key is remembered with its record
+abbrev pub recalled : List ℕ → Reader → Reader
+recalled p x =
+    let n = x .node in
+    cond (ltb (x .key) (word p n keyWord)) (remembering x (word p n keyWord) (recordAt p n)) x
 
 -- At a node. Lookup: an equal key answers found with the record; a smaller wanted key loads left, a greater one right. Search for the next
 -- ticket: a key greater than the given one is remembered with its record, and left is loaded; otherwise right.
@@ -226,16 +225,16 @@ atNode kind.Lookup st s x =
     let p = st .pool in
     cond (eqb (x .key) (word p (x .node) keyWord))
     (outcome (found (recordAt p (x .node))) (endReading st s))
-    (loaded st s x (x .remembered) (child p (towards p (x .key) (x .node)) (x .node)))
+    (loaded st s x (child p (towards p (x .key) (x .node)) (x .node)))
 atNode kind.Next st s x =
     let p = st .pool in
-    loaded st s x (recalled p (x .key) (x .node) (x .remembered)) (child p (towards p (x .key) (x .node)) (x .node))
+    loaded st s (recalled p x) (child p (towards p (x .key) (x .node)) (x .node))
 
 -- Reader's turn. Before any node: load the root. At a node: by the kind of search.
 unfoldable pub readerStep : State → ℕ → Outcome
 readerStep st s =
     let x = readerOf (st .register) s in
-    cond (eqb (x .node) 0) (loaded st s x (x .remembered) (st .register .root)) (atNode (x .kind) st s x)
+    cond (eqb (x .node) 0) (loaded st s x (st .register .root)) (atNode (x .kind) st s x)
 
 abbrev pub readerTests : State → ℕ → List Test
 readerTests st s =

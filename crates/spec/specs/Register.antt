@@ -13,8 +13,6 @@ use Rattle.datatypes.specs.declared.Store.{Store}
 use Rattle.datatypes.specs.declared.Write.{Write}
 use Rattle.datatypes.specs.declared.Kind.{Kind}
 use Rattle.datatypes.specs.declared.Kind.the-variants as kind
-use Rattle.datatypes.specs.declared.Remembered.{Remembered}
-use Rattle.datatypes.specs.declared.Remembered.the-variants.{Nothing}
 use Rattle.datatypes.specs.declared.Reader.{Reader}
 use Rattle.datatypes.specs.declared.Register.{Register}
 use Rattle.spec.specs.Numbers.{slots, allSlots, mostStores}
@@ -28,20 +26,21 @@ pub record State : Type 0 where
 abbrev pub state : List ℕ → Register → State
 state p r = record { pool = p; register = r }
 
--- A reader record: of a slot that doesn't read, all 0; of one that reads: its kind of search, the key k given to it, what it remembers, and
--- the node n that it is at, 0 before any. 02, C-11: a slot makes a lookup or a search for the next ticket.
+-- A reader record: of a slot that doesn't read, all 0. Of one that reads: its kind of search, the key given to it and the node that it is at, 0
+-- before any; and (02, C-11) of a search for the next ticket whether it remembers a ticket, with its key (the best so far) and its record.
 abbrev pub noReader : Reader
-noReader = record { reading = false; kind = kind.Lookup; key = 0; node = 0; remembered = Nothing }
+noReader = record { reading = false; kind = kind.Lookup; remembers = false; key = 0; node = 0; best = 0; value = 0 }
 
-abbrev pub readingAt : Kind → ℕ → Remembered → ℕ → Reader
-readingAt κ k m n = record { reading = true; kind = κ; key = k; node = n; remembered = m }
-
--- as begin makes it, and as it is after a turn that loaded node n, remembering m
+-- as begin makes it; after a turn that loaded node n; with the key k and its record v remembered
 abbrev pub begunReader : Kind → ℕ → Reader
-begunReader κ k = readingAt κ k Nothing 0
+begunReader κ k = record { reading = true; kind = κ; remembers = false; key = k; node = 0; best = 0; value = 0 }
 
-abbrev pub movedReader : Reader → Remembered → ℕ → Reader
-movedReader x m n = readingAt (x .kind) (x .key) m n
+abbrev pub movedReader : Reader → ℕ → Reader
+movedReader x n =
+    record { reading = true; kind = x .kind; remembers = x .remembers; key = x .key; node = n; best = x .best; value = x .value }
+
+abbrev pub remembering : Reader → ℕ → ℕ → Reader
+remembering x k v = record { reading = true; kind = x .kind; remembers = true; key = x .key; node = x .node; best = k; value = v }
 
 abbrev pub vacant : Store
 vacant = record { link = Root; step = Vacant }

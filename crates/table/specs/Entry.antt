@@ -18,8 +18,6 @@ use Rattle.datatypes.specs.declared.Step.the-variants.{Publish, Detach}
 use Rattle.datatypes.specs.declared.Store.{Store}
 use Rattle.datatypes.specs.declared.Kind.{Kind}
 use Rattle.datatypes.specs.declared.Kind.the-variants as kind
-use Rattle.datatypes.specs.declared.Remembered.{Remembered}
-use Rattle.datatypes.specs.declared.Remembered.the-variants.{Nothing, Ticket}
 use Rattle.datatypes.specs.declared.Reader.{Reader}
 use Rattle.datatypes.specs.declared.Register.{Register}
 use Rattle.spec.specs.Register.{State}
@@ -127,14 +125,10 @@ abbrev kindNumber : Kind → ℕ
 kindNumber kind.Lookup = 0
 kindNumber kind.Next = 1
 
-abbrev rememberedNumbers : Remembered → List ℕ
-rememberedNumbers Nothing = 0 ∷ []
-rememberedNumbers (Ticket k v) = 1 ∷ k ∷ v ∷ []
-
 abbrev readersNumbers : List Reader → List ℕ
 readersNumbers [] = []
 readersNumbers (x ∷ xs) =
-    cond (x .reading) 1 0 ∷ kindNumber (x .kind) ∷ x .key ∷ x .node ∷ rememberedNumbers (x .remembered) ++ readersNumbers xs
+    cond (x .reading) 1 0 ∷ kindNumber (x .kind) ∷ cond (x .remembers) 1 0 ∷ x .key ∷ x .node ∷ x .best ∷ x .value ∷ readersNumbers xs
 
 abbrev headNumbers : Register → List ℕ
 headNumbers r = r .root ∷ r .first ∷ r .last ∷ r .free ∷ r .held ∷ r .awaited ∷ r .write .count ∷ readersNumbers (r .readers)

@@ -1,12 +1,11 @@
 -- 02, C-11: searches for the next ticket, alone and beside lookups and writes; and reader records out of order.
 use mathlib.Core.List.{List, [], _∷_}
 use Rattle.datatypes.specs.declared.Kind.the-variants as kind
-use Rattle.datatypes.specs.declared.Remembered.the-variants.{Nothing, Ticket}
 use Rattle.datatypes.specs.declared.Link.the-variants.{Root, Left, Right}
 use Rattle.spec.specs.Calls.{ok, go, absent, wait, found, next, more, done, refused}
 use Rattle.table.specs.Picture.{row, _keptBy_, slot_wants_at_, slot_after_at_with_, root_held_awaited_stores_, picture, key, value, left, right}
 use Rattle.table.specs.Picture.{standing, holders, nextFree, _of_:=_, root:=_, free:=_, awaited:=_, reader_:=_, reads, idle, seeks, _ofKind_}
-use Rattle.table.specs.Picture.{_remembering_, _but_, unset}
+use Rattle.table.specs.Picture.{Nothing, Ticket, Stale, _remembering_, _but_, unset}
 use Rattle.table.specs.Entry.{P, I, D, W, B, S, R, E, _⇒_, stands, still, leaves, Entry, entry}
 use Rattle.table.specs.Lent.{three, single, five, four}
 
@@ -257,6 +256,14 @@ nextTickets =
     ∷ entry "next: a greater key than the one remembered replaces it" (three but (reader 0 := (seeks 15 3 remembering Ticket 20 200) ∷ []))
     (R 0 ⇒ next 30 300
     ∷ leaves (reader 0 := (idle 0 0) ∷ []) ∷ [])
+    ∷ entry "next: a key and a record that aren't remembered are kept and not answered" (three but (reader 0 := (seeks 30 2 remembering Stale 50 500) ∷ []))
+    (R 0 ⇒ go
+    ∷ leaves (reader 0 := (seeks 30 3 remembering Stale 50 500) ∷ [])
+    ∷ R 0 ⇒ absent
+    ∷ leaves (reader 0 := (idle 0 0) ∷ []) ∷ [])
+    ∷ entry "next: a greater key takes the place of those that aren't remembered" (three but (reader 0 := (seeks 15 2 remembering Stale 50 500) ∷ []))
+    (R 0 ⇒ go
+    ∷ leaves (reader 0 := (seeks 15 1 remembering Ticket 20 200) ∷ []) ∷ [])
     ∷ entry "next: a slot not reading may have a kind and remember; a lookup's begin overwrites them"
     (three but (reader 5 := (idle 77 8 ofKind kind.Next remembering Ticket 1 2) ∷ []))
     (R 5 ⇒ refused 5 ∷ E 5 ⇒ refused 5 ∷ B 5 30 ⇒ ok

@@ -12,8 +12,6 @@ use Rattle.datatypes.specs.declared.Step.the-variants.{Vacant, Unlink}
 use Rattle.datatypes.specs.declared.Store.{Store}
 use Rattle.datatypes.specs.declared.Kind.{Kind}
 use Rattle.datatypes.specs.declared.Kind.the-variants as kind
-use Rattle.datatypes.specs.declared.Remembered.{Remembered}
-use Rattle.datatypes.specs.declared.Remembered.the-variants.{Nothing, Ticket}
 use Rattle.datatypes.specs.declared.Reader.{Reader}
 use Rattle.datatypes.specs.declared.Register.{Register}
 use Rattle.spec.specs.Register.{State, state}
@@ -41,25 +39,32 @@ r keptBy m = record { node = r; holders = m }
 
 -- A slot's record: one that reads the key k and is at node n; one that doesn't read but has a key and a node; one that searches for the next
 -- ticket after the key g; and each of another kind, or with what it remembers. A lookup and nothing remembered where neither is said.
-abbrev reader : Bool → Kind → ℕ → ℕ → Remembered → Reader
-reader reading κ k n m = record { reading = reading; kind = κ; key = k; node = n; remembered = m }
+abbrev reader : Bool → Kind → ℕ → ℕ → Reader
+reader reading κ k n = record { reading = reading; kind = κ; remembers = false; key = k; node = n; best = 0; value = 0 }
 
 abbrev pub reads : ℕ → ℕ → Reader
-reads k n = reader true kind.Lookup k n Nothing
+reads k n = reader true kind.Lookup k n
 
 abbrev pub idle : ℕ → ℕ → Reader
-idle k n = reader false kind.Lookup k n Nothing
+idle k n = reader false kind.Lookup k n
 
 abbrev pub seeks : ℕ → ℕ → Reader
-seeks g n = reader true kind.Next g n Nothing
+seeks g n = reader true kind.Next g n
 
 infixl 75 _ofKind_
 abbrev pub _ofKind_ : Reader → Kind → Reader
-x ofKind κ = reader (x .reading) κ (x .key) (x .node) (x .remembered)
+x ofKind κ = record { reading = x .reading; kind = κ; remembers = x .remembers; key = x .key; node = x .node; best = x .best; value = x .value }
+
+-- what a search remembers: nothing, or a ticket's key and record; or, in a damaged register, a key and a record that it doesn't remember
+pub data Remembered : Type 0 where
+  Nothing : Remembered
+  Ticket Stale : (k v : ℕ) → Remembered
 
 infixl 75 _remembering_
 abbrev pub _remembering_ : Reader → Remembered → Reader
-x remembering m = reader (x .reading) (x .kind) (x .key) (x .node) m
+x remembering Nothing = record { reading = x .reading; kind = x .kind; remembers = false; key = x .key; node = x .node; best = 0; value = 0 }
+x remembering Ticket k v = record { reading = x .reading; kind = x .kind; remembers = true; key = x .key; node = x .node; best = k; value = v }
+x remembering Stale k v = record { reading = x .reading; kind = x .kind; remembers = false; key = x .key; node = x .node; best = k; value = v }
 
 -- a reading slot: in a lookup its wanted key and the node that it is at; in a search for the next ticket the key given, the node, what it
 -- remembers

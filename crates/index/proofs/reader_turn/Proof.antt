@@ -17,7 +17,6 @@ use Rattle.replies.proofs.refuses_reader.Reads as refuses-reader-reads
 use Rattle.replies.proofs.answers_reader.Reads as answers-reader-reads
 use Rattle.lookups.proofs.leave.Reads as leave-reads
 use Rattle.lookups.proofs.look.Reads as look-reads
-use Rattle.lookups.proofs.reader_at.Reads as reader-at-reads
 use Rattle.refusals.proofs.lent_refusal.Reads as lent-refusal-reads
 use Rattle.refusals.proofs.slot_index.Reads as slot-index-reads
 use Rattle.refusals.proofs.slot_refusal.Reads as slot-refusal-reads
@@ -62,26 +61,23 @@ look-requires c κs = search needs
 
 leave-requires : tie.Need-leave-requires
 leave-requires c κs =
-    let c3 = c .before .before .before in
-    let c4 = c3 .before in
-    let c7 = c4 .before .before .before in
-    let c8 = c7 .before in
-    let c11 = c8 .before .before .before in
-    let a = c11 .args in
+    let c4 = c .before .before .before .before in
+    let c5 = c4 .before in
+    let c8 = c5 .before .before .before in
+    let c9 = c8 .before in
+    let c12 = c9 .before .before .before in
+    let a = c12 .args in
     let st = state (a .pool .now) (a .t2) in
-    let i = c7 .slot-index in
-    let w : c4 .slot-refusal .result ≡ firstOf (readerTests st (a .s)) = c4 .slot-refusal .ensures ∙ rw (c8 .lent-refusal .ensures) (slot-tests st (a .s) (i .result) (not) 5 (i .ensures .0)) in
-    let z = sym w ∙ c3 .if1 .left in
+    let i = c8 .slot-index in
+    let w : c5 .slot-refusal .result ≡ firstOf (readerTests st (a .s)) = c5 .slot-refusal .ensures ∙ rw (c9 .lent-refusal .ensures) (slot-tests st (a .s) (i .result) (not) 5 (i .ensures .0)) in
+    let z = sym w ∙ c4 .if1 .left in
     (lent-of st (slotTooHigh (a .s) gives 3 ∷ not (reading st (a .s)) gives 5 ∷ []) z .size, slot-of st (a .s) (not (reading st (a .s))) 5 (omega arith) z)
 
-reader-at-requires : tie.Need-reader-at-requires
-reader-at-requires c κs = search needs
+mul-reader : tie.Need-mul-reader
+mul-reader c = search needs
 
-mul-t17 : tie.Need-mul-t17
-mul-t17 c = search needs
-
-element-set-from-reg : tie.Need-element-set-from-reg
-element-set-from-reg c = search needs
+element-set-from-reader : tie.Need-element-set-from-reader
+element-set-from-reader c = search needs
 
 answers-reader-requires : tie.Need-answers-reader-requires
 answers-reader-requires c κs = search needs
@@ -92,8 +88,8 @@ same-length-2 c = search needs
 returns-2 : tie.Need-returns-2
 unfolding readerTurn withReader
 returns-2 c =
-    let c4 = c .before .before .before .before in
-    let c6 = c4 .before .before in
+    let c3 = c .before .before .before in
+    let c6 = c3 .before .before .before in
     let c8 = c6 .before .before in
     let c9 = c8 .before in
     let c12 = c9 .before .before .before in
@@ -107,10 +103,9 @@ returns-2 c =
     let s = a .s in
     let j : i .result ≡ s = index-of s (i .result) (i .ensures .0) (slot-of st s (not (reading st s)) 5 (omega arith) z) in
     let e = unless-done (readerTests st s) st (readerStep st s) z in
-    let l = c4 .leave in
+    let l = c3 .leave in
     let k = c6 .look in
-    let f = turn-looked (a .pool .now) (l .last .0) (a .t2) (l .result) s (i .result) (c .before .reader-at .result) (lookOf (k .result)) j
-    (k .ensures, c .before .reader-at .ensures) (l .ensures) in
+    let f = turn-looked (a .pool .now) (l .last .0) (a .t2) (l .result) s (i .result) (lookOf (k .result)) j (k .ensures) (l .ensures) in
     (c .answers-reader .ensures .0 ∙ f .0 ∙ sym (ap (λ (o : Outcome). o .answer) e), rw (c .answers-reader .ensures .1) (f .1 ∙ sym (ap (λ (o : Outcome). o .after) e)))
 
 pub reader-turn-spec : {M : Type 1} → statement M
@@ -127,9 +122,8 @@ reader-turn-spec =
     returns
     look-requires
     leave-requires
-    reader-at-requires
-    mul-t17
-    element-set-from-reg
+    mul-reader
+    element-set-from-reader
     answers-reader-requires
     same-length-2
     returns-2)

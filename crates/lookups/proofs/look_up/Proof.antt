@@ -7,6 +7,7 @@ use Rattle.lookups.proofs.look_up.Lts as lts
 use Rattle.lookups.proofs.load.Reads as load-reads
 use Rattle.pool.proofs.record.Reads as record-reads
 use Rattle.pool.proofs.word.Reads as word-reads
+use Rattle.register.proofs.no_reader.Reads as no-reader-reads
 use Rattle.search.proofs.child_towards.Reads as child-towards-reads
 
 word-requires : tie.Need-word-requires
@@ -15,8 +16,13 @@ word-requires c κs = search needs
 record-requires : tie.Need-record-requires
 record-requires c κs = search needs
 
+no-reader-requires : tie.Need-no-reader-requires
+no-reader-requires c κs = search needs
+
 returns : tie.Need-returns
-returns c = rw (← (c .before .before .before .word .ensures), eq-eqb _ _ (c .before .if1 .taken), c .«record» .ensures)
+returns c =
+    let w = c .before .before .before .before .word in
+    rw (← (w .ensures), eq-eqb _ _ (c .before .before .if1 .taken), c .no-reader .ensures, c .before .«record» .ensures)
 
 child-towards-requires : tie.Need-child-towards-requires
 child-towards-requires c κs = search needs
@@ -32,4 +38,11 @@ returns-2 c =
 pub look-up-spec : {M : Type 1} → statement M
 look-up-spec =
     tie.close
-    (tie.spec word-requires record-requires returns child-towards-requires load-requires returns-2)
+    (tie.spec
+    word-requires
+    record-requires
+    no-reader-requires
+    returns
+    child-towards-requires
+    load-requires
+    returns-2)
