@@ -325,14 +325,14 @@ fn was_changed(model: &[u32], s: u32, t: u32, v: u32) -> bool {
     false
 }
 
-// Whether the list had this ticket with this record at one of the search's moments: it has it now, or a change since the begin put it in or took
-// it out.
+// whether the list had this ticket with this record at one of the search's moments: it has it now, or a change since the begin put it in
+// or took it out
 fn was_held(model: &[u32], s: u32, t: u32, v: u32) -> bool {
     let now = listed(model, t) & (list_record(model, t) == v);
     now | was_changed(model, s, t, v)
 }
 
-// The first ticket after t that the list has, and had without a break since it had made so many changes; TICKETS if there is none.
+// the first ticket after t that the list has, and had without a break since it had made so many changes; TICKETS if there is none
 fn first_after(model: &[u32], t: u32, since: u32) -> u32 {
     let mut next = t;
     while next < draws::TICKETS - 1 {
@@ -355,8 +355,8 @@ fn first_now(model: &[u32], s: u32) -> u32 {
     first_after(model, slot_word(model, s, WANTED), changes)
 }
 
-// Answers whether a search may answer this ticket with this record: it comes after the given one, the list had it at one of the search's moments,
-// and none between at all of them.
+// Answers whether a search may answer this ticket with this record: it comes after the given one, the list had it at one of the search's
+// moments, and none between at all of them.
 pub fn was_next(model: &[u32], s: u32, t: u32, v: u32) -> bool {
     let after = (slot_word(model, s, WANTED) < t) & (t < draws::TICKETS);
     after & was_held(model, s, t, v) & (t <= first_throughout(model, s))

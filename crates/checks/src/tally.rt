@@ -35,7 +35,7 @@ pub const BEGUN: usize = 43;
 
 pub const GIVEN_UP: usize = 44;
 
-// searches for the next ticket begun, their answers, those answers that were no longer the next ticket at the last moment, and searches given up
+// searches for the next ticket begun, their answers, answers that were no longer the next ticket at the last moment, and searches given up
 pub const NEXT_BEGUN: usize = 45;
 
 pub const NEXT: usize = 46;
