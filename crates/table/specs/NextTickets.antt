@@ -293,6 +293,9 @@ nextTickets =
     ∷ entry "next: a ticket of key 0 and record 0 is remembered like any other" (three but (reader 0 := (seeks 15 1 remembering Ticket 0 0) ∷ []))
     (R 0 ⇒ next 0 0
     ∷ leaves (reader 0 := (idle 0 0) ∷ []) ∷ [])
+    ∷ entry "next: the key remembered, met again: its record there is remembered" (three but (reader 0 := (seeks 15 3 remembering Ticket 30 999) ∷ []))
+    (R 0 ⇒ next 30 300
+    ∷ leaves (reader 0 := (idle 0 0) ∷ []) ∷ [])
     ∷ entry "next: an answer frees a retired node that had no holder, and leaves the holders of nodes that are not retired"
     (three but (reader 3 := (seeks 15 1 remembering Ticket 20 200) ∷ standing of 5 := 2 ∷ holders of 1 := 8 ∷ holders of 6 := 9 ∷ []))
     (R 3 ⇒ next 20 200
