@@ -300,4 +300,12 @@ nextTickets =
     (three but (reader 3 := (seeks 15 1 remembering Ticket 20 200) ∷ standing of 5 := 2 ∷ holders of 1 := 8 ∷ holders of 6 := 9 ∷ []))
     (R 3 ⇒ next 20 200
     ∷ leaves (standing of 5 := 0 ∷ nextFree of 8 := 5 ∷ nextFree of 5 := 0 ∷ last:= 5 ∷ free:= 6 ∷ reader 3 := (idle 0 0) ∷ []) ∷ [])
+    ∷ entry "next: absent does likewise with such nodes"
+    (three but (reader 3 := (seeks 35 3) ∷ standing of 5 := 2 ∷ holders of 1 := 8 ∷ holders of 6 := 9 ∷ []))
+    (R 3 ⇒ absent
+    ∷ leaves (standing of 5 := 0 ∷ nextFree of 8 := 5 ∷ nextFree of 5 := 0 ∷ last:= 5 ∷ free:= 6 ∷ reader 3 := (idle 0 0) ∷ []) ∷ [])
+    ∷ entry "next: give up does likewise with such nodes"
+    (three but (reader 3 := (seeks 15 1 remembering Ticket 20 200) ∷ standing of 5 := 2 ∷ holders of 1 := 8 ∷ holders of 6 := 9 ∷ []))
+    (E 3 ⇒ ok
+    ∷ leaves (standing of 5 := 0 ∷ nextFree of 8 := 5 ∷ nextFree of 5 := 0 ∷ last:= 5 ∷ free:= 6 ∷ reader 3 := (idle 0 0) ∷ []) ∷ [])
     ∷ []
