@@ -4,8 +4,8 @@ use Rattle.datatypes.specs.declared.Kind.the-variants as kind
 use Rattle.datatypes.specs.declared.Link.the-variants.{Root, Left, Right}
 use Rattle.spec.specs.Calls.{ok, go, absent, wait, found, next, more, done, refused}
 use Rattle.table.specs.Picture.{row, _keptBy_, slot_wants_at_, slot_after_at_with_, root_held_awaited_stores_, picture, key, value, left, right}
-use Rattle.table.specs.Picture.{standing, holders, nextFree, _of_:=_, root:=_, free:=_, awaited:=_, reader_:=_, reads, idle, seeks, _ofKind_}
-use Rattle.table.specs.Picture.{Nothing, Ticket, Stale, _remembering_, _but_, unset}
+use Rattle.table.specs.Picture.{standing, holders, nextFree, _of_:=_, root:=_, last:=_, free:=_, awaited:=_, reader_:=_, reads, idle, seeks, _ofKind_}
+use Rattle.table.specs.Picture.{Nothing, Ticket, Stale, _remembering_, _but_, words, unset}
 use Rattle.table.specs.Entry.{P, I, D, W, B, S, R, E, _⇒_, stands, still, leaves, Entry, entry}
 use Rattle.table.specs.Lent.{three, single, five, four}
 
@@ -280,4 +280,39 @@ nextTickets =
     (S 0 5 ⇒ ok ∷ R 7 ⇒ next 4294967295 4294967295 ∷ [])
     ∷ entry "next: 2, the node of a search one past its range" (three but (reader 7 := (seeks 0 9) ∷ []))
     (S 1 5 ⇒ refused 2 ∷ R 7 ⇒ refused 2 ∷ E 7 ⇒ refused 2 ∷ [])
+    ∷ entry "next: 2, the node of a slot that is not reading, of kind Next, one past its range" (three but (reader 5 := (idle 0 9 ofKind kind.Next) ∷ []))
+    (S 0 5 ⇒ refused 2 ∷ R 5 ⇒ refused 2 ∷ [])
+    ∷ entry "next: 1 in the turn and in the give up of a slot that searches, before 2" (words 65)
+    (R 0 ⇒ refused 1 ∷ E 0 ⇒ refused 1 ∷ [])
+    ∷ entry "next: 2 in the turn and in the give up of a slot that searches: a word of the pool" (three but (left of 1 := 9 ∷ reader 0 := (seeks 15 2) ∷ []))
+    (R 0 ⇒ refused 2 ∷ E 0 ⇒ refused 2 ∷ [])
+    ∷ entry "next: a search goes by links alone, whatever the nodes stand as"
+    (three but (standing of 1 := 0 ∷ standing of 2 := 0 ∷ reader 0 := (seeks 5 0) ∷ []))
+    (R 0 ⇒ go
+    ∷ leaves (reader 0 := (seeks 5 2) ∷ [])
+    ∷ R 0 ⇒ go
+    ∷ leaves (reader 0 := (seeks 5 1 remembering Ticket 20 200) ∷ [])
+    ∷ R 0 ⇒ next 10 100
+    ∷ leaves (reader 0 := (idle 0 0) ∷ []) ∷ [])
+    ∷ entry "next: a begin leaves the awaited slots as they were, its own too" (three but (awaited:= 36 ∷ []))
+    (S 5 30 ⇒ ok
+    ∷ leaves (reader 5 := (seeks 30 0) ∷ []) ∷ [])
+    ∷ entry "next: a ticket of key 0 and record 0 is remembered like any other" (three but (reader 0 := (seeks 15 1 remembering Ticket 0 0) ∷ []))
+    (R 0 ⇒ next 0 0
+    ∷ leaves (reader 0 := (idle 0 0) ∷ []) ∷ [])
+    ∷ entry "next: the key remembered, met again: its record there is remembered" (three but (reader 0 := (seeks 15 3 remembering Ticket 30 999) ∷ []))
+    (R 0 ⇒ next 30 300
+    ∷ leaves (reader 0 := (idle 0 0) ∷ []) ∷ [])
+    ∷ entry "next: an answer frees a retired node that had no holder, and leaves the holders of nodes that are not retired"
+    (three but (reader 3 := (seeks 15 1 remembering Ticket 20 200) ∷ standing of 5 := 2 ∷ holders of 1 := 8 ∷ holders of 6 := 9 ∷ []))
+    (R 3 ⇒ next 20 200
+    ∷ leaves (standing of 5 := 0 ∷ nextFree of 8 := 5 ∷ nextFree of 5 := 0 ∷ last:= 5 ∷ free:= 6 ∷ reader 3 := (idle 0 0) ∷ []) ∷ [])
+    ∷ entry "next: absent does likewise with such nodes"
+    (three but (reader 3 := (seeks 35 3) ∷ standing of 5 := 2 ∷ holders of 1 := 8 ∷ holders of 6 := 9 ∷ []))
+    (R 3 ⇒ absent
+    ∷ leaves (standing of 5 := 0 ∷ nextFree of 8 := 5 ∷ nextFree of 5 := 0 ∷ last:= 5 ∷ free:= 6 ∷ reader 3 := (idle 0 0) ∷ []) ∷ [])
+    ∷ entry "next: give up does likewise with such nodes"
+    (three but (reader 3 := (seeks 15 1 remembering Ticket 20 200) ∷ standing of 5 := 2 ∷ holders of 1 := 8 ∷ holders of 6 := 9 ∷ []))
+    (E 3 ⇒ ok
+    ∷ leaves (standing of 5 := 0 ∷ nextFree of 8 := 5 ∷ nextFree of 5 := 0 ∷ last:= 5 ∷ free:= 6 ∷ reader 3 := (idle 0 0) ∷ []) ∷ [])
     ∷ []

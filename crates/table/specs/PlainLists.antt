@@ -121,6 +121,8 @@ plainLists =
     ∷ writing gave refused 7
     ∷ lists (3 is 30 ∷ 4 is 40 ∷ [])
     ∷ [])
+    ∷ entry "plain list: what is neither wait nor a refusal is heard as carried out, the next ticket too"
+    (inserting 3 30 gave ok ∷ writing gave next 1 10 ∷ lists (3 is 30 ∷ []) ∷ [])
     ∷ entry "plain list: a delete of a key with a left child only takes it out at its first store"
     (insertOf 2 20 ++ insertOf 1 10 ++ deleting 2 gave ok ∷ lists (1 is 10 ∷ 2 is 20 ∷ []) ∷ writing gave done Root 1 ∷ lists (1 is 10 ∷ []) ∷ [])
     ∷ entry "plain list: a delete of a key with a right child only takes it out at its first store"
