@@ -14,6 +14,7 @@ use Rattle.datatypes.specs.declared.Link.{Link}
 use Rattle.datatypes.specs.declared.Link.the-variants.{Root, Left}
 use Rattle.datatypes.specs.declared.Kind.{Kind}
 use Rattle.datatypes.specs.declared.Kind.the-variants as kind
+use Rattle.datatypes.specs.declared.Reader.{Reader}
 use Rattle.datatypes.specs.declared.Register.{Register}
 use Rattle.base.specs.Lists.{_∈_, Distinct, length-within, numbersFrom, numbers-in, numbers-distinct, getD-same}
 use Rattle.base.specs.Walk.{all-in}
@@ -21,11 +22,11 @@ use Rattle.sequential.specs.Tree.{leaf}
 use Rattle.sequential.specs.Delete.{changedBy}
 use Rattle.spec.specs.Numbers.{leastNodes, mostNodes, slots}
 use Rattle.spec.specs.Pool.{word, child, nodes, keyWord, standingFree, standingLinked, standingRetired}
-use Rattle.spec.specs.Register.{State, state, noReader, nodeAt, hasSlot, isRoot}
+use Rattle.spec.specs.Register.{State, state, noReader, begunReader, nodeAt, hasSlot, isRoot}
 use Rattle.spec.specs.Calls.{Answer, go, absent, found, next, refused, Call, inserting, call, writeInHand}
 use Rattle.spec.specs.PlainList.{recordFor, acceptedWrites}
 use Rattle.promise.specs.Run.{justSetUp, Reads, callAt, indexAfter, plainAfter, ticketsAfter, Turns, Reading, NextSearch}
-use Rattle.promise.specs.Demands.{AtOneMoment, turnAt, Going, ends, goes, answerOf, Leads, arrived, onward, Reaches, Stands, FreeRight}
+use Rattle.promise.specs.Demands.{AtOneMoment, turnOf, Going, ends, goes, answerOf, Leads, arrived, onward, Reaches, Stands, FreeRight}
 use Rattle.promise.specs.Demands.{standingAt, StoresOne, PromiseFrom}
 use Rattle.readers.specs.Reach.{leads-there}
 use Rattle.theorem.specs.Theorem.{promise}
@@ -141,16 +142,16 @@ always-11 e = let f = computed .accepted in let z : _≡_ {A = ℕ} 0 1 = cc in 
 
 -- Claims near to those of demand 3 that are false. A list that changes one call early: `everyKey` with the tickets of the next moment. After the
 -- insert of 3, before its turn, going from the root would find it.
-pub list-one-call-early : ¬ ((cs : List Call) (j k : ℕ) → Going (indexAfter start cs j) k 0 (answerOf (recordFor k (ticketsAfter start cs (j + 1)))))
+pub list-one-call-early : ¬ ((cs : List Call) (j k : ℕ) → Going (indexAfter start cs j) (begunReader kind.Lookup k) (answerOf (recordFor k (ticketsAfter start cs (j + 1)))))
 list-one-call-early h =
-    let g : Going (indexAfter start lookup 1) 3 0 (found 30) = rw (computed .listed2) at (h lookup 1 3) in
-    let e = ended (indexAfter start lookup 1) 3 0 (found 30) (computed .turn1) g in
+    let g : Going (indexAfter start lookup 1) (begunReader kind.Lookup 3) (found 30) = rw (computed .listed2) at (h lookup 1 3) in
+    let e = ended (indexAfter start lookup 1) (begunReader kind.Lookup 3) (found 30) (computed .turn1) g in
     let z : _≡_ {A = ℕ} 0 1 = cc in
     omega arith
   where
-    ended : (st : State) (k m : ℕ) (a : Answer) → turnAt st k m .answer ≡ absent → Going st k m a → absent ≡ a
-    ended st k m a e (ends _ _ f) = sym e ∙ f
-    ended st k m a e (goes _ _ f g) = absurd (let i : _≡_ {A = Answer} absent go = sym e ∙ f in let z : _≡_ {A = ℕ} 0 1 = cc in omega arith)
+    ended : (st : State) (x : Reader) (a : Answer) → turnOf st x .answer ≡ absent → Going st x a → absent ≡ a
+    ended st x a e (ends _ _ f) = sym e ∙ f
+    ended st x a e (goes _ _ f g) = absurd (let i : _≡_ {A = Answer} absent go = sym e ∙ f in let z : _≡_ {A = ℕ} 0 1 = cc in omega arith)
 
 -- Retired counted as free, in `notFree`: a node that a reader could reach doesn't stand retired. Slot 0 stands at node 1, which is retired.
 pub retired-reached : ¬ ((cs : List Call) (κ : Kind) (s k i j t m u : ℕ) → Reading start cs κ s k i j → i < t → Reaches (indexAfter start cs t) s m → t ≤ u → u ≤ j

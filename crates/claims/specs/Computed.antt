@@ -12,7 +12,7 @@ use Rattle.base.specs.Walk.{allFrom, allIn, foldFrom, foldIn}
 use Rattle.spec.specs.Numbers.{slots}
 use Rattle.spec.specs.Pool.{child, standingRetired, keyWord}
 use Rattle.spec.specs.Pool.{word, setWord, nodeInRange, poolInRange, lengthRight, freshNodes, freshPool}
-use Rattle.spec.specs.Register.{State, noReader, readerOf, withRoot, withQueue, withHeld, withReader, withAwaited, withWrite, nodeAt, setLink}
+use Rattle.spec.specs.Register.{State, noReader, begunReader, readerOf, withRoot, withQueue, withHeld, withReader, withAwaited, withWrite, nodeAt, setLink}
 use Rattle.spec.specs.Register.{putSlot, dropSlot, readingSlots, storeInRange, registerInRange, freshRegister, fresh, writeOf, lessFirst}
 use Rattle.spec.specs.Free.{takeFree, fillNode, takeNode, freeNode, retire, release, endReading}
 use Rattle.spec.specs.Search.{seek, trail, leftmost}
@@ -24,7 +24,7 @@ use Rattle.datatypes.specs.declared.Kind.the-variants as kind
 use Rattle.spec.specs.Calls.{ok, absent, next, Call, inserting, deleting, writing, beginning, turning, givingUp, call, reading}
 use Rattle.spec.specs.PlainList.{recordFor, acceptedWrites}
 use Rattle.promise.specs.Run.{Start, justSetUp, callAt, after, indexAfter, plainAfter, ticketsAfter}
-use Rattle.promise.specs.Demands.{turnAt, origin, standingAt}
+use Rattle.promise.specs.Demands.{turnOf, origin, standingAt}
 
 abbrev pub start : Start
 start = justSetUp 8
@@ -76,7 +76,7 @@ pub record Computed : Type 0 where
   -- the first insert is accepted; before its turn no slot reads, and a reader's turn for 3 answers absent
   pub accepted : call (start .index) (inserting 3 30) .answer ≡ ok
   pub readers1 : indexAfter start lookup 1 .register .readers ≡ replicate slots noReader
-  pub turn1 : turnAt (indexAfter start lookup 1) 3 0 .answer ≡ absent
+  pub turn1 : turnOf (indexAfter start lookup 1) (begunReader kind.Lookup 3) .answer ≡ absent
   -- the plain list gets its ticket by the turn, not by the insert, and has it at both moments of the lookup up to slot 0's turn
   pub listed1 : recordFor 3 (ticketsAfter start lookup 1) ≡ none
   pub listed2 : recordFor 3 (ticketsAfter start lookup 2) ≡ some 30

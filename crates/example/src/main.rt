@@ -10,7 +10,7 @@ use libc::STDOUT_FILENO;
 // The words of a pool of 16 nodes.
 const WORDS: usize = 16 * numbers::NODE_WORDS;
 
-// A proved loop has to end. No write and no lookup of this program takes so many turns.
+// A proved loop has to end. No write and no search of this program takes so many turns.
 const MOST_TURNS: u32 = 64;
 
 // Writes a text, a number and the end of the line.

@@ -1,7 +1,7 @@
 // The eight calls of the ticket index. A call takes the pool as lent words and the register by value; its reply has the answer and the
 // register to use from then on. No call has a precondition, and every call returns.
-// Each one's promise: answer, register and every pool word are what the definition of document 01's call (crate spec, Calls) makes of what
-// was lent; a refused call leaves both as they were. Above each call: what it needs, answers, refuses and leaves.
+// Each one's promise: answer, register and every pool word are what the definition of the call (crate spec, Calls: documents 01 and 02) makes
+// of what was lent; a refused call leaves both as they were. Above each call: what it needs, answers, refuses and leaves.
 use datatypes::Head;
 use datatypes::Kind;
 use datatypes::Link;

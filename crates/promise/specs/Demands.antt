@@ -15,6 +15,7 @@ use Rattle.datatypes.specs.declared.Link.{Link}
 use Rattle.datatypes.specs.declared.Link.the-variants.{Root, Left, Right}
 use Rattle.datatypes.specs.declared.Step.{Step}
 use Rattle.datatypes.specs.declared.Kind.{Kind}
+use Rattle.datatypes.specs.declared.Reader.{Reader}
 use Rattle.datatypes.specs.declared.Kind.the-variants as kind
 use Rattle.sequential.specs.Tree.{Colour, red, black, Tree, leaf, node}
 use Rattle.sequential.specs.Delete.{changedBy}
@@ -22,10 +23,10 @@ use Rattle.base.specs.Lists.{_∈_, Distinct}
 use Rattle.spec.specs.Numbers.{slots, mostStores}
 use Rattle.spec.specs.Pool.{word, child, nodes, keyWord, recordAt, colourWord, standingWord, holdersWord}
 use Rattle.spec.specs.Pool.{standingFree, standingLinked, standingRetired, blackColour, redColour}
-use Rattle.spec.specs.Register.{State, state, withReader, readerOf, storeOf, linkNode, hasSlot, begunReader, movedReader}
+use Rattle.spec.specs.Register.{State, state, withReader, readerOf, storeOf, linkNode, hasSlot, begunReader}
 use Rattle.spec.specs.Turn.{profile}
 use Rattle.spec.specs.Calls.{Answer, go, absent, found, next, more, done, wait, refused, Outcome, Call, writing, call, reading, writeInHand, readerStep}
-use Rattle.spec.specs.PlainList.{carriedOut, noticeOf, recordFor, acceptedWrites}
+use Rattle.spec.specs.PlainList.{Ticket, carriedOut, noticeOf, recordFor, acceptedWrites}
 use Rattle.spec.specs.FreeQueue.{Queue}
 use Rattle.promise.specs.Run.{Start, justSetUp, Reads, callAt, indexAfter, plainAfter, ticketsAfter, Gives, Turns, Reading, Lookup, NextSearch}
 
@@ -53,24 +54,30 @@ pub record NextSearchesRight (S : Start) (cs : List Call) : Type 0 where
   pub whenNone : (s g i j : ℕ) → NextSearch S cs s g i j → Turns S cs s j absent → (q : ℕ) → g < q → AtOneMoment S cs q i j none
   pub notFound : (s g i j v : ℕ) → NextSearch S cs s g i j → ¬ (Turns S cs s j (found v))
 
--- 'Holds': going from the root as a reader's turns do, with no other call between. It is the reader's own step: what it answers with the
--- key k at node n (0 before any), made of the same pool and root again and again. Which slot's record it goes by does not matter: slot 0.
-abbrev pub turnAt : State → ℕ → ℕ → Outcome
-turnAt st k n = readerStep (state (st .pool) (withReader (st .register) 0 (movedReader (begunReader kind.Lookup k) n))) 0
+-- 'Holds': going from the root as a reader's turns do, with no other call between. It is the reader's own step: what it answers and leaves of
+-- the record x, made of the same pool and root again and again. Which slot it is does not matter: slot 0.
+abbrev pub turnOf : State → Reader → Outcome
+turnOf st x = readerStep (state (st .pool) (withReader (st .register) 0 x)) 0
 
--- from node n the turns for the key k end with the answer a
-pub data Going (st : State) (k : ℕ) : ℕ → Answer → Type 0 where
-  ends : (n : ℕ) (a : Answer) → turnAt st k n .answer ≡ a → Going st k n a
-  goes : (n : ℕ) (a : Answer) → turnAt st k n .answer ≡ go → Going st k (readerOf (turnAt st k n .after .register) 0 .node) a → Going st k n a
+-- the turns of a reader with the record x end with the answer a
+pub data Going (st : State) : Reader → Answer → Type 0 where
+  ends : (x : Reader) (a : Answer) → turnOf st x .answer ≡ a → Going st x a
+  goes : (x : Reader) (a : Answer) → turnOf st x .answer ≡ go → Going st (readerOf (turnOf st x .after .register) 0) a → Going st x a
 
 -- found with the plain list's record, or absent if the plain list doesn't have the key
 abbrev pub answerOf : Option ℕ → Answer
 answerOf none = absent
 answerOf (some v) = found v
 
--- after every call, for every key; and keys held is the number of tickets
+-- 02, C-11: the answer is the ticket of the list with the smallest key greater than g; absent if there is none
+pub data NextTicket (ts : List Ticket) (g : ℕ) : Answer → Type 0 where
+  isNext : (k v : ℕ) → g < k → recordFor k ts ≡ some v → ((q : ℕ) → g < q → q < k → recordFor q ts ≡ none) → NextTicket ts g (next k v)
+  noNext : ((q : ℕ) → g < q → recordFor q ts ≡ none) → NextTicket ts g absent
+
+-- after every call, for every key, by a lookup and by a search for the next ticket; and keys held is the number of tickets
 pub record TreeHolds (S : Start) (cs : List Call) : Type 0 where
-  pub everyKey : (j k : ℕ) → Going (indexAfter S cs j) k 0 (answerOf (recordFor k (ticketsAfter S cs j)))
+  pub everyKey : (j k : ℕ) → Going (indexAfter S cs j) (begunReader kind.Lookup k) (answerOf (recordFor k (ticketsAfter S cs j)))
+  pub everyNext : (j g : ℕ) → (a : Answer) × NextTicket (ticketsAfter S cs j) g a × Going (indexAfter S cs j) (begunReader kind.Next g) a
   pub keysHeld : (j : ℕ) → indexAfter S cs j .register .held ≡ length (ticketsAfter S cs j)
 
 -- 'Reach': left and right links, as they stand, lead from node n to node m

@@ -19,7 +19,7 @@ use Rattle.spec.specs.Search.{towards}
 use Rattle.spec.specs.Turn.{stepFinds, stepMade}
 use Rattle.spec.specs.Calls.{ok, go, absent, wait, found, next, refused, Outcome, outcome, Test, _gives_, firstOf, unless}
 use Rattle.spec.specs.Calls.{insertTests, deleteTests, waiting, firstFinds, writerTests, beginTests, reading, writeInHand, placeOf, insertAt, deleteAt}
-use Rattle.spec.specs.Calls.{insert, delete, stored, writerTurn, begin, emptyAnswer, loaded, recalled}
+use Rattle.spec.specs.Calls.{insert, delete, stored, writerTurn, begin, emptyAnswer, loaded, afterComparing}
 use Rattle.spec.specs.Calls.{readerStep, readerTests, readerTurn, giveUp, Call, inserting, deleting, writing}
 use Rattle.spec.specs.Calls.{beginning, turning, givingUp, call}
 use Rattle.promise.specs.Run.{Reads}
@@ -36,7 +36,7 @@ pub data Loads (st : State) (s : ℕ) (y : Reader) (n : ℕ) : Type 0 where
       → readerOf (st .register) s .key ≢ word (st .pool) (readerOf (st .register) s .node) keyWord
       → y ≡ readerOf (st .register) s → n ≡ childLoaded st s → Loads st s y n
   searching : readerOf (st .register) s .kind ≡ kind.Next → readerOf (st .register) s .node ≢ 0
-      → y ≡ recalled (st .pool) (readerOf (st .register) s) → n ≡ childLoaded st s → Loads st s y n
+      → y ≡ afterComparing (st .pool) (readerOf (st .register) s) → n ≡ childLoaded st s → Loads st s y n
 
 pub record Passed (st : State) (s : ℕ) : Type 0 where
   pub low : s < slots

@@ -18,12 +18,12 @@ use Rattle.spec.specs.Pool.{word, child, keyWord, recordAt}
 use Rattle.spec.specs.Register.{State, state, readerOf, withReader, begunReader, movedReader}
 use Rattle.spec.specs.Free.{endReading}
 use Rattle.spec.specs.Search.{towards}
-use Rattle.spec.specs.Calls.{go, absent, found, outcome, emptyAnswer, loaded, recalled, readerStep}
+use Rattle.spec.specs.Calls.{Answer, go, found, outcome, emptyAnswer, loaded, afterComparing, readerStep}
 use Rattle.tree.specs.Order.{tri-case}
 use Rattle.tree.specs.Thin.{Thin}
 use Rattle.tree.specs.Linked.{Linked, nil, cell, find, path}
 use Rattle.heap.specs.Rep.{Rep}
-use Rattle.promise.specs.Demands.{turnAt, Going, ends, goes, answerOf}
+use Rattle.promise.specs.Demands.{turnOf, Going, ends, goes, answerOf}
 use Rattle.readers.specs.Marks.{reader-same}
 use Rattle.readers.specs.Lookups.{Unlinked, Finds, OnWay}
 
@@ -44,7 +44,7 @@ module _ (st : State) (s : ℕ) (x : Reader) (at : readerOf (st .register) s ≡
   step-child κ d e = rw (at, κ, ne-eqb (x .node) 0 d, ne-eqb (x .key) (word (st .pool) (x .node) keyWord) e)
 
   pub step-next : x .kind ≡ kind.Next → x .node ≢ 0
-      → readerStep st s ≡ loaded st s (recalled (st .pool) x) (child (st .pool) (towards (st .pool) (x .key) (x .node)) (x .node))
+      → readerStep st s ≡ loaded st s (afterComparing (st .pool) x) (child (st .pool) (towards (st .pool) (x .key) (x .node)) (x .node))
   unfolding readerStep
   step-next κ d = rw (at, κ, ne-eqb (x .node) 0 d)
 
@@ -108,50 +108,60 @@ turn-absent p A k n e f = case (f .tree) (f .unfolds) (f .answer)
     case nil h a = a
     case (cell N l r) h a = let i = h .0 .is in let j = h .0 .within .low in absurd (omega arith)
 
--- Turn after turn on one state.
-module _ (st : State) (k : ℕ) (perSlot : length (st .register .readers) ≡ slots) where
-  abbrev looking : ℕ → Reader
-  looking n = movedReader (begunReader kind.Lookup k) n
+-- Turn after turn on one state, by a reader in slot 0.
+module _ (st : State) (perSlot : length (st .register .readers) ≡ slots) where
+  abbrev pub posed : Reader → State
+  posed x = state (st .pool) (withReader (st .register) 0 x)
 
-  abbrev posed : ℕ → State
-  posed n = state (st .pool) (withReader (st .register) 0 (looking n))
+  pub there : (x : Reader) → readerOf (posed x .register) 0 ≡ x
+  there x = reader-same (st .register) 0 x (rw perSlot (omega arith))
 
-  there : (n : ℕ) → readerOf (posed n .register) 0 ≡ looking n
-  there n = reader-same (st .register) 0 (looking n) (rw perSlot (omega arith))
-
-  again : (n c : ℕ) → readerOf (withReader (posed n .register) 0 (looking c)) 0 ≡ looking c
+  again : (x y : Reader) → readerOf (withReader (posed x .register) 0 y) 0 ≡ y
   unfolding withReader
-  again n c = reader-same (posed n .register) 0 (looking c)
-      (rw (length-set (st .register .readers) 0 (looking n), perSlot) (omega arith))
+  again x y = reader-same (posed x .register) 0 y (rw (length-set (st .register .readers) 0 x, perSlot) (omega arith))
 
-  -- a link is loaded that unfolds to t
-  going-load : (n c : ℕ) (t : Linked) → turnAt st k n ≡ loaded (posed n) 0 (looking n) c → Rep (st .pool) c t → ((c ≢ 0) → Going st k c (answerOf (find t k))) → Going st k n (answerOf (find t k))
-  going-load n c nil e r next = ends n absent (ap (λ o. o .answer) (e ∙ load-none (posed n) 0 (looking n) c r))
-  going-load n c (cell N l r) e h next =
-      let d : c ≢ 0 = (let i = h .0 .is in let j = h .0 .within .low in omega arith) in
-      let o = e ∙ load-some (posed n) 0 (looking n) c d in
-      let there : readerOf (turnAt st k n .after .register) 0 .node ≡ c = ap (λ x. readerOf (x .after .register) 0 .node) o ∙ ap (λ x. x .node) (again n c) in
-      goes n _ (ap (λ x. x .answer) o) (subst (λ m. Going st k m (answerOf (find (cell N l r) k))) (sym there) (next d))
+  -- a turn that loads node c, going by the record y: none answers, and any other goes on from there
+  pub going-none : (x y : Reader) (c : ℕ) → turnOf st x ≡ loaded (posed x) 0 y c → c ≡ 0 → Going st x (emptyAnswer (y .kind) y)
+  going-none x y c e z = ends x _ (ap (λ o. o .answer) (e ∙ load-none (posed x) 0 y c z))
 
-  going : (t : Linked) (n : ℕ) → Rep (st .pool) n t → n ≢ 0 → Going st k n (answerOf (find t k))
-  going nil n h d = absurd (d h)
-  going (cell N l r) n h d =
-      let p = st .pool in
-      let w = h .0 in
-      let key : word p n keyWord ≡ N .key = rw (w .is) (w .key-is) in
-      let val : recordAt p n ≡ N .val = rw (w .is) (w .val-is) in
-      let step : k ≢ word p n keyWord → turnAt st k n ≡ loaded (posed n) 0 (looking n) (child p (towards p k n) n) = λ e. step-child (posed n) 0 (looking n) (there n) refl d e in
-      let left : ltb k (word p n keyWord) ≡ true → Rep p (child p (towards p k n) n) l = λ e. rw (e, w .is) (h .1) in
-      let right : ltb k (word p n keyWord) ≡ false → Rep p (child p (towards p k n) n) r = λ e. rw (e, w .is) (h .2) in
-      tri-case L k (N .key)
-      (λ o e. rw e (going-load n (child p (towards p k n) n) l (step (omega arith)) (left (lt-ltb k (word p n keyWord) (omega arith)))
-      (going l (child p (towards p k n) n) (left (lt-ltb k (word p n keyWord) (omega arith))))))
-      (λ o e. rw e (ends n (found (N .val)) (ap (λ x. x .answer) (step-found (posed n) 0 (looking n) (there n) refl d (omega arith)) ∙ ap found val)))
-      (λ o e. rw e (going-load n (child p (towards p k n) n) r (step (omega arith)) (right (le-ltb k (word p n keyWord) (omega arith)))
-      (going r (child p (towards p k n) n) (right (le-ltb k (word p n keyWord) (omega arith))))))
+  pub going-some : (x y : Reader) (c : ℕ) (a : Answer) → turnOf st x ≡ loaded (posed x) 0 y c → c ≢ 0 → Going st (movedReader y c) a → Going st x a
+  going-some x y c a e d g =
+      let o = e ∙ load-some (posed x) 0 y c d in
+      goes x a (ap (λ o. o .answer) o) (subst (λ z. Going st z a) (sym (ap (λ o. readerOf (o .after .register) 0) o ∙ again x (movedReader y c))) g)
 
-  -- from the root: what the whole tree has
-  pub going-root : (T : Linked) → Rep (st .pool) (st .register .root) T → Going st k 0 (answerOf (find T k))
-  unfolding withReader
-  going-root T h =
-      going-load 0 (st .register .root) T (step-root (posed 0) 0 (looking 0) (there 0) refl) h (λ d. going T (st .register .root) h d)
+  -- A lookup.
+  module _ (k : ℕ) where
+    abbrev looking : ℕ → Reader
+    looking n = movedReader (begunReader kind.Lookup k) n
+
+    -- a link is loaded that unfolds to t
+    going-load : (n c : ℕ) (t : Linked) → turnOf st (looking n) ≡ loaded (posed (looking n)) 0 (looking n) c → Rep (st .pool) c t
+        → ((c ≢ 0) → Going st (looking c) (answerOf (find t k))) → Going st (looking n) (answerOf (find t k))
+    going-load n c nil e r next = going-none (looking n) (looking n) c e r
+    going-load n c (cell N l r) e h next =
+        let d : c ≢ 0 = (let i = h .0 .is in let j = h .0 .within .low in omega arith) in
+        going-some (looking n) (looking n) c (answerOf (find (cell N l r) k)) e d (next d)
+
+    going : (t : Linked) (n : ℕ) → Rep (st .pool) n t → n ≢ 0 → Going st (looking n) (answerOf (find t k))
+    going nil n h d = absurd (d h)
+    going (cell N l r) n h d =
+        let p = st .pool in
+        let w = h .0 in
+        let key : word p n keyWord ≡ N .key = rw (w .is) (w .key-is) in
+        let val : recordAt p n ≡ N .val = rw (w .is) (w .val-is) in
+        let step : k ≢ word p n keyWord → turnOf st (looking n) ≡ loaded (posed (looking n)) 0 (looking n) (child p (towards p k n) n) =
+        λ e. step-child (posed (looking n)) 0 (looking n) (there (looking n)) refl d e in
+        let left : ltb k (word p n keyWord) ≡ true → Rep p (child p (towards p k n) n) l = λ e. rw (e, w .is) (h .1) in
+        let right : ltb k (word p n keyWord) ≡ false → Rep p (child p (towards p k n) n) r = λ e. rw (e, w .is) (h .2) in
+        tri-case L k (N .key)
+        (λ o e. rw e (going-load n (child p (towards p k n) n) l (step (omega arith)) (left (lt-ltb k (word p n keyWord) (omega arith)))
+        (going l (child p (towards p k n) n) (left (lt-ltb k (word p n keyWord) (omega arith))))))
+        (λ o e. rw e (ends (looking n) (found (N .val)) (ap (λ x. x .answer) (step-found (posed (looking n)) 0 (looking n) (there (looking n)) refl d (omega arith)) ∙ ap found val)))
+        (λ o e. rw e (going-load n (child p (towards p k n) n) r (step (omega arith)) (right (le-ltb k (word p n keyWord) (omega arith)))
+        (going r (child p (towards p k n) n) (right (le-ltb k (word p n keyWord) (omega arith))))))
+
+    -- from the root: what the whole tree has
+    pub going-root : (T : Linked) → Rep (st .pool) (st .register .root) T → Going st (begunReader kind.Lookup k) (answerOf (find T k))
+    unfolding withReader
+    going-root T h =
+        going-load 0 (st .register .root) T (step-root (posed (looking 0)) 0 (looking 0) (there (looking 0)) refl) h (λ d. going T (st .register .root) h d)

@@ -16,3 +16,4 @@ pub mod ColourWork
 pub mod Turns
 pub mod CallCase
 pub mod Safe
+pub mod NextDescends

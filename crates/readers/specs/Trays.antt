@@ -18,7 +18,7 @@ use Rattle.datatypes.specs.declared.Reader.{Reader}
 use Rattle.spec.specs.Pool.{word, child, keyWord, recordAt}
 use Rattle.spec.specs.Search.{towards}
 use Rattle.spec.specs.Register.{remembering}
-use Rattle.spec.specs.Calls.{recalled}
+use Rattle.spec.specs.Calls.{afterComparing}
 use Rattle.base.specs.Lists.{_∈_, in-append, Distinct}
 use Rattle.tree.specs.Occurs.{occ, in-occ}
 use Rattle.tree.specs.Linked.{Linked, nil, cell, find, nodes}
@@ -168,13 +168,21 @@ keyIn (Ticket k v) = some k
 abbrev pub noting : List ℕ → ℕ → ℕ → Remembered → Remembered
 noting p g n r = cond (ltb g (word p n keyWord)) (Ticket (word p n keyWord) (recordAt p n)) r
 
-pub recalled-notes : (p : List ℕ) (x : Reader) → rememberedBy (recalled p x) ≡ noting p (x .key) (x .node) (rememberedBy x)
-recalled-notes p x = go (ltb (x .key) (word p (x .node) keyWord))
+pub comparing-notes : (p : List ℕ) (x : Reader) → rememberedBy (afterComparing p x) ≡ noting p (x .key) (x .node) (rememberedBy x)
+comparing-notes p x = go (ltb (x .key) (word p (x .node) keyWord))
   where
     go : (b : Bool) → rememberedBy (cond b (remembering x (word p (x .node) keyWord) (recordAt p (x .node))) x)
         ≡ cond b (Ticket (word p (x .node) keyWord) (recordAt p (x .node))) (rememberedBy x)
     go true = refl
     go false = refl
+
+pub comparing-fields : (p : List ℕ) (x : Reader) → (afterComparing p x .kind ≡ x .kind) × (afterComparing p x .key ≡ x .key)
+comparing-fields p x = go (ltb (x .key) (word p (x .node) keyWord))
+  where
+    go : (b : Bool) → (cond b (remembering x (word p (x .node) keyWord) (recordAt p (x .node))) x .kind ≡ x .kind)
+        × (cond b (remembering x (word p (x .node) keyWord) (recordAt p (x .node))) x .key ≡ x .key)
+    go true = (refl, refl)
+    go false = (refl, refl)
 
 -- the ticket remembered is greater than the given key and may have been held
 abbrev pub RememberedHeld : (ℕ → Option ℕ → Type 0) → ℕ → Remembered → Type 0

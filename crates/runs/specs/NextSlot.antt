@@ -26,7 +26,7 @@ use Rattle.readers.specs.Marks.{no-bit, reading-bit}
 use Rattle.readers.specs.Reach.{HasStanding, Kept, Closed, kept-stands, kept-store, not-again}
 use Rattle.readers.specs.Lookups.{Unlinked}
 use Rattle.readers.specs.Trays.{Gap, gap-now, Held, held-now, Closes, closes-more, OnTrail, store-closes, store-trail, anew-closes, anew-trail, root-trail, root-closes}
-use Rattle.readers.specs.Trays.{Remembered, Nothing, Ticket, keyIn, noting, RememberedHeld, remembered-more, turn-closes, turn-remembers, turn-trail, Answered, turn-answers}
+use Rattle.readers.specs.Trays.{Remembered, Nothing, keyIn, noting, RememberedHeld, remembered-more, turn-closes, turn-remembers, turn-trail, Answered, turn-answers}
 use Rattle.readers.specs.Turns.{Turn}
 use Rattle.runs.specs.Writer.{Stores, Writer, firstMade, afterStore}
 use Rattle.runs.specs.Sound.{Sound}

@@ -2,24 +2,23 @@
 -- the ends of other slots; and that what it answers is right.
 use Prim.Native.Nat.{ℕ, _<_}
 use mathlib.Core.Path.{_≡_, refl, sym, ap, _∙_}
-use mathlib.Core.Bool.{Bool, true, false, cond}
+use mathlib.Core.Bool.{true, false}
 use mathlib.Core.List.{List}
 use mathlib.Core.Option.{Option, none, some}
 use mathlib.Core.Logic.{_≢_}
 use native.Mathlib.Omega.{arith}
-use lib.Dec.{ltb}
 use Rattle.datatypes.specs.declared.Kind.{Kind}
 use Rattle.datatypes.specs.declared.Kind.the-variants as kind
 use Rattle.datatypes.specs.declared.Reader.{Reader}
 use Rattle.spec.specs.Numbers.{slots}
 use Rattle.spec.specs.Pool.{word, keyWord, recordAt, standingLinked}
-use Rattle.spec.specs.Register.{State, hasSlot, readerOf, begunReader, movedReader, remembering}
+use Rattle.spec.specs.Register.{State, hasSlot, readerOf, begunReader, movedReader}
 use Rattle.spec.specs.PlainList.{Plain, recordFor}
 use Rattle.promise.specs.Run.{Reads}
 use Rattle.tree.specs.Linked.{Linked, find}
 use Rattle.heap.specs.Rep.{Alike, upToLinks}
 use Rattle.readers.specs.Reach.{HasStanding, Kept}
-use Rattle.readers.specs.Trays.{Remembered, Nothing, Ticket, rememberedBy, recalled-notes, Answered}
+use Rattle.readers.specs.Trays.{Remembered, Nothing, Ticket, rememberedBy, comparing-notes, comparing-fields, Answered}
 use Rattle.readers.specs.CallCase.{kindNumber, Loads, atRoot, lookingUp, searching}
 use Rattle.runs.specs.Writer.{Stores, Writer, firstMade, afterStore}
 use Rattle.runs.specs.Sound.{Sound}
@@ -117,15 +116,11 @@ module _ (W : State → Plain → Linked → Type 0) (writer : Writer W) where
     now : (q : ℕ) → A q (find (h .tree) q)
     now q = rw (writer .finds st x (h .tree) (h .holds) q) (was q)
 
-    -- the record that a load goes by has the slot's kind and key; a search remembers then what it has noted
-    recalled-fields : (b : Bool) (k v : ℕ) → (cond b (remembering y k v) y .kind ≡ y .kind) × (cond b (remembering y k v) y .key ≡ y .key)
-    recalled-fields true k v = (refl, refl)
-    recalled-fields false k v = (refl, refl)
-
+    -- the record that a load goes by has the slot's kind and key
     pub load-fields : (z : Reader) (n : ℕ) → Loads st s z n → (z .kind ≡ y .kind) × (z .key ≡ y .key)
     load-fields z n (atRoot a e f) = rw e (refl, refl)
     load-fields z n (lookingUp κ a b e f) = rw e (refl, refl)
-    load-fields z n (searching κ a e f) = rw e (recalled-fields (ltb (y .key) (word (st .pool) (y .node) keyWord)) _ _)
+    load-fields z n (searching κ a e f) = rw e (comparing-fields (st .pool) y)
 
     -- it loads a node
     search-loads : (κ : Kind) (z : Reader) (n : ℕ) → Loads st s z n → n ≢ 0 → Reads st s → y .kind ≡ κ → y .key ≡ k → SearchAt κ (y .node) (rememberedBy y)
@@ -141,7 +136,7 @@ module _ (W : State → Plain → Linked → Type 0) (writer : Writer W) where
         (writer .sure st x (h .tree) (h .holds)) (writer .told st x (h .tree) (h .holds)) now)
     search-loads kind.Next z n (lookingUp κ a b e f) d r i j g = absurd (let q = ap kindNumber (sym i ∙ κ) in omega arith)
     search-loads kind.Next z n (searching κ a e f) d r i j g =
-        rw (e, f, recalled-notes (st .pool) y, j)
+        rw (e, f, comparing-notes (st .pool) y, j)
         (nextStand-child (st .pool) (st .register .root) (st .register .awaited) A s k (y .node) (rememberedBy y) a (h .safe .at s u r a) (λ q. d (f ∙ rw j q)) g)
 
     pub stand-loads : (κ : Kind) (z : Reader) (n : ℕ) → Loads st s z n → n ≢ 0 → StandAt st A κ s k
@@ -162,7 +157,7 @@ module _ (W : State → Plain → Linked → Type 0) (writer : Writer W) where
         (writer .sure st x (h .tree) (h .holds)) (writer .told st x (h .tree) (h .holds)) now)
     search-empty kind.Next z n (lookingUp κ a b e f) d i j g = absurd (let q = ap kindNumber (sym i ∙ κ) in omega arith)
     search-empty kind.Next z n (searching κ a e f) d i j g =
-        rw (e, recalled-notes (st .pool) y, j)
+        rw (e, comparing-notes (st .pool) y, j)
         (nextStand-answers (st .pool) (st .register .root) (st .register .awaited) A s k (y .node) (rememberedBy y) a (rw j at (sym f ∙ d)) g)
 
     -- so of an answer by kind: absent if nothing is remembered, else the ticket

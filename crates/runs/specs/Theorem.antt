@@ -10,7 +10,7 @@ use Rattle.datatypes.specs.declared.Kind.{Kind}
 use Rattle.datatypes.specs.declared.Kind.the-variants as kind
 use Rattle.spec.specs.Numbers.{slots}
 use Rattle.spec.specs.Pool.{standingWord}
-use Rattle.spec.specs.Register.{State}
+use Rattle.spec.specs.Register.{State, begunReader}
 use Rattle.spec.specs.Calls.{Answer, ok, absent, found, next, Call, beginning, turning, givingUp, call}
 use Rattle.spec.specs.PlainList.{Plain, recordFor}
 use Rattle.laws.specs.Words.{word-none}
@@ -21,6 +21,7 @@ use Rattle.readers.specs.Reach.{Kept, kept-stands}
 use Rattle.readers.specs.QueueExact.{QueueExact}
 use Rattle.readers.specs.Trays.{Nothing, Ticket, Answered}
 use Rattle.readers.specs.Descends.{going-root}
+use Rattle.readers.specs.NextDescends.{going-next}
 use Rattle.readers.specs.CallCase.{kindNumber, call-case}
 use Rattle.readers.specs.Safe.{Safe, safe-reach}
 use Rattle.runs.specs.Writer.{Writer}
@@ -198,8 +199,14 @@ module _ (W : State → Plain → Linked → Type 0) (writer : Writer W) (S : St
   holds = record {
     everyKey = λ j k. (
         let h = sound-at j in
-        subst (λ o. Going (at j) k 0 (answerOf o)) (writer .finds (at j) (list j) (h .tree) (h .holds) k)
-        (going-root (at j) k (h .safe .owned .perSlot) (h .tree) (writer .unfolds (at j) (list j) (h .tree) (h .holds)))
+        subst (λ o. Going (at j) (begunReader kind.Lookup k) (answerOf o)) (writer .finds (at j) (list j) (h .tree) (h .holds) k)
+        (going-root (at j) (h .safe .owned .perSlot) k (h .tree) (writer .unfolds (at j) (list j) (h .tree) (h .holds)))
+        );
+    everyNext = λ j g. (
+        let h = sound-at j in
+        let w = h .holds in
+        going-next (at j) (h .safe .owned .perSlot) (h .tree) (writer .unfolds (at j) (list j) (h .tree) w) (writer .sure (at j) (list j) (h .tree) w)
+        (writer .told (at j) (list j) (h .tree) w) (ticketsAfter S cs j) (writer .finds (at j) (list j) (h .tree) w) g
         );
     keysHeld = λ j. (let h = sound-at j in writer .held (at j) (list j) (h .tree) (h .holds));
   }

@@ -205,16 +205,16 @@ abbrev pub emptyAnswer : Kind → Reader → Answer
 emptyAnswer kind.Lookup x = absent
 emptyAnswer kind.Next x = cond (x .remembers) (next (x .best) (x .value)) absent
 
--- The slot s, whose record is x, loads node n. A loaded 0 answers that and ends the reading, else go.
+-- The slot s, whose record is x, loads node n. A loaded 0 answers as above and ends the reading; any other node answers go.
 abbrev pub loaded : State → ℕ → Reader → ℕ → Outcome
 loaded st s x n =
     cond (eqb n 0)
     (outcome (emptyAnswer (x .kind) x) (endReading st s))
     (outcome go (state (st .pool) (withReader (st .register) s (movedReader x n))))
 
--- the record of a search for the next ticket that has compared its node: a greater key is remembered with its record
-abbrev pub recalled : List ℕ → Reader → Reader
-recalled p x =
+-- the record x of a search for the next ticket after it has compared its node: a greater key is remembered with its record, else x stays
+abbrev pub afterComparing : List ℕ → Reader → Reader
+afterComparing p x =
     let n = x .node in
     cond (ltb (x .key) (word p n keyWord)) (remembering x (word p n keyWord) (recordAt p n)) x
 
@@ -228,7 +228,7 @@ atNode kind.Lookup st s x =
     (loaded st s x (child p (towards p (x .key) (x .node)) (x .node)))
 atNode kind.Next st s x =
     let p = st .pool in
-    loaded st s (recalled p x) (child p (towards p (x .key) (x .node)) (x .node))
+    loaded st s (afterComparing p x) (child p (towards p (x .key) (x .node)) (x .node))
 
 -- Reader's turn. Before any node: load the root. At a node: by the kind of search.
 unfoldable pub readerStep : State → ℕ → Outcome

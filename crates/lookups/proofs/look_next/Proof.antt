@@ -5,7 +5,7 @@ use borrow.Author.Needs.{needs}
 use Rattle.datatypes.specs.declared.Reader.{Reader}
 use Rattle.spec.specs.Pool.{child}
 use Rattle.spec.specs.Search.{towards}
-use Rattle.spec.specs.Calls.{recalled}
+use Rattle.spec.specs.Calls.{afterComparing}
 use Rattle.lookups.specs.Looked.{load}
 use Rattle.lookups.proofs.look_next.Statement.{statement}
 use Rattle.lookups.proofs.look_next.Tie as tie
@@ -39,9 +39,9 @@ returns c =
     let w = c4 .before .before .word in
     let p = a .pool .now in
     let less = lt-ltb _ _ (c4 .if1 .taken) in
-    let y : c .before .before .remembering .result ≡ recalled p (a .x) = c .before .before .remembering .ensures ∙ rw (← (w .ensures), less, c .before .before .before .«record» .ensures) in
+    let y : c .before .before .remembering .result ≡ afterComparing p (a .x) = c .before .before .remembering .ensures ∙ rw (← (w .ensures), less, c .before .before .before .«record» .ensures) in
     let n : c .before .child .result ≡ child p (towards p (a .x .key) (a .x .node)) (a .x .node) = c .before .child .ensures ∙ rw (← (w .ensures), less) in
-    c .load .ensures ∙ ap (λ (z : Reader). load z (c .before .child .result)) y ∙ ap (λ (m : ℕ). load (recalled p (a .x)) m) n
+    c .load .ensures ∙ ap (λ (z : Reader). load z (c .before .child .result)) y ∙ ap (λ (m : ℕ). load (afterComparing p (a .x)) m) n
 
 child-requires-2 : tie.Need-child-requires-2
 child-requires-2 c κs = search needs
