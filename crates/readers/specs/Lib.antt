@@ -10,7 +10,7 @@ pub mod Thinner
 pub mod Lookups
 pub mod Descends
 pub mod Once
-pub mod Trays
+pub mod NextSearches
 pub mod Stored
 pub mod ColourWork
 pub mod Turns

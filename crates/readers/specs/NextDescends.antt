@@ -22,8 +22,8 @@ use Rattle.tree.specs.Tickets.{True}
 use Rattle.tree.specs.Steady.{Sure}
 use Rattle.heap.specs.Rep.{Rep}
 use Rattle.readers.specs.Descends.{step-root, step-next, posed, there, going-none, going-some}
-use Rattle.readers.specs.Trays.{Remembered, Nothing, Ticket, rememberedBy, keyIn, RememberedHeld, comparing-notes, comparing-fields}
-use Rattle.readers.specs.Trays.{Closes, root-closes, turn-closes, turn-remembers, Answered, turn-answers}
+use Rattle.readers.specs.NextSearches.{Remembered, Nothing, Ticket, rememberedBy, keyIn, RememberedHeld, comparing-notes, comparing-fields}
+use Rattle.readers.specs.NextSearches.{Closes, root-closes, turn-closes, turn-remembers, Answered, turn-answers}
 
 -- what is remembered, as an answer
 abbrev told : Remembered → Answer

@@ -19,7 +19,7 @@ use Rattle.spec.specs.PlainList.{Plain, recordFor}
 use Rattle.promise.specs.Run.{Reads}
 use Rattle.tree.specs.Linked.{Linked}
 use Rattle.readers.specs.Marks.{reader-same, reader-other}
-use Rattle.readers.specs.Trays.{Nothing, Ticket, Answered}
+use Rattle.readers.specs.NextSearches.{Nothing, Ticket, Answered}
 use Rattle.readers.specs.CallCase.{CallCase, refuses, plansInsert, plansDelete, waits, stores, begins, loads, misses, meets, finds, leaves, testsOf}
 use Rattle.readers.specs.Safe.{Safe, end-reader, end-own}
 use Rattle.runs.specs.Writer.{Writer, afterStore}

@@ -1,4 +1,4 @@
--- A slot that searches for the next ticket: (a), (b) and (c) of its node, of the key given and of the ticket remembered (readers: Trays), and what
+-- A slot that searches for the next ticket: (a), (b) and (c) of its node, of the key given and of the ticket remembered (readers: NextSearches), and what
 -- it has seen, kept by each call that does not end its reading. Beside LookupSlot, which has the same of a lookup.
 use Prim.Native.Nat.{ℕ, _<_}
 use mathlib.Core.Path.{_≡_, refl, sym, _∙_, subst}
@@ -25,8 +25,8 @@ use Rattle.heap.specs.Rep.{Rep, Alike, rep-alike, upToLinks}
 use Rattle.readers.specs.Marks.{no-bit, reading-bit}
 use Rattle.readers.specs.Reach.{HasStanding, Kept, Closed, kept-stands, kept-store, not-again}
 use Rattle.readers.specs.Lookups.{Unlinked}
-use Rattle.readers.specs.Trays.{Gap, gap-now, Held, held-now, Closes, closes-more, OnTrail, store-closes, store-trail, anew-closes, anew-trail, root-trail, root-closes}
-use Rattle.readers.specs.Trays.{Remembered, Nothing, keyIn, noting, RememberedHeld, remembered-more, turn-closes, turn-remembers, turn-trail, Answered, turn-answers}
+use Rattle.readers.specs.NextSearches.{Gap, gap-now, Held, held-now, Closes, closes-more, OnTrail, store-closes, store-trail, anew-closes, anew-trail, root-trail, root-closes}
+use Rattle.readers.specs.NextSearches.{Remembered, Nothing, keyIn, noting, RememberedHeld, remembered-more, turn-closes, turn-remembers, turn-trail, Answered, turn-answers}
 use Rattle.readers.specs.Turns.{Turn}
 use Rattle.runs.specs.Writer.{Stores, Writer, firstMade, afterStore}
 use Rattle.runs.specs.Sound.{Sound}

@@ -18,7 +18,7 @@ use Rattle.promise.specs.Run.{Reads}
 use Rattle.tree.specs.Linked.{Linked, find}
 use Rattle.heap.specs.Rep.{Alike, upToLinks}
 use Rattle.readers.specs.Reach.{HasStanding, Kept}
-use Rattle.readers.specs.Trays.{Remembered, Nothing, Ticket, rememberedBy, comparing-notes, comparing-fields, Answered}
+use Rattle.readers.specs.NextSearches.{Remembered, Nothing, Ticket, rememberedBy, comparing-notes, comparing-fields, Answered}
 use Rattle.readers.specs.CallCase.{kindNumber, Loads, atRoot, lookingUp, searching}
 use Rattle.runs.specs.Writer.{Stores, Writer, firstMade, afterStore}
 use Rattle.runs.specs.Sound.{Sound}

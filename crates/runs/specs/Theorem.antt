@@ -19,7 +19,7 @@ use Rattle.promise.specs.Run.{Start, Reads, Moment, thenPerhaps, callAt, after,
 use Rattle.promise.specs.Demands.{AtOneMoment, LookupsRight, NextSearchesRight, Going, answerOf, TreeHolds, Reaches, NodesKept, Demand3}
 use Rattle.readers.specs.Reach.{Kept, kept-stands}
 use Rattle.readers.specs.QueueExact.{QueueExact}
-use Rattle.readers.specs.Trays.{Nothing, Ticket, Answered}
+use Rattle.readers.specs.NextSearches.{Nothing, Ticket, Answered}
 use Rattle.readers.specs.Descends.{going-root}
 use Rattle.readers.specs.NextDescends.{going-next}
 use Rattle.readers.specs.CallCase.{kindNumber, call-case}
