@@ -9,11 +9,10 @@ use Rattle.datatypes.specs.declared.Kind.the-variants as kind
 use Rattle.datatypes.specs.declared.Head.{Head}
 use Rattle.datatypes.specs.declared.Reader.{Reader}
 use Rattle.datatypes.specs.declared.Register.{Register}
-use Rattle.spec.specs.Pool.{word, child, recordAt, keyWord}
+use Rattle.spec.specs.Pool.{word, recordAt, keyWord}
 use Rattle.spec.specs.Register.{movedReader, State, state, noReader, readerOf, withReader}
 use Rattle.spec.specs.Free.{endReading}
-use Rattle.spec.specs.Search.{towards}
-use Rattle.spec.specs.Calls.{Answer, go, found, readerSays, Outcome, outcome, emptyAnswer, afterComparing, loaded, atNode, readerStep}
+use Rattle.spec.specs.Calls.{Answer, go, found, readerSays, Outcome, outcome, emptyAnswer, loaded, childFor, afterComparing, atNode, readerStep}
 use Rattle.heads.specs.Head.{at, headOf, withHead}
 use Rattle.lookups.specs.declared.Looked.{Looked}
 
@@ -36,8 +35,8 @@ abbrev pub lookAt : Kind → List ℕ → Reader → Look
 lookAt kind.Lookup p x =
     cond (eqb (x .key) (word p (x .node) keyWord))
     (look (found (recordAt p (x .node))) noReader)
-    (load x (child p (towards p (x .key) (x .node)) (x .node)))
-lookAt kind.Next p x = load (afterComparing p x) (child p (towards p (x .key) (x .node)) (x .node))
+    (load x (childFor p x))
+lookAt kind.Next p x = load (afterComparing p x) (childFor p x)
 
 abbrev pub lookFrom : List ℕ → ℕ → Reader → Look
 lookFrom p root x = cond (eqb (x .node) 0) (load x root) (lookAt (x .kind) p x)
@@ -71,10 +70,8 @@ module _ (st : State) (s : ℕ) where
   node-out : (x : Reader) (κ : Kind) → atNode κ st s x ≡ out (lookAt κ (st .pool) x)
   node-out x kind.Lookup =
       let p = st .pool in
-      found-out x (eqb (x .key) (word p (x .node) keyWord)) (recordAt p (x .node)) (child p (towards p (x .key) (x .node)) (x .node))
-  node-out x kind.Next =
-      let p = st .pool in
-      loaded-out (afterComparing p x) (child p (towards p (x .key) (x .node)) (x .node))
+      found-out x (eqb (x .key) (word p (x .node) keyWord)) (recordAt p (x .node)) (childFor p x)
+  node-out x kind.Next = loaded-out (afterComparing (st .pool) x) (childFor (st .pool) x)
 
   step-out : (x : Reader) (b : Bool) (root : ℕ) → cond b (loaded st s x root) (atNode (x .kind) st s x) ≡ out (cond b (load x root) (lookAt (x .kind) (st .pool) x))
   step-out x true root = loaded-out x root
@@ -98,9 +95,9 @@ load-kept x n = kept-either (eqb n 0) (look (emptyAnswer (x .kind) x) noReader) 
 
 at-kept : (κ : Kind) (p : List ℕ) (x : Reader) → Kept (lookAt κ p x)
 at-kept kind.Lookup p x =
-    let c = child p (towards p (x .key) (x .node)) (x .node) in
+    let c = childFor p x in
     kept-either (eqb (x .key) (word p (x .node) keyWord)) (look (found (recordAt p (x .node))) noReader) (load x c) (λ _. refl) (load-kept x c)
-at-kept kind.Next p x = load-kept (afterComparing p x) (child p (towards p (x .key) (x .node)) (x .node))
+at-kept kind.Next p x = load-kept (afterComparing p x) (childFor p x)
 
 look-kept : (p : List ℕ) (root : ℕ) (x : Reader) → Kept (lookFrom p root x)
 look-kept p root x = kept-either (eqb (x .node) 0) (load x root) (lookAt (x .kind) p x) (load-kept x root) (at-kept (x .kind) p x)

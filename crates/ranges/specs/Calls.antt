@@ -24,8 +24,8 @@ use Rattle.spec.specs.Free.{endReading}
 use Rattle.spec.specs.Search.{towards}
 use Rattle.spec.specs.Plan.{Plan}
 use Rattle.spec.specs.Turn.{stepFinds, stepMade}
-use Rattle.spec.specs.Calls.{Outcome, outOfRange, placeOf, insertAt, deleteAt, stored, Call}
-use Rattle.readers.specs.CallCase.{CallCase, refuses, plansInsert, plansDelete, waits, stores, begins, loads, misses, meets, finds, leaves, childLoaded, Loads, atRoot, lookingUp, searching}
+use Rattle.spec.specs.Calls.{Outcome, outOfRange, placeOf, insertAt, deleteAt, stored, Call, childFor}
+use Rattle.readers.specs.CallCase.{CallCase, refuses, plansInsert, plansDelete, waits, stores, begins, loads, misses, meets, finds, leaves, Loads, atRoot, lookingUp, searching}
 use Rattle.ranges.specs.Fits.{PoolOk, child-fits, Within, within-reader, within-end, within-write}
 use Rattle.ranges.specs.Stores.{step-within}
 use Rattle.ranges.specs.Writes.{Number, LinkOk, StepOk, WriteOk, write-of, write-less}
@@ -136,15 +136,13 @@ ranged-reader capacity st s x u h = record { within = within-reader capacity st 
 ranged-end : (capacity : ℕ) (st : State) (s : ℕ) → Ranged capacity st → Ranged capacity (endReading st s)
 ranged-end capacity st s h = record { within = within-end capacity st s (h .within); write = rw (hand-end st s) (h .write) }
 
-child-loaded-fits : (capacity : ℕ) (st : State) (s : ℕ) → Within capacity st → childLoaded st s ≤ capacity
-child-loaded-fits capacity st s h =
-    let x = readerOf (st .register) s in
-    child-fits capacity (st .pool) (towards (st .pool) (x .key) (x .node)) (x .node) (h .fits)
+child-loaded-fits : (capacity : ℕ) (st : State) (x : Reader) → Within capacity st → childFor (st .pool) x ≤ capacity
+child-loaded-fits capacity st x h = child-fits capacity (st .pool) (towards (st .pool) (x .key) (x .node)) (x .node) (h .fits)
 
 load-fits : (capacity : ℕ) (st : State) (s : ℕ) (y : Reader) (n : ℕ) → Within capacity st → Loads st s y n → n ≤ capacity
 load-fits capacity st s y n h (atRoot a e f) = rw f (h .root)
-load-fits capacity st s y n h (lookingUp κ a b e f) = rw f (child-loaded-fits capacity st s h)
-load-fits capacity st s y n h (searching κ a e f) = rw f (child-loaded-fits capacity st s h)
+load-fits capacity st s y n h (lookingUp κ a b e f) = rw f (child-loaded-fits capacity st (readerOf (st .register) s) h)
+load-fits capacity st s y n h (searching κ a e f) = rw f (child-loaded-fits capacity st (readerOf (st .register) s) h)
 
 pub ranged-next : (capacity : ℕ) (st : State) (c : Call) (o : Outcome) → CallCase st c o → Ranged capacity st → Ranged capacity (o .after)
 ranged-next capacity st c o (refuses d x) h = h

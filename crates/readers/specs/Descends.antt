@@ -18,7 +18,7 @@ use Rattle.spec.specs.Pool.{word, child, keyWord, recordAt}
 use Rattle.spec.specs.Register.{State, state, readerOf, withReader, begunReader, movedReader}
 use Rattle.spec.specs.Free.{endReading}
 use Rattle.spec.specs.Search.{towards}
-use Rattle.spec.specs.Calls.{Answer, go, found, outcome, emptyAnswer, loaded, afterComparing, readerStep}
+use Rattle.spec.specs.Calls.{Answer, go, found, outcome, emptyAnswer, loaded, childFor, afterComparing, readerStep}
 use Rattle.tree.specs.Order.{tri-case}
 use Rattle.tree.specs.Thin.{Thin}
 use Rattle.tree.specs.Linked.{Linked, nil, cell, find, path}
@@ -39,12 +39,12 @@ module _ (st : State) (s : ℕ) (x : Reader) (at : readerOf (st .register) s ≡
   step-found κ d e = rw (at, κ, ne-eqb (x .node) 0 d, eq-eqb (x .key) (word (st .pool) (x .node) keyWord) e)
 
   pub step-child : x .kind ≡ kind.Lookup → x .node ≢ 0 → x .key ≢ word (st .pool) (x .node) keyWord
-      → readerStep st s ≡ loaded st s x (child (st .pool) (towards (st .pool) (x .key) (x .node)) (x .node))
+      → readerStep st s ≡ loaded st s x (childFor (st .pool) x)
   unfolding readerStep
   step-child κ d e = rw (at, κ, ne-eqb (x .node) 0 d, ne-eqb (x .key) (word (st .pool) (x .node) keyWord) e)
 
   pub step-next : x .kind ≡ kind.Next → x .node ≢ 0
-      → readerStep st s ≡ loaded st s (afterComparing (st .pool) x) (child (st .pool) (towards (st .pool) (x .key) (x .node)) (x .node))
+      → readerStep st s ≡ loaded st s (afterComparing (st .pool) x) (childFor (st .pool) x)
   unfolding readerStep
   step-next κ d = rw (at, κ, ne-eqb (x .node) 0 d)
 

@@ -11,10 +11,9 @@ use lib.ListN.{length}
 use Rattle.datatypes.specs.declared.Kind.the-variants as kind
 use Rattle.datatypes.specs.declared.Reader.{Reader}
 use Rattle.spec.specs.Numbers.{slots}
-use Rattle.spec.specs.Pool.{word, child, keyWord}
+use Rattle.spec.specs.Pool.{word, keyWord}
 use Rattle.spec.specs.Register.{State, begunReader, movedReader, withReader}
-use Rattle.spec.specs.Search.{towards}
-use Rattle.spec.specs.Calls.{Answer, absent, next, emptyAnswer, loaded, afterComparing}
+use Rattle.spec.specs.Calls.{Answer, absent, next, emptyAnswer, loaded, childFor, afterComparing}
 use Rattle.spec.specs.PlainList.{Ticket as Listed, recordFor}
 use Rattle.promise.specs.Demands.{turnOf, Going, NextTicket, isNext, noNext}
 use Rattle.tree.specs.Linked.{Linked, nil, cell, find}
@@ -59,11 +58,8 @@ module _ (st : State) (perSlot : length (st .register .readers) ≡ slots) (g : 
     closes : Closes (st .pool) A (x .node) g (keyIn (rememberedBy x))
     remembers : RememberedHeld A g (rememberedBy x)
 
-  -- the child that it loads when it has compared its node
-  abbrev onward : Reader → ℕ
-  onward x = child (st .pool) (towards (st .pool) (x .key) (x .node)) (x .node)
-
-  on : (x : Reader) (t u : Linked) → x .node ≢ 0 → At x t → Rep (st .pool) (onward x) u → At (movedReader (afterComparing (st .pool) x) (onward x)) u
+  -- it has compared its node and loads the child, which unfolds to u
+  on : (x : Reader) (t u : Linked) → x .node ≢ 0 → At x t → Rep (st .pool) (childFor (st .pool) x) u → At (movedReader (afterComparing (st .pool) x) (childFor (st .pool) x)) u
   on x t u d a h = record {
     unfolds = h;
     kind = comparing-fields (st .pool) x .0 ∙ a .kind;
@@ -72,10 +68,10 @@ module _ (st : State) (perSlot : length (st .register .readers) ≡ slots) (g : 
     remembers = rw (comparing-notes (st .pool) x, a .key) (turn-remembers (st .pool) A (x .node) g (rememberedBy x) d (a .closes) (a .remembers));
   }
 
-  node-comes : (x : Reader) (t u : Linked) → x .node ≢ 0 → At x t → Rep (st .pool) (onward x) u → ((y : Reader) → y .node ≢ 0 → At y u → Comes y) → Comes x
+  node-comes : (x : Reader) (t u : Linked) → x .node ≢ 0 → At x t → Rep (st .pool) (childFor (st .pool) x) u → ((y : Reader) → y .node ≢ 0 → At y u → Comes y) → Comes x
   node-comes x t u d a h further =
       let p = st .pool in
-      let c = onward x in
+      let c = childFor p x in
       let y = afterComparing p x in
       let b = on x t u d a h in
       load-comes x y c (step-next (posed st perSlot x) 0 x (there st perSlot x) (a .kind) d) (b .kind)

@@ -14,14 +14,14 @@ use Rattle.spec.specs.Register.{State, state, readerOf, withReader, withAwaited
 use Rattle.spec.specs.Free.{endReading}
 use Rattle.spec.specs.Search.{towards}
 use Rattle.spec.specs.Turn.{Made}
-use Rattle.spec.specs.Calls.{more, done, Outcome, stored, Call}
+use Rattle.spec.specs.Calls.{more, done, Outcome, stored, Call, childFor}
 use Rattle.spec.specs.PlainList.{Plain, carriedOut, noticeOf, feed}
 use Rattle.base.specs.Lists.{_∈_}
 use Rattle.tree.specs.Linked.{Linked, nodes}
 use Rattle.heap.specs.Rep.{Rep, alike-refl, upToColour}
 use Rattle.readers.specs.Release.{ended, freedBelow, end-released}
 use Rattle.readers.specs.Reach.{HasStanding, Kept, LinkedClosed, leads-on, leads-in, in-leads, kept-child, end-linked, linked-end}
-use Rattle.readers.specs.CallCase.{CallCase, refuses, plansInsert, plansDelete, waits, stores, begins, loads, misses, meets, finds, leaves, childLoaded, Loads, atRoot, lookingUp, searching, Passed}
+use Rattle.readers.specs.CallCase.{CallCase, refuses, plansInsert, plansDelete, waits, stores, begins, loads, misses, meets, finds, leaves, Loads, atRoot, lookingUp, searching, Passed}
 use Rattle.readers.specs.Safe.{Safe, safe-write, safe-reader, safe-end, safe-turn}
 use Rattle.promise.specs.Run.{Start, outset, Reads}
 use Rattle.promise.specs.Demands.{arrived}
@@ -79,7 +79,7 @@ module _ (W : State → Plain → Linked → Type 0) (writer : Writer W) where
     pub holds : W st x tree
 
   -- the child, or the root, that a slot loads is kept for it
-  kept-loaded : (st : State) (s n : ℕ) → Safe st → Passed st s → readerOf (st .register) s .node ≢ 0 → n ≡ childLoaded st s → n ≢ 0 → Kept (st .pool) s n
+  kept-loaded : (st : State) (s n : ℕ) → Safe st → Passed st s → readerOf (st .register) s .node ≢ 0 → n ≡ childFor (st .pool) (readerOf (st .register) s) → n ≢ 0 → Kept (st .pool) s n
   kept-loaded st s n h p a i d =
       let x = readerOf (st .register) s in
       rw i (kept-child (st .pool) s (x .node) (towards (st .pool) (x .key) (x .node)) (p .low) (h .closed) (h .at s (p .low) (p .reads) a) (λ z. d (i ∙ z)))

@@ -212,6 +212,10 @@ loaded st s x n =
     (outcome (emptyAnswer (x .kind) x) (endReading st s))
     (outcome go (state (st .pool) (withReader (st .register) s (movedReader x n))))
 
+-- the child of its node that a reader with the record x goes to: on the side that its key lies on
+abbrev pub childFor : List ℕ → Reader → ℕ
+childFor p x = child p (towards p (x .key) (x .node)) (x .node)
+
 -- the record x of a search for the next ticket after it has compared its node: a greater key is remembered with its record, else x stays
 abbrev pub afterComparing : List ℕ → Reader → Reader
 afterComparing p x =
@@ -225,10 +229,8 @@ atNode kind.Lookup st s x =
     let p = st .pool in
     cond (eqb (x .key) (word p (x .node) keyWord))
     (outcome (found (recordAt p (x .node))) (endReading st s))
-    (loaded st s x (child p (towards p (x .key) (x .node)) (x .node)))
-atNode kind.Next st s x =
-    let p = st .pool in
-    loaded st s (afterComparing p x) (child p (towards p (x .key) (x .node)) (x .node))
+    (loaded st s x (childFor p x))
+atNode kind.Next st s x = loaded st s (afterComparing (st .pool) x) (childFor (st .pool) x)
 
 -- Reader's turn. Before any node: load the root. At a node: by the kind of search.
 unfoldable pub readerStep : State → ℕ → Outcome

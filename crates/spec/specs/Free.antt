@@ -63,8 +63,8 @@ release s st n =
     (cond (eqb h 0) (freeNode st n) (state (setWord (st .pool) n holdersWord h) (st .register)))
     st
 
--- Found, absent, the next ticket and give up end the reading: the reader record becomes all 0, the slot's bit leaves the awaited slots, and every node
--- in rising number is released.
+-- Found, absent, the next ticket and give up end the reading: the reader record becomes all 0, the slot's bit leaves the awaited slots, and
+-- every node in rising number is released.
 unfoldable pub endReading : State → ℕ → State
 endReading st s =
     let r = withReader (st .register) s noReader in
