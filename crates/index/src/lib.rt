@@ -138,20 +138,20 @@ pub fn begin_next(pool: &[u32], reg: Register, s: u32, k: u32) -> Reply
 // Answers: Go, the search goes on. A lookup ends with Found and the record, or with Absent, right at one moment since the slot's begin. A
 // search for the next ticket ends with Next and the ticket's key and record, or with Absent: the ticket was held at a moment since the begin,
 // and no key between the given one and it (after Absent: no greater key) was held all the time since.
-// Refuses, tested in this order: 1 length; 2 a word or field out of range; 3 the slot is above 7; 5 the slot is not reading.
+// Refuses, tested in this order: 1 length; 2 a field of the register, or a word of the node that the slot's record names, out of range; 3 the
+// slot is above 7; 5 the slot is not reading.
 // Leaves: after Go only the slot's node and what it remembers changed; after Found, Next and Absent the slot is no longer reading, awaited or
 // a holder of a retired node, and a retired node without a holder is freed; refused, both as they were.
 pub fn reader_turn(pool: &mut [u32], mut reg: Register, s: u32) -> ReaderReply
     ensures { λ r. ⌜ readerSays (r .answer) ≡ readerTurn (state (now (pool .entry)) reg) s .answer ⌝ }
     ensures { λ r. ⌜ state (now (pool .exit)) (r .register) ≡ readerTurn (state (now (pool .entry)) reg) s .after ⌝ }
 {
-    let lent = refusals::lent_refusal(pool, reg);
-    let i = refusals::slot_index(s);
-    let x = reg.readers[i];
-    let why = refusals::slot_refusal(lent, s, !x.reading, 5);
+    let why = refusals::turn_refusal(pool, reg, s);
     if why != 0 {
         return replies::refuses_reader(why, reg);
     }
+    let i = s as usize;
+    let x = reg.readers[i];
     let looked = lookups::look(pool, reg.root, x);
     let h = Head {
         root: reg.root,

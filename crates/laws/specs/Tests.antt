@@ -4,12 +4,15 @@ use mathlib.Core.List.{List, [], _∷_}
 use mathlib.Core.Bool.{Bool, true, false, cond, not, _&&_, false≢true}
 use lib.Dec.{eqb, leb}
 use lib.ListN.{length}
-use borrow.Author.Tests.{leb-true, leb-false, eqb-true, eq-eqb, ne-eqb}
+use borrow.Author.Tests.{le-leb, leb-true, leb-false, eqb-true, eq-eqb, ne-eqb}
 use native.Mathlib.Omega.{arith}
-use Prim.Native.Nat.{ℕ, _<_, _*_, _%_}
-use Rattle.spec.specs.Numbers.{nodeWords, leastNodes, mostNodes, poolLimit, slots}
-use Rattle.spec.specs.Pool.{nodes, lengthRight, poolInRange}
-use Rattle.spec.specs.Register.{State, registerInRange}
+use Prim.Native.Nat.{ℕ, _<_, _≤_, _*_, _%_}
+use Rattle.base.specs.Walk.{allIn, all-in}
+use Rattle.datatypes.specs.declared.Register.{Register}
+use Rattle.spec.specs.Numbers.{nodeWords, leastNodes, mostNodes, poolLimit, slots, allSlots, mostStores}
+use Rattle.spec.specs.Pool.{nodes, lengthRight, nodeInRange, poolInRange, leftWord, rightWord, colourWord, standingWord, holdersWord, nextWord}
+use Rattle.spec.specs.Register.{State, readerOf, readerInRange, storeInRange, registerInRange}
+use Rattle.laws.specs.Words.{word-none}
 use Rattle.spec.specs.Calls.{Test, _gives_, firstOf, Outcome, outcome, unless, refused, wrongLength, outOfRange, slotTooHigh}
 
 pub and-left : (a b : Bool) → (a && b) ≡ true → a ≡ true
@@ -63,14 +66,13 @@ lent-refused st ts d = first-lent (wrongLength st) (outOfRange st) ts ∙ rw (ne
 pub lent-passes : (st : State) (ts : List Test) → lentNumber st ≡ 0 → firstOf (wrongLength st gives 1 ∷ outOfRange st gives 2 ∷ ts) ≡ firstOf ts
 lent-passes st ts e = first-lent (wrongLength st) (outOfRange st) ts ∙ rw (eq-eqb (lentNumber st) 0 e)
 
-passed-lent : (a b : Bool) (ts : List Test) → firstOf (a gives 1 ∷ b gives 2 ∷ ts) ≡ 0 → _≡_ {A = ℕ} (firstOf (a gives 1 ∷ b gives 2 ∷ [])) 0
-passed-lent true b ts h = absurd (let z : ⊥ = omega arith in z)
-passed-lent false true ts h = absurd (let z : ⊥ = omega arith in z)
-passed-lent false false ts h = refl
+-- a call that passed all its tests passed these, whatever it tests of the ranges; and one that names a slot names one of them
+length-passed : (a b : Bool) (ts : List Test) → firstOf (not a gives 1 ∷ b gives 2 ∷ ts) ≡ 0 → a ≡ true
+length-passed true b ts h = refl
+length-passed false b ts h = absurd (let z : ⊥ = omega arith in z)
 
--- a call that passed all its tests passed these
-pub lent-of : (st : State) (ts : List Test) → firstOf (wrongLength st gives 1 ∷ outOfRange st gives 2 ∷ ts) ≡ 0 → Lent st
-lent-of st ts h = lent st (passed-lent (wrongLength st) (outOfRange st) ts h)
+pub length-of : (st : State) (b : Bool) (ts : List Test) → firstOf (wrongLength st gives 1 ∷ b gives 2 ∷ ts) ≡ 0 → length (st .pool) < poolLimit
+length-of st b ts h = right-length (st .pool) (length-passed (lengthRight (st .pool)) b ts h)
 
 slot-passed : (a b c d : Bool) (k : ℕ) → (k ≡ 0 → ⊥) → firstOf (a gives 1 ∷ b gives 2 ∷ c gives 3 ∷ d gives k ∷ []) ≡ 0 → c ≡ false
 slot-passed true b c d k n h = absurd (let z : ⊥ = omega arith in z)
@@ -78,9 +80,8 @@ slot-passed false true c d k n h = absurd (let z : ⊥ = omega arith in z)
 slot-passed false false true d k n h = absurd (let z : ⊥ = omega arith in z)
 slot-passed false false false d k n h = refl
 
-pub slot-of : (st : State) (s : ℕ) (d : Bool) (k : ℕ) → (k ≡ 0 → ⊥)
-    → firstOf (wrongLength st gives 1 ∷ outOfRange st gives 2 ∷ slotTooHigh s gives 3 ∷ d gives k ∷ []) ≡ 0 → s < slots
-slot-of st s d k n h = leb-false slots s (slot-passed (wrongLength st) (outOfRange st) (slotTooHigh s) d k n h)
+pub slot-of : (s : ℕ) (a b d : Bool) (k : ℕ) → (k ≡ 0 → ⊥) → firstOf (a gives 1 ∷ b gives 2 ∷ slotTooHigh s gives 3 ∷ d gives k ∷ []) ≡ 0 → s < slots
+slot-of s a b d k n h = leb-false slots s (slot-passed a b (slotTooHigh s) d k n h)
 
 -- a call's tests as one number
 pub unless-refused : (tests : List Test) (st : State) (o : Outcome) (k : ℕ) → firstOf tests ≡ k → (k ≡ 0 → ⊥) → unless tests st o ≡ outcome (refused k) st
@@ -96,3 +97,28 @@ whole-length p h =
     let a = eqb (length p % nodeWords) 0 && leb leastNodes (nodes p) in
     let whole = eqb-true (length p % nodeWords) 0 (and-left (eqb (length p % nodeWords) 0) (leb leastNodes (nodes p)) (and-left a (leb (nodes p) mostNodes) h)) in
     omega arith
+
+-- no node is in range
+pub none-fits : (p : List ℕ) (capacity : ℕ) → nodeInRange p capacity 0 ≡ true
+unfolding nodeInRange
+none-fits p capacity =
+    rw (
+      word-none p leftWord,
+      word-none p rightWord,
+      word-none p colourWord,
+      word-none p standingWord,
+      word-none p holdersWord,
+      word-none p nextWord,
+      le-leb 0 capacity (omega arith),
+    )
+
+-- a slot's record of a register in range names a node of the pool, or 0
+pub reader-fits : (capacity : ℕ) (r : Register) (s : ℕ) → registerInRange capacity r ≡ true → s < slots → readerOf r s .node ≤ capacity
+unfolding registerInRange
+reader-fits capacity r s h u =
+    let numbers = leb (r .root) capacity && leb (r .first) capacity && leb (r .last) capacity && (leb (r .free) capacity && leb (r .held) capacity && leb (r .awaited) allSlots) in
+    let counted = leb (r .write .count) mostStores in
+    let readers = allIn (readerInRange capacity r) 0 slots in
+    let stores = allIn (storeInRange capacity (r .write)) 0 mostStores in
+    let a = and-right counted readers (and-left (counted && readers) stores (and-right numbers (counted && readers && stores) h)) in
+    leb-true (readerOf r s .node) capacity (all-in (readerInRange capacity r) 0 slots a s (omega arith) u)

@@ -25,7 +25,8 @@ use Rattle.spec.specs.Pool.{word, child, nodes, keyWord, recordAt, colourWord, 
 use Rattle.spec.specs.Pool.{standingFree, standingLinked, standingRetired, blackColour, redColour}
 use Rattle.spec.specs.Register.{State, state, withReader, readerOf, storeOf, linkNode, hasSlot, begunReader}
 use Rattle.spec.specs.Turn.{profile}
-use Rattle.spec.specs.Calls.{Answer, go, absent, found, next, more, done, wait, refused, Outcome, Call, writing, call, reading, writeInHand, readerStep}
+use Rattle.spec.specs.Calls.{Answer, go, absent, found, next, more, done, wait, refused, Outcome, unless, Call, writing, call, reading, writeInHand}
+use Rattle.spec.specs.Calls.{readerStep, readerTurn, giveUpTests}
 use Rattle.spec.specs.PlainList.{Ticket, carriedOut, noticeOf, recordFor, acceptedWrites}
 use Rattle.spec.specs.FreeQueue.{Queue}
 use Rattle.promise.specs.Run.{Start, justSetUp, Reads, callAt, indexAfter, plainAfter, ticketsAfter, Gives, Turns, Reading, Lookup, NextSearch}
@@ -209,11 +210,20 @@ pub record NeverMet (S : Start) (cs : List Call) : Type 0 where
   pub twelve : (j : ℕ) (c : Call) → ¬ (Gives S cs j c (refused 12))
   pub one : (j : ℕ) (c : Call) → ¬ (Gives S cs j c (refused 1))
 
+-- 02, C-12: 'For pools reached from a fresh index no answer differs.' The reader's turn as 01 has it, with the tests that give up has: every word
+-- of the pool and the register. After every call of a run it is the reader's turn: the same answer, pool and register, for every slot.
+abbrev pub fullyTestedTurn : State → ℕ → Outcome
+fullyTestedTurn st s = unless (giveUpTests st s) st (readerStep st s)
+
+abbrev pub TurnsAlike : Start → List Call → Type 0
+TurnsAlike S cs = (j s : ℕ) → readerTurn (indexAfter S cs j) s ≡ fullyTestedTurn (indexAfter S cs j) s
+
 -- What holds of every list of calls from a start; for which starts: `promise-from` (crate theorem).
 pub record PromiseFrom (S : Start) (cs : List Call) : Type 0 where
   pub demand2 : Demand2 S cs
   pub demand3 : Demand3 S cs
   pub never : NeverMet S cs
+  pub alike : TurnsAlike S cs
 
 -- What `promise` (crate theorem) says of every N from 8 to 1,023 and every list of calls: they start on a pool of N nodes just set up, with
 -- no ticket and the tree `leaf`.

@@ -24,7 +24,7 @@ use Rattle.spec.specs.Free.{endReading}
 use Rattle.spec.specs.Search.{towards}
 use Rattle.spec.specs.Plan.{Plan}
 use Rattle.spec.specs.Turn.{stepFinds, stepMade}
-use Rattle.spec.specs.Calls.{Outcome, outOfRange, placeOf, insertAt, deleteAt, stored, Call, childFor}
+use Rattle.spec.specs.Calls.{Outcome, outOfRange, namedNode, namedOutOfRange, placeOf, insertAt, deleteAt, stored, Call, childFor}
 use Rattle.readers.specs.CallCase.{CallCase, refuses, plansInsert, plansDelete, waits, stores, begins, loads, misses, meets, finds, leaves, Loads, atRoot, lookingUp, searching}
 use Rattle.ranges.specs.Fits.{PoolOk, child-fits, Within, within-reader, within-end, within-write}
 use Rattle.ranges.specs.Stores.{step-within}
@@ -101,6 +101,9 @@ register-true capacity st g =
 
 pub ranged-in : (capacity : ℕ) (st : State) → Ranged capacity st → outOfRange st ≡ false
 ranged-in capacity st h = rw (pool-true capacity st (h .within), h .within .size, register-true capacity st h)
+
+pub named-in : (capacity : ℕ) (st : State) (s : ℕ) → Ranged capacity st → namedOutOfRange st s ≡ false
+named-in capacity st s h = rw (h .within .size, node-true capacity (st .pool) (namedNode st s) (h .within .fits), register-true capacity st h)
 
 -- Plans.
 insert-at : (capacity : ℕ) (st : State) (k v : ℕ) → Within capacity st → (x : Place) → PlaceOk capacity x → PlanOk capacity (insertAt st k v x)

@@ -19,8 +19,8 @@ use Rattle.spec.specs.Turn.{stepFinds, stepMade}
 use Rattle.spec.specs.Calls.{ok, go, absent, wait, found, next, refused, Outcome, outcome, Test, _gives_, firstOf, unless}
 use Rattle.spec.specs.Calls.{insertTests, deleteTests, waiting, firstFinds, writerTests, beginTests, reading, writeInHand, placeOf, insertAt, deleteAt}
 use Rattle.spec.specs.Calls.{insert, delete, stored, writerTurn, begin, emptyAnswer, loaded, childFor, afterComparing}
-use Rattle.spec.specs.Calls.{readerStep, readerTests, readerTurn, giveUp, Call, inserting, deleting, writing}
-use Rattle.spec.specs.Calls.{beginning, turning, givingUp, call}
+use Rattle.spec.specs.Calls.{readerStep, readerTests, readerTurn, giveUpTests, giveUp, Call, inserting, deleting, writing}
+use Rattle.spec.specs.Calls.{beginning, turning, givingUp, call, wrongLength, outOfRange, namedOutOfRange, slotTooHigh}
 use Rattle.promise.specs.Run.{Reads}
 use Rattle.readers.specs.Descends.{step-root, step-found, step-child, step-next, load-none, load-some}
 
@@ -44,7 +44,7 @@ testsOf st (deleting k) = deleteTests st k
 testsOf st writing = writerTests st
 testsOf st (beginning κ s k) = beginTests st s
 testsOf st (turning s) = readerTests st s
-testsOf st (givingUp s) = readerTests st s
+testsOf st (givingUp s) = giveUpTests st s
 
 pub data CallCase (st : State) : Call → Outcome → Type 0 where
   refuses : (c : Call) → firstOf (testsOf st c) ≢ 0 → CallCase st c (outcome (refused (firstOf (testsOf st c))) st)
@@ -137,9 +137,10 @@ turn-case st e =
     go true x w f = stores (eqb-true (st .register .awaited) 0 x) w (not-false (firstFinds st) f)
     go false x w f = waits (eqb-false (st .register .awaited) 0 x)
 
-passed : (st : State) (s : ℕ) → firstOf (readerTests st s) ≡ 0 → Passed st s
-passed st s e =
-    let c = tests-pass (readerTests st s) (omega arith, (omega arith, (omega arith, (omega arith, tt)))) e in
+-- of a turn or a give up, whatever it tests of the ranges
+passed : (st : State) (s : ℕ) (b : Bool) → firstOf (wrongLength st gives 1 ∷ b gives 2 ∷ slotTooHigh s gives 3 ∷ not (reading st s) gives 5 ∷ []) ≡ 0 → Passed st s
+passed st s b e =
+    let c = tests-pass (wrongLength st gives 1 ∷ b gives 2 ∷ slotTooHigh s gives 3 ∷ not (reading st s) gives 5 ∷ []) (omega arith, (omega arith, (omega arith, (omega arith, tt)))) e in
     record { low = leb-false slots s (c .1 .1 .0); reads = not-false (reading st s) (c .1 .1 .1 .0) }
 
 begin-case : (st : State) (κ : Kind) (s k : ℕ) → firstOf (beginTests st s) ≡ 0
@@ -154,5 +155,5 @@ call-case st (inserting k v) = tested st (inserting k v) (outcome ok (state (st 
 call-case st (deleting k) = tested st (deleting k) (outcome ok (state (st .pool) (withWrite (st .register) (writeOf (deleteAt st (placeOf st k) .stores))))) (plansDelete k)
 call-case st writing = tested st writing (cond (waiting st) (outcome wait st) (stored (stepMade st (storeOf (st .register) 0 .link) (storeOf (st .register) 0 .step)))) (turn-case st)
 call-case st (beginning κ s k) = tested st (beginning κ s k) (outcome ok (state (st .pool) (withReader (st .register) s (begunReader κ k)))) (begin-case st κ s k)
-call-case st (turning s) = tested st (turning s) (readerStep st s) (λ e. step-case st s (passed st s e))
-call-case st (givingUp s) = tested st (givingUp s) (outcome ok (endReading st s)) (λ e. leaves s (passed st s e))
+call-case st (turning s) = tested st (turning s) (readerStep st s) (λ e. step-case st s (passed st s (namedOutOfRange st s) e))
+call-case st (givingUp s) = tested st (givingUp s) (outcome ok (endReading st s)) (λ e. leaves s (passed st s (outOfRange st) e))

@@ -16,7 +16,7 @@ ghost use Rattle.spec.specs.Free.{release, endReading};
 // a node's standing stands so many words before the node's end
 const STANDING_BACK: usize = numbers::NODE_WORDS - pool::STANDING_PLACE;
 
-// Answers a number that is at least the standing of each of two nodes from n on; the next two: of four, and of eight.
+// Answers a number that is at least the standing of each of two nodes from n on; the next four: of four, of eight, of sixteen and of thirty-two.
 fn two_standings(pool: &[u32], n: usize) -> u32
     requires { ⌜ (1 ≤ n) × ((n + 1) * nodeWords ≤ length (now pool)) ⌝ }
     ensures { λ r. ⌜ Bounded (now (pool .entry)) n (n + 2) r ⌝ }
@@ -39,6 +39,20 @@ fn eight_standings(pool: &[u32], n: usize) -> u32
     four_standings(pool, n) | four_standings(pool, n + 4)
 }
 
+fn sixteen_standings(pool: &[u32], n: usize) -> u32
+    requires { ⌜ (1 ≤ n) × ((n + 15) * nodeWords ≤ length (now pool)) ⌝ }
+    ensures { λ r. ⌜ Bounded (now (pool .entry)) n (n + 16) r ⌝ }
+{
+    eight_standings(pool, n) | eight_standings(pool, n + 8)
+}
+
+fn thirty_two_standings(pool: &[u32], n: usize) -> u32
+    requires { ⌜ (1 ≤ n) × ((n + 31) * nodeWords ≤ length (now pool)) ⌝ }
+    ensures { λ r. ⌜ Bounded (now (pool .entry)) n (n + 32) r ⌝ }
+{
+    sixteen_standings(pool, n) | sixteen_standings(pool, n + 16)
+}
+
 // The first retired node from n on, node by node; past the last if there is none.
 fn scan_retired(pool: &[u32], from: usize, capacity: usize) -> usize
     requires { ⌜ (1 ≤ from) × (from ≤ capacity + 1) × (capacity * nodeWords ≤ length (now pool)) × (capacity ≤ mostNodes) ⌝ }
@@ -55,7 +69,7 @@ fn scan_retired(pool: &[u32], from: usize, capacity: usize) -> usize
 }
 
 // The same; eight nodes of which none is retired are passed over by one test.
-fn next_retired(pool: &[u32], from: usize, capacity: usize) -> usize
+fn scan_eights(pool: &[u32], from: usize, capacity: usize) -> usize
     requires { ⌜ (1 ≤ from) × (from ≤ capacity + 1) × (capacity * nodeWords ≤ length (now pool)) × (capacity ≤ mostNodes) ⌝ }
     ensures { λ r. ⌜ Next (now (pool .entry)) from capacity r ⌝ }
 {
@@ -67,6 +81,21 @@ fn next_retired(pool: &[u32], from: usize, capacity: usize) -> usize
         n += 8;
     }
     scan_retired(pool, n, capacity)
+}
+
+// The same; first thirty-two nodes are passed over by one test.
+fn next_retired(pool: &[u32], from: usize, capacity: usize) -> usize
+    requires { ⌜ (1 ≤ from) × (from ≤ capacity + 1) × (capacity * nodeWords ≤ length (now pool)) × (capacity ≤ mostNodes) ⌝ }
+    ensures { λ r. ⌜ Next (now (pool .entry)) from capacity r ⌝ }
+{
+    let mut n = from;
+    while n + 31 <= capacity {
+        if thirty_two_standings(pool, n) > pool::LINKED {
+            return scan_eights(pool, n, capacity);
+        }
+        n += 32;
+    }
+    scan_eights(pool, n, capacity)
 }
 
 // Takes slot s from a retired node's holders, and frees the node if it is then without a holder.

@@ -3,6 +3,7 @@ use datatypes::Register;
 ghost use mathlib.Core.Path.{_≡_};
 ghost use Rattle.spec.specs.Numbers.{slots};
 ghost use Rattle.spec.specs.Register.{state};
+ghost use Rattle.spec.specs.Calls.{firstOf, readerTests};
 ghost use Rattle.laws.specs.Tests.{lentNumber};
 ghost use Rattle.refusals.specs.Slots.{slotIndex, slotNumber};
 ghost use Prim.Native.Nat.{_<_};
@@ -43,4 +44,25 @@ pub fn slot_refusal(lent: u32, s: u32, cause: bool, number: u32) -> u32
         return 3;
     }
     counts::choose(cause, number, 0)
+}
+
+// Makes the tests of a reader's turn of slot s: of the pool's words only those of the node that the slot's record names, once the register is
+// known to be in range.
+pub fn turn_refusal(pool: &[u32], reg: Register, s: u32) -> u32
+    ensures { λ r. ⌜ r ≡ firstOf (readerTests (state (now (pool .entry)) reg) s) ⌝ }
+{
+    if !pool::length_right(pool) {
+        return 1;
+    }
+    if !register::register_in_range(reg, pool::nodes(pool)) {
+        return 2;
+    }
+    if numbers::SLOT_LIMIT <= s {
+        return 3;
+    }
+    let x = reg.readers[s as usize];
+    if pool::out_of_range(pool, x.node) {
+        return 2;
+    }
+    counts::choose(!x.reading, 5, 0)
 }

@@ -16,7 +16,7 @@ use Rattle.spec.specs.Pool.{word, colourWord, nodes, lengthRight}
 use Rattle.spec.specs.Register.{State, storeOf, hasSlot, withWrite, lessFirst}
 use Rattle.spec.specs.Turn.{Made, stepFinds, stepMade}
 use Rattle.spec.specs.Calls.{Answer, ok, go, absent, wait, found, next, more, done, refused, Outcome, stored, Test, _gives_, firstOf, wrongLength}
-use Rattle.spec.specs.Calls.{outOfRange, reading, writeInHand, placeOf, tooDeep, isHeld, fewerFree, insertAt, deleteAt, beginTests, readerTests, Call, inserting}
+use Rattle.spec.specs.Calls.{outOfRange, namedOutOfRange, reading, writeInHand, placeOf, tooDeep, isHeld, fewerFree, insertAt, deleteAt, beginTests, Call, inserting}
 use Rattle.spec.specs.Calls.{deleting, writing, beginning, turning, givingUp}
 use Rattle.spec.specs.PlainList.{Plain, carriedOut, noticeOf, acceptedWrites}
 use Rattle.base.specs.Lists.{Distinct}
@@ -26,7 +26,7 @@ use Rattle.tree.specs.Linked.{Linked, nodes as treeNodes}
 use Rattle.promise.specs.Run.{Reads, after}
 use Rattle.promise.specs.Demands.{Stands}
 use Rattle.readers.specs.Words.{Whole}
-use Rattle.spec.specs.Calls.{insertTests, deleteTests, writerTests, firstFinds, waiting}
+use Rattle.spec.specs.Calls.{insertTests, deleteTests, writerTests, readerTests, giveUpTests, firstFinds, waiting}
 use Rattle.readers.specs.CallCase.{CallCase, refuses, plansInsert, plansDelete, waits, stores, begins, loads, misses, meets, finds, leaves, testsOf}
 use Rattle.readers.specs.CallCase.{TestsPass}
 use Rattle.readers.specs.Safe.{Safe}
@@ -152,15 +152,15 @@ not-one st (deleting k) r = avoided 1 (deleteTests st k) (omega arith) (inr r, �
 not-one st writing r = avoided 1 (writerTests st) (omega arith) (inr r, λ _. others-avoid 1 (drop 1 (writerTests st)) (omega arith))
 not-one st (beginning κ s k) r = avoided 1 (beginTests st s) (omega arith) (inr r, λ _. others-avoid 1 (drop 1 (beginTests st s)) (omega arith))
 not-one st (turning s) r = avoided 1 (readerTests st s) (omega arith) (inr r, λ _. others-avoid 1 (drop 1 (readerTests st s)) (omega arith))
-not-one st (givingUp s) r = avoided 1 (readerTests st s) (omega arith) (inr r, λ _. others-avoid 1 (drop 1 (readerTests st s)) (omega arith))
+not-one st (givingUp s) r = avoided 1 (giveUpTests st s) (omega arith) (inr r, λ _. others-avoid 1 (drop 1 (giveUpTests st s)) (omega arith))
 
-pub not-two : (st : State) (c : Call) → outOfRange st ≡ false → firstOf (testsOf st c) ≢ 2
-not-two st (inserting k v) r = avoided 2 (insertTests st k v) (omega arith) (inl (omega arith), λ _. (inr r, λ _. others-avoid 2 (drop 2 (insertTests st k v)) (omega arith)))
-not-two st (deleting k) r = avoided 2 (deleteTests st k) (omega arith) (inl (omega arith), λ _. (inr r, λ _. others-avoid 2 (drop 2 (deleteTests st k)) (omega arith)))
-not-two st writing r = avoided 2 (writerTests st) (omega arith) (inl (omega arith), λ _. (inr r, λ _. others-avoid 2 (drop 2 (writerTests st)) (omega arith)))
-not-two st (beginning κ s k) r = avoided 2 (beginTests st s) (omega arith) (inl (omega arith), λ _. (inr r, λ _. others-avoid 2 (drop 2 (beginTests st s)) (omega arith)))
-not-two st (turning s) r = avoided 2 (readerTests st s) (omega arith) (inl (omega arith), λ _. (inr r, λ _. others-avoid 2 (drop 2 (readerTests st s)) (omega arith)))
-not-two st (givingUp s) r = avoided 2 (readerTests st s) (omega arith) (inl (omega arith), λ _. (inr r, λ _. others-avoid 2 (drop 2 (readerTests st s)) (omega arith)))
+pub not-two : (st : State) (c : Call) → outOfRange st ≡ false → ((s : ℕ) → namedOutOfRange st s ≡ false) → firstOf (testsOf st c) ≢ 2
+not-two st (inserting k v) r m = avoided 2 (insertTests st k v) (omega arith) (inl (omega arith), λ _. (inr r, λ _. others-avoid 2 (drop 2 (insertTests st k v)) (omega arith)))
+not-two st (deleting k) r m = avoided 2 (deleteTests st k) (omega arith) (inl (omega arith), λ _. (inr r, λ _. others-avoid 2 (drop 2 (deleteTests st k)) (omega arith)))
+not-two st writing r m = avoided 2 (writerTests st) (omega arith) (inl (omega arith), λ _. (inr r, λ _. others-avoid 2 (drop 2 (writerTests st)) (omega arith)))
+not-two st (beginning κ s k) r m = avoided 2 (beginTests st s) (omega arith) (inl (omega arith), λ _. (inr r, λ _. others-avoid 2 (drop 2 (beginTests st s)) (omega arith)))
+not-two st (turning s) r m = avoided 2 (readerTests st s) (omega arith) (inl (omega arith), λ _. (inr (m s), λ _. others-avoid 2 (drop 2 (readerTests st s)) (omega arith)))
+not-two st (givingUp s) r m = avoided 2 (giveUpTests st s) (omega arith) (inl (omega arith), λ _. (inr r, λ _. others-avoid 2 (drop 2 (giveUpTests st s)) (omega arith)))
 
 -- a pool of N nodes has the right length
 pub length-right : (st : State) (N : ℕ) → leastNodes ≤ N → N ≤ mostNodes → Whole (st .pool) → nodes (st .pool) ≡ N → wrongLength st ≡ false
@@ -222,7 +222,7 @@ not-twelve W w st x T h g writing =
     go false e n = refl
 not-twelve W w st x T h g (beginning κ s k) = avoided 12 (beginTests st s) (omega arith) (inl (omega arith), λ _. (inl (omega arith), λ _. (inl (omega arith), λ _. (inl (omega arith), λ _. tt))))
 not-twelve W w st x T h g (turning s) = avoided 12 (readerTests st s) (omega arith) (inl (omega arith), λ _. (inl (omega arith), λ _. (inl (omega arith), λ _. (inl (omega arith), λ _. tt))))
-not-twelve W w st x T h g (givingUp s) = avoided 12 (readerTests st s) (omega arith) (inl (omega arith), λ _. (inl (omega arith), λ _. (inl (omega arith), λ _. (inl (omega arith), λ _. tt))))
+not-twelve W w st x T h g (givingUp s) = avoided 12 (giveUpTests st s) (omega arith) (inl (omega arith), λ _. (inl (omega arith), λ _. (inl (omega arith), λ _. (inl (omega arith), λ _. tt))))
 
 all-clear : (ts : List Test) → TestsPass ts → firstOf ts ≡ 0
 all-clear [] h = refl

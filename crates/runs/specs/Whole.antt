@@ -14,16 +14,16 @@ use Rattle.spec.specs.Numbers.{slots, mostStores}
 use Rattle.spec.specs.Pool.{standingLinked}
 use Rattle.spec.specs.Register.{State, hasSlot}
 use Rattle.spec.specs.Calls.{more, done}
-use Rattle.spec.specs.Calls.{wrongLength, reading, writeInHand, Call, inserting, deleting, writing, beginning, turning, givingUp, call}
+use Rattle.spec.specs.Calls.{wrongLength, reading, writeInHand, Call, inserting, deleting, writing, beginning, turning, givingUp, call, readerTurn}
 use Rattle.spec.specs.PlainList.{Plain, Notice, turnedDown, waited, carriedOut, noticeOf, acceptedWrites, storeMade, feed}
 use Rattle.base.specs.Lists.{_∈_}
 use Rattle.tree.specs.Linked.{Linked, nodes as treeNodes}
 use Rattle.promise.specs.Run.{Start, Moment, thenPerhaps, callAt, after, indexAfter, plainAfter, Gives}
-use Rattle.promise.specs.Demands.{Leads, Stands, standingAt, StoresOne, Demand2, NeverMet, PromiseFrom}
+use Rattle.promise.specs.Demands.{Leads, Stands, standingAt, StoresOne, Demand2, NeverMet, TurnsAlike, PromiseFrom}
 use Rattle.readers.specs.Reach.{leads-in, in-leads}
 use Rattle.readers.specs.CallCase.{call-case}
 use Rattle.ranges.specs.Fits.{colour-fits}
-use Rattle.ranges.specs.Calls.{Ranged, ranged-in, ranged-next}
+use Rattle.ranges.specs.Calls.{Ranged, ranged-in, named-in, ranged-next}
 use Rattle.runs.specs.Writer.{Writer}
 use Rattle.runs.specs.Sound.{Sound, Starts}
 use Rattle.runs.specs.Starts.{exact-right}
@@ -152,11 +152,16 @@ module _ (W : State → Plain → Linked → Type 0) (writer : Writer W) (comple
 
   pub never : NeverMet S cs
   never = record {
-    two = λ j c g. not-two (at j) c (ranged-in (S .size) (at j) (ranged j)) (refused-by (at j) c (call (at j) c) 2 (omega arith) (call-case (at j) c) (g .1));
+    two = λ j c g. not-two (at j) c (ranged-in (S .size) (at j) (ranged j)) (λ s. named-in (S .size) (at j) s (ranged j)) (refused-by (at j) c (call (at j) c) 2 (omega arith) (call-case (at j) c) (g .1));
     twelve = λ j c g. (let h = sound j in
         not-twelve W completes (at j) (plainAfter S cs j) (h .tree) (h .safe) (h .holds) c (refused-by (at j) c (call (at j) c) 12 (omega arith) (call-case (at j) c) (g .1)));
     one = λ j c g. not-one (at j) c (lent j) (refused-by (at j) c (call (at j) c) 1 (omega arith) (call-case (at j) c) (g .1));
   }
 
+  -- a reader's turn tests less than every word, and all words are in range
+  alike : TurnsAlike S cs
+  unfolding readerTurn
+  alike j s = rw (ranged-in (S .size) (at j) (ranged j), named-in (S .size) (at j) s (ranged j))
+
   pub promise : PromiseFrom S cs
-  promise = record { demand2 = demand2; demand3 = demand3 W writer S starts cs; never = never }
+  promise = record { demand2 = demand2; demand3 = demand3 W writer S starts cs; never = never; alike = alike }

@@ -1,5 +1,5 @@
 -- 01, 'Calls' and 'When a call is turned down': each call as its tests in order, with the number of each cause, and then what it does. 02, C-11:
--- a slot may search for the next ticket.
+-- a slot may search for the next ticket. 02, C-12: a reader's turn tests the register and one node.
 use Prim.Native.Nat.{ℕ, _-_}
 use mathlib.Core.Bool.{Bool, true, false, cond, not, _&&_}
 use mathlib.Core.List.{List, [], _∷_}
@@ -18,7 +18,7 @@ use Rattle.datatypes.specs.declared.WriterAnswer.the-variants as writer
 use Rattle.datatypes.specs.declared.ReaderAnswer.{ReaderAnswer}
 use Rattle.datatypes.specs.declared.ReaderAnswer.the-variants as reader
 use Rattle.spec.specs.Numbers.{slots, pathBound, reserve, freeForInsert, freeForDelete}
-use Rattle.spec.specs.Pool.{word, child, recordAt, keyWord, nodes, poolInRange, lengthRight}
+use Rattle.spec.specs.Pool.{word, child, recordAt, keyWord, nodes, nodeInRange, poolInRange, lengthRight}
 use Rattle.spec.specs.Register.{State, state, fresh, begunReader, movedReader, remembering, withReader, withWrite, readerOf, storeOf, registerInRange, writeOf, lessFirst}
 use Rattle.spec.specs.Free.{endReading}
 use Rattle.spec.specs.Search.{towards, seek}
@@ -82,6 +82,14 @@ outOfRange st = not (poolInRange (st .pool) && registerInRange (nodes (st .pool)
 
 abbrev pub slotTooHigh : ℕ → Bool
 slotTooHigh s = leb slots s
+
+-- In a reader's turn (02, C-12): a field of the register, or a word of the node that the slot's record names, reading or not; nothing else in the
+-- pool. A slot too high has no record; no node has no words (they read 0, which is in every range).
+abbrev pub namedNode : State → ℕ → ℕ
+namedNode st s = cond (slotTooHigh s) 0 (readerOf (st .register) s .node)
+
+abbrev pub namedOutOfRange : State → ℕ → Bool
+namedOutOfRange st s = not (registerInRange (nodes (st .pool)) (st .register) && nodeInRange (st .pool) (nodes (st .pool)) (namedNode st s))
 
 abbrev pub reading : State → ℕ → Bool
 reading st s = readerOf (st .register) s .reading
@@ -241,7 +249,7 @@ readerStep st s =
 abbrev pub readerTests : State → ℕ → List Test
 readerTests st s =
     wrongLength st gives 1
-    ∷ outOfRange st gives 2
+    ∷ namedOutOfRange st s gives 2
     ∷ slotTooHigh s gives 3
     ∷ not (reading st s) gives 5
     ∷ []
@@ -250,8 +258,16 @@ unfoldable pub readerTurn : State → ℕ → Outcome
 readerTurn st s = unless (readerTests st s) st (readerStep st s)
 
 -- Give up ends the reading.
+abbrev pub giveUpTests : State → ℕ → List Test
+giveUpTests st s =
+    wrongLength st gives 1
+    ∷ outOfRange st gives 2
+    ∷ slotTooHigh s gives 3
+    ∷ not (reading st s) gives 5
+    ∷ []
+
 unfoldable pub giveUp : State → ℕ → Outcome
-giveUp st s = unless (readerTests st s) st (outcome ok (endReading st s))
+giveUp st s = unless (giveUpTests st s) st (outcome ok (endReading st s))
 
 -- The calls that demand 3 speaks of, with their arguments; what a call does to a state.
 pub data Call : Type 0 where

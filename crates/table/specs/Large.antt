@@ -96,34 +96,49 @@ fails : poolInRange (largePool 1024) ≡ false
 unfolding largePool wordsInRange
 fails = pool-right (largePool 1024)
 
--- the seven calls that test the pool, each on this register, and their answers
-abbrev pub sevenCalls : List Call
-sevenCalls = inserting 5 50 ∷ deleting 5 ∷ writing ∷ beginning kind.Lookup 0 5 ∷ beginning kind.Next 0 5 ∷ turning 7 ∷ givingUp 7 ∷ []
+-- the last node, which slot 0 names, is in range or not; no node is
+last-fits : nodeInRange (largePool 1023) 1023 1023 ≡ true
+unfolding largePool
+last-fits = head-right (largePool 1023) 1023 1022
+
+last-fails : nodeInRange (largePool 1024) 1023 1023 ≡ false
+unfolding largePool
+last-fails = head-right (largePool 1024) 1023 1022
+
+none-fits : (p : List ℕ) → nodeInRange p 1023 0 ≡ true
+unfolding nodeInRange word
+none-fits p = refl
+
+-- the seven calls that test the pool, a reader's turn twice, each on this register, and their answers
+abbrev pub eightCalls : List Call
+eightCalls = inserting 5 50 ∷ deleting 5 ∷ writing ∷ beginning kind.Lookup 0 5 ∷ beginning kind.Next 0 5 ∷ turning 7 ∷ turning 0 ∷ givingUp 7 ∷ []
 
 abbrev pub answersOn : List ℕ → List Call → List Answer
 answersOn p [] = []
 answersOn p (c ∷ cs) = call (state p largeRegister) c .answer ∷ answersOn p cs
 
 abbrev pub whenFit : List Answer
-whenFit = ok ∷ refused 9 ∷ refused 7 ∷ ok ∷ ok ∷ absent ∷ ok ∷ []
+whenFit = ok ∷ refused 9 ∷ refused 7 ∷ ok ∷ ok ∷ absent ∷ refused 5 ∷ ok ∷ []
 
 abbrev pub whenPast : List Answer
-whenPast = refused 2 ∷ refused 2 ∷ refused 2 ∷ refused 2 ∷ refused 2 ∷ refused 2 ∷ refused 2 ∷ []
+whenPast = refused 2 ∷ refused 2 ∷ refused 2 ∷ refused 2 ∷ refused 2 ∷ absent ∷ refused 2 ∷ refused 2 ∷ []
 
-answers-fit : (p : List ℕ) → lengthRight p ≡ true → poolInRange p ≡ true → nodes p ≡ 1023 → answersOn p sevenCalls ≡ whenFit
+answers-fit : (p : List ℕ) → lengthRight p ≡ true → poolInRange p ≡ true → nodes p ≡ 1023 → nodeInRange p 1023 1023 ≡ true → answersOn p eightCalls ≡ whenFit
 unfolding registerInRange storeInRange allFrom allIn seek insertPlan fixupAfterInsert word insert delete writerTurn begin readerTurn readerStep giveUp
-answers-fit p a b c = rw (a, b, c)
+answers-fit p a b c d = rw (a, b, c, d, none-fits p)
 
-answers-past : (p : List ℕ) → lengthRight p ≡ true → poolInRange p ≡ false → answersOn p sevenCalls ≡ whenPast
-unfolding insert delete writerTurn begin readerTurn giveUp
-answers-past p a b = rw (a, b)
+answers-past : (p : List ℕ) → lengthRight p ≡ true → poolInRange p ≡ false → nodes p ≡ 1023 → nodeInRange p 1023 1023 ≡ false → answersOn p eightCalls ≡ whenPast
+unfolding registerInRange storeInRange allFrom allIn insert delete writerTurn begin readerTurn readerStep giveUp
+answers-past p a b c d = rw (a, b, c, d, none-fits p)
 
--- every word at its largest is accepted; one past it gives 2
+-- every word at its largest is accepted; one past it gives 2, but for the turn of a slot that names no node
 pub record LargePasses : Type 0 where
-  pub largest : answersOn (largePool 1023) sevenCalls ≡ whenFit
-  pub past : answersOn (largePool 1024) sevenCalls ≡ whenPast
+  pub largest : answersOn (largePool 1023) eightCalls ≡ whenFit
+  pub past : answersOn (largePool 1024) eightCalls ≡ whenPast
 
 pub large-passes : LargePasses
 large-passes =
-    record
-    { largest = answers-fit (largePool 1023) (pool-length 1023) fits (pool-nodes 1023); past = answers-past (largePool 1024) (pool-length 1024) fails }
+    record {
+      largest = answers-fit (largePool 1023) (pool-length 1023) fits (pool-nodes 1023) last-fits;
+      past = answers-past (largePool 1024) (pool-length 1024) fails (pool-nodes 1024) last-fails;
+    }

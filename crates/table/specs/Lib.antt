@@ -4,6 +4,7 @@ pub mod Lent
 pub mod Starred
 pub mod Readers
 pub mod NextTickets
+pub mod Turns
 pub mod Inserts
 pub mod Deletes
 pub mod Refusals

@@ -284,7 +284,7 @@ nextTickets =
     (S 0 5 ⇒ refused 2 ∷ R 5 ⇒ refused 2 ∷ [])
     ∷ entry "next: 1 in the turn and in the give up of a slot that searches, before 2" (words 65)
     (R 0 ⇒ refused 1 ∷ E 0 ⇒ refused 1 ∷ [])
-    ∷ entry "next: 2 in the turn and in the give up of a slot that searches: a word of the pool" (three but (left of 1 := 9 ∷ reader 0 := (seeks 15 2) ∷ []))
+    ∷ entry "next: 2 in the turn and in the give up of a slot that searches: a word of its node" (three but (left of 2 := 9 ∷ reader 0 := (seeks 15 2) ∷ []))
     (R 0 ⇒ refused 2 ∷ E 0 ⇒ refused 2 ∷ [])
     ∷ entry "next: a search goes by links alone, whatever the nodes stand as"
     (three but (standing of 1 := 0 ∷ standing of 2 := 0 ∷ reader 0 := (seeks 5 0) ∷ []))

@@ -16,6 +16,7 @@ use Rattle.table.specs.Entry.{allPass}
 use Rattle.table.specs.Starred.{starred}
 use Rattle.table.specs.Readers.{readers}
 use Rattle.table.specs.NextTickets.{nextTickets}
+use Rattle.table.specs.Turns.{turns}
 use Rattle.table.specs.Inserts.{inserts}
 use Rattle.table.specs.Deletes.{deletes}
 use Rattle.table.specs.Refusals.{refusals}
@@ -28,6 +29,7 @@ pub record TablesPass : Type 0 where
   pub starred : allPass starred ≡ true
   pub readers : allPass readers ≡ true
   pub nextTickets : allPass nextTickets ≡ true
+  pub turns : allPass turns ≡ true
   pub inserts : allPass inserts ≡ true
   pub deletes : allPass deletes ≡ true
   pub refusals : allPass refusals ≡ true
@@ -48,6 +50,7 @@ tables-pass =
       starred = refl;
       readers = refl;
       nextTickets = refl;
+      turns = refl;
       inserts = refl;
       deletes = refl;
       refusals = refl;

@@ -5,7 +5,7 @@ use Rattle.spec.specs.Register.{state, begunReader, withReader}
 use Rattle.laws.specs.Tests.{slot-of, unless-refused, unless-done}
 use Rattle.refusals.specs.Slots.{index-of, slot-tests}
 use Rattle.datatypes.specs.declared.Reader.{Reader}
-use Rattle.spec.specs.Calls.{Outcome, outcome, ok, firstOf, begin, beginTests, reading}
+use Rattle.spec.specs.Calls.{Outcome, outcome, ok, firstOf, begin, beginTests, wrongLength, outOfRange, reading}
 use borrow.Author.Needs.{needs}
 use Rattle.begins.proofs.begin.Statement.{statement}
 use Rattle.begins.proofs.begin.Tie as tie
@@ -78,7 +78,7 @@ returns-2 c =
     let z = sym w ∙ c .before .before .if1 .left in
     let e = unless-done (beginTests st (a .s)) st (outcome ok (state (st .pool) (withReader (st .register) (a .s) (begunReader (a .kind) (a .k))))) z in (
       c .accepted .ensures .0 ∙ sym (ap (λ (o : Outcome). o .answer) e),
-      rw (c .accepted .ensures .1, c .before .begun-reader .ensures, index-of (a .s) (i .result) (i .ensures .0) (slot-of st (a .s) (reading st (a .s)) 4 (omega arith) z))
+      rw (c .accepted .ensures .1, c .before .begun-reader .ensures, index-of (a .s) (i .result) (i .ensures .0) (slot-of (a .s) (wrongLength st) (outOfRange st) (reading st (a .s)) 4 (omega arith) z))
           (sym (ap (λ (o : Outcome). o .after) e)),
     )
 

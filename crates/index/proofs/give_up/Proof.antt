@@ -3,10 +3,10 @@ use native.Mathlib.Omega.{arith}
 use mathlib.Core.Bool.{not}
 use mathlib.Core.List.{[], _∷_}
 use Rattle.spec.specs.Register.{state, withReader}
-use Rattle.laws.specs.Tests.{lent-of, slot-of, unless-refused, unless-done}
+use Rattle.laws.specs.Tests.{length-of, slot-of, unless-refused, unless-done}
 use Rattle.refusals.specs.Slots.{index-of, slot-tests}
 use Rattle.datatypes.specs.declared.Reader.{Reader}
-use Rattle.spec.specs.Calls.{Outcome, outcome, ok, _gives_, firstOf, slotTooHigh, reading, giveUp, readerTests}
+use Rattle.spec.specs.Calls.{Outcome, outcome, ok, _gives_, firstOf, wrongLength, outOfRange, slotTooHigh, reading, giveUp, giveUpTests}
 use Rattle.spec.specs.Free.{endReading}
 use borrow.Author.Needs.{needs}
 use Rattle.index.proofs.give_up.Statement.{statement}
@@ -51,9 +51,9 @@ returns c =
     let a = c7 .args in
     let st = state (a .pool .now) (a .t2) in
     let i = c3 .slot-index in
-    let w : c .before .before .slot-refusal .result ≡ firstOf (readerTests st (a .s)) =
+    let w : c .before .before .slot-refusal .result ≡ firstOf (giveUpTests st (a .s)) =
     c .before .before .slot-refusal .ensures ∙ rw (c4 .lent-refusal .ensures) (slot-tests st (a .s) (i .result) (not) 5 (i .ensures .0)) in
-    let e = unless-refused (readerTests st (a .s)) st (outcome ok (endReading st (a .s))) (c .before .before .slot-refusal .result) (sym w) (c .before .if1 .taken) in
+    let e = unless-refused (giveUpTests st (a .s)) st (outcome ok (endReading st (a .s))) (c .before .before .slot-refusal .result) (sym w) (c .before .if1 .taken) in
     (c .refused .ensures .0 ∙ sym (ap (λ (o : Outcome). o .answer) e), rw (c .refused .ensures .1) (sym (ap (λ (o : Outcome). o .after) e)))
 
 end-reading-requires : tie.Need-end-reading-requires
@@ -64,10 +64,10 @@ end-reading-requires c κs =
     let a = c7 .args in
     let st = state (a .pool .now) (a .t2) in
     let i = c3 .slot-index in
-    let w : c .before .before .slot-refusal .result ≡ firstOf (readerTests st (a .s)) =
+    let w : c .before .before .slot-refusal .result ≡ firstOf (giveUpTests st (a .s)) =
     c .before .before .slot-refusal .ensures ∙ rw (c4 .lent-refusal .ensures) (slot-tests st (a .s) (i .result) (not) 5 (i .ensures .0)) in
     let z = sym w ∙ c .before .if1 .left in
-    (lent-of st (slotTooHigh (a .s) gives 3 ∷ not (reading st (a .s)) gives 5 ∷ []) z .size, slot-of st (a .s) (not (reading st (a .s))) 5 (omega arith) z)
+    (length-of st (outOfRange st) (slotTooHigh (a .s) gives 3 ∷ not (reading st (a .s)) gives 5 ∷ []) z, slot-of (a .s) (wrongLength st) (outOfRange st) (not (reading st (a .s))) 5 (omega arith) z)
 
 no-reader-requires : tie.Need-no-reader-requires
 no-reader-requires c κs = search needs
@@ -96,11 +96,11 @@ returns-2 c =
     let a = c12 .args in
     let st = state (a .pool .now) (a .t2) in
     let i = c8 .slot-index in
-    let w : c7 .slot-refusal .result ≡ firstOf (readerTests st (a .s)) = c7 .slot-refusal .ensures ∙ rw (c9 .lent-refusal .ensures) (slot-tests st (a .s) (i .result) (not) 5 (i .ensures .0)) in
+    let w : c7 .slot-refusal .result ≡ firstOf (giveUpTests st (a .s)) = c7 .slot-refusal .ensures ∙ rw (c9 .lent-refusal .ensures) (slot-tests st (a .s) (i .result) (not) 5 (i .ensures .0)) in
     let z = sym w ∙ c6 .if1 .left in
-    let e = unless-done (readerTests st (a .s)) st (outcome ok (endReading st (a .s))) z in (
+    let e = unless-done (giveUpTests st (a .s)) st (outcome ok (endReading st (a .s))) z in (
       c .accepted .ensures .0 ∙ sym (ap (λ (o : Outcome). o .answer) e),
-      rw (c .accepted .ensures .1, index-of (a .s) (i .result) (i .ensures .0) (slot-of st (a .s) (not (reading st (a .s))) 5 (omega arith) z), c .before .no-reader .ensures)
+      rw (c .accepted .ensures .1, index-of (a .s) (i .result) (i .ensures .0) (slot-of (a .s) (wrongLength st) (outOfRange st) (not (reading st (a .s))) 5 (omega arith) z), c .before .no-reader .ensures)
           (c4 .end-reading .ensures (a .t2) ∙ sym (ap (λ (o : Outcome). o .after) e)),
     )
 

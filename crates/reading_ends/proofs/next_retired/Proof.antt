@@ -8,8 +8,8 @@ use Rattle.reading_ends.proofs.next_retired.Statement.{statement}
 use Rattle.reading_ends.proofs.next_retired.Tie as tie
 use Rattle.reading_ends.proofs.next_retired.Reads as reads
 use Rattle.reading_ends.proofs.next_retired.Lts as lts
-use Rattle.reading_ends.proofs.eight_standings.Reads as eight-standings-reads
-use Rattle.reading_ends.proofs.scan_retired.Reads as scan-retired-reads
+use Rattle.reading_ends.proofs.thirty_two_standings.Reads as thirty-two-standings-reads
+use Rattle.reading_ends.proofs.scan_eights.Reads as scan-eights-reads
 
 abbrev Inv-loop : tie.InvT-loop
 Inv-loop pool from capacity n₀ n = (from ≤ n) × (n ≤ capacity + 1) × ((i : ℕ) → from ≤ i → i < n → retired pool i ≡ false)
@@ -23,15 +23,15 @@ loop-holds c = (search needs, search needs, λ i a b. absurd (let z : ⊥ = omeg
 add-loop : tie.Need-add-loop Inv-loop μ-loop
 add-loop c = search needs
 
-eight-standings-requires : tie.Need-eight-standings-requires Inv-loop μ-loop
-eight-standings-requires c κs = search needs
+thirty-two-standings-requires : tie.Need-thirty-two-standings-requires Inv-loop μ-loop
+thirty-two-standings-requires c κs = search needs
 
-scan-retired-requires : tie.Need-scan-retired-requires Inv-loop μ-loop
-scan-retired-requires c κs = search needs
+scan-eights-requires : tie.Need-scan-eights-requires Inv-loop μ-loop
+scan-eights-requires c κs = search needs
 
 returns : tie.Need-returns Inv-loop μ-loop
 returns c = let l = c .before .before .before .before .loop in let a = c .before .before .before .before .before .before .args in
-    next-past (a .pool .now) (a .from) (l .n) (a .capacity) (c .scan-retired .result) (l .inv .0) (l .inv .2) (c .scan-retired .ensures)
+    next-past (a .pool .now) (a .from) (l .n) (a .capacity) (c .scan-eights .result) (l .inv .0) (l .inv .2) (c .scan-eights .ensures)
 
 add-n : tie.Need-add-n Inv-loop μ-loop
 add-n c = search needs
@@ -47,16 +47,16 @@ loop-again c =
     let a = c5 .args in (
       search needs,
       search needs,
-      none-more (a .pool .now) (a .from) (l .n) (l .n + 8) (l .inv .2)
-          (quiet (a .pool .now) (l .n) (l .n + 8) (c .before .eight-standings .result) (c .before .eight-standings .ensures) (c .if1 .left)),
+      none-more (a .pool .now) (a .from) (l .n) (l .n + 32) (l .inv .2)
+          (quiet (a .pool .now) (l .n) (l .n + 32) (c .before .thirty-two-standings .result) (c .before .thirty-two-standings .ensures) (c .if1 .left)),
     )
 
-scan-retired-requires-2 : tie.Need-scan-retired-requires-2 Inv-loop μ-loop
-scan-retired-requires-2 c κs = search needs
+scan-eights-requires-2 : tie.Need-scan-eights-requires-2 Inv-loop μ-loop
+scan-eights-requires-2 c κs = search needs
 
 returns-2 : tie.Need-returns-2 Inv-loop μ-loop
 returns-2 c = let l = c .before .before .loop in let a = c .before .before .before .before .args in
-    next-past (a .pool .now) (a .from) (l .n) (a .capacity) (c .scan-retired2 .result) (l .inv .0) (l .inv .2) (c .scan-retired2 .ensures)
+    next-past (a .pool .now) (a .from) (l .n) (a .capacity) (c .scan-eights2 .result) (l .inv .0) (l .inv .2) (c .scan-eights2 .ensures)
 
 pub next-retired-spec : {M : Type 1} → statement M
 next-retired-spec =
@@ -66,11 +66,11 @@ next-retired-spec =
     μ-loop
     loop-holds
     add-loop
-    eight-standings-requires
-    scan-retired-requires
+    thirty-two-standings-requires
+    scan-eights-requires
     returns
     add-n
     loop-less
     loop-again
-    scan-retired-requires-2
+    scan-eights-requires-2
     returns-2)
