@@ -2,6 +2,7 @@
 use datatypes::Kind;
 use datatypes::Register;
 use datatypes::Reply;
+use refusals::Tested;
 ghost use mathlib.Core.Path.{_≡_};
 ghost use Rattle.spec.specs.Register.{state};
 ghost use Rattle.spec.specs.Calls.{accepts, begin};
@@ -11,7 +12,7 @@ pub fn begin(pool: &[u32], mut reg: Register, kind: Kind, s: u32, k: u32) -> Rep
     ensures { λ r. ⌜ accepts (r .answer) ≡ begin kind (state (now (pool .entry)) reg) s k .answer ⌝ }
     ensures { λ r. ⌜ state (now (pool .entry)) (r .register) ≡ begin kind (state (now (pool .entry)) reg) s k .after ⌝ }
 {
-    let lent = refusals::lent_refusal(pool, reg);
+    let lent = refusals::lent_refusal(pool, reg, Tested::All);
     let i = refusals::slot_index(s);
     let why = refusals::slot_refusal(lent, s, reg.readers[i].reading, 4);
     if why != 0 {

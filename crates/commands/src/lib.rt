@@ -5,6 +5,7 @@ use datatypes::ReaderReply;
 use datatypes::Register;
 use datatypes::Reply;
 use datatypes::WriterReply;
+use refusals::Tested;
 ghost use mathlib.Core.Path.{_≡_};
 ghost use mathlib.Core.List.{_++_};
 ghost use Prim.Native.Nat.{_≤_};
@@ -55,7 +56,7 @@ fn show(pool: &[u32], reg: Register) -> Called
     ensures { λ r. ⌜ says (r .said) ≡ shown (state (now (pool .entry)) reg) .answer ⌝ }
     ensures { λ r. ⌜ state (now (pool .entry)) (r .register) ≡ shown (state (now (pool .entry)) reg) .after ⌝ }
 {
-    let why = refusals::lent_refusal(pool, reg);
+    let why = refusals::lent_refusal(pool, reg, Tested::All);
     if why != 0 {
         return Called {
             said: Said::No(why),

@@ -7,7 +7,9 @@ use lib.Dec.{eqb}
 use borrow.Author.Tests.{eqb-true, not-false}
 use Prim.Native.Nat.{ℕ}
 use Rattle.datatypes.specs.declared.Head.{Head}
+use Rattle.datatypes.specs.declared.Reader.{Reader}
 use Rattle.datatypes.specs.declared.Register.{Register}
+use Rattle.datatypes.specs.declared.Write.{Write}
 use Rattle.datatypes.specs.declared.StepResult.{StepResult}
 use Rattle.datatypes.specs.declared.Link.{Link}
 use Rattle.datatypes.specs.declared.Link.the-variants.{Root}
@@ -18,10 +20,13 @@ use Rattle.spec.specs.Turn.{Made, made, stepFinds, stepMade}
 abbrev pub headOf : Register → Head
 headOf r = record { root = r .root; first = r .first; last = r .last; free = r .free; held = r .held; awaited = r .awaited }
 
--- a register with another head
+-- a register of a head and the rest; one with another head
+abbrev pub registerOf : Head → List Reader → Write → Register
+registerOf h readers write =
+    record { root = h .root; first = h .first; last = h .last; free = h .free; held = h .held; readers = readers; awaited = h .awaited; write = write }
+
 abbrev pub withHead : Register → Head → Register
-withHead q h =
-    record { root = h .root; first = h .first; last = h .last; free = h .free; held = h .held; readers = q .readers; awaited = h .awaited; write = q .write }
+withHead q h = registerOf h (q .readers) (q .write)
 
 -- a pool with a register of the head h and of the rest of q
 abbrev pub at : List ℕ → Head → Register → State

@@ -1,14 +1,16 @@
-// The register's head: taken out of a register and put into it, the store of a link, which is the root's or a word of the pool, and the
+// The register's head: taken out of a register, put into it, made a register of with the rest; the store of a link, which is the root's or a word of the pool, and the
 // awaited slots.
 use datatypes::Head;
 use datatypes::Link;
+use datatypes::Reader;
 use datatypes::Register;
 use datatypes::StepResult;
+use datatypes::Write;
 ghost use mathlib.Core.Path.{_≡_};
 ghost use mathlib.Core.Bool.{not};
 ghost use lib.Dec.{eqb};
 ghost use Rattle.spec.specs.Register.{setLink};
-ghost use Rattle.heads.specs.Head.{headOf, withHead, awaiting, Follows, missedBy};
+ghost use Rattle.heads.specs.Head.{headOf, withHead, registerOf, awaiting, Follows, missedBy};
 
 // Takes the head out of a register.
 pub fn head_of(reg: Register) -> Head
@@ -36,6 +38,22 @@ pub fn with_head(reg: Register, h: Head) -> Register
     r.held = h.held;
     r.awaited = h.awaited;
     r
+}
+
+// Makes a register of a head and the rest. The parts go by themselves: a register that is copied and then changed is copied once more.
+pub fn register_of(h: Head, readers: [Reader; numbers::SLOTS], write: Write) -> Register
+    ensures { λ r. ⌜ r ≡ registerOf h readers write ⌝ }
+{
+    Register {
+        root: h.root,
+        first: h.first,
+        last: h.last,
+        free: h.free,
+        held: h.held,
+        readers,
+        awaited: h.awaited,
+        write,
+    }
 }
 
 // Makes the result of a step that names a node where there is none, or finds no free node: nothing is changed.

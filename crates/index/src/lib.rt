@@ -2,7 +2,6 @@
 // register to use from then on. No call has a precondition, and every call returns.
 // Each one's promise: answer, register and every pool word are what the definition of the call (crate spec, Calls: documents 01 and 02) makes
 // of what was lent; a refused call leaves both as they were. Above each call: what it needs, answers, refuses and leaves.
-use datatypes::Head;
 use datatypes::Kind;
 use datatypes::Link;
 use datatypes::Place;
@@ -10,6 +9,7 @@ use datatypes::ReaderReply;
 use datatypes::Register;
 use datatypes::Reply;
 use datatypes::WriterReply;
+use refusals::Tested;
 ghost use mathlib.Core.Path.{_≡_};
 ghost use Rattle.datatypes.specs.declared.Kind.the-variants as kind;
 ghost use Rattle.spec.specs.Register.{state};
@@ -42,7 +42,7 @@ pub fn insert(pool: &[u32], reg: Register, k: u32, v: u32) -> Reply
     ensures { λ r. ⌜ accepts (r .answer) ≡ insert (state (now (pool .entry)) reg) k v .answer ⌝ }
     ensures { λ r. ⌜ state (now (pool .entry)) (r .register) ≡ insert (state (now (pool .entry)) reg) k v .after ⌝ }
 {
-    let why = refusals::lent_refusal(pool, reg);
+    let why = refusals::lent_refusal(pool, reg, Tested::All);
     if why != 0 {
         return replies::refused(why, reg);
     }
@@ -68,7 +68,7 @@ pub fn delete(pool: &[u32], reg: Register, k: u32) -> Reply
     ensures { λ r. ⌜ accepts (r .answer) ≡ delete (state (now (pool .entry)) reg) k .answer ⌝ }
     ensures { λ r. ⌜ state (now (pool .entry)) (r .register) ≡ delete (state (now (pool .entry)) reg) k .after ⌝ }
 {
-    let why = refusals::lent_refusal(pool, reg);
+    let why = refusals::lent_refusal(pool, reg, Tested::All);
     if why != 0 {
         return replies::refused(why, reg);
     }
@@ -95,7 +95,7 @@ pub fn writer_turn(pool: &mut [u32], reg: Register) -> WriterReply
     ensures { λ r. ⌜ writerSays (r .answer) ≡ writerTurn (state (now (pool .entry)) reg) .answer ⌝ }
     ensures { λ r. ⌜ state (now (pool .exit)) (r .register) ≡ writerTurn (state (now (pool .entry)) reg) .after ⌝ }
 {
-    let why = refusals::lent_refusal(pool, reg);
+    let why = refusals::lent_refusal(pool, reg, Tested::All);
     if why != 0 {
         return replies::refuses_writer(why, reg);
     }
@@ -142,36 +142,26 @@ pub fn begin_next(pool: &[u32], reg: Register, s: u32, k: u32) -> Reply
 // slot is above 7; 5 the slot is not reading.
 // Leaves: after Go only the slot's node and what it remembers changed; after Found, Next and Absent the slot is no longer reading, awaited or
 // a holder of a retired node, and a retired node without a holder is freed; refused, both as they were.
-pub fn reader_turn(pool: &mut [u32], mut reg: Register, s: u32) -> ReaderReply
+pub fn reader_turn(pool: &mut [u32], reg: Register, s: u32) -> ReaderReply
     ensures { λ r. ⌜ readerSays (r .answer) ≡ readerTurn (state (now (pool .entry)) reg) s .answer ⌝ }
     ensures { λ r. ⌜ state (now (pool .exit)) (r .register) ≡ readerTurn (state (now (pool .entry)) reg) s .after ⌝ }
 {
-    let why = refusals::turn_refusal(pool, reg, s);
+    let lent = refusals::lent_refusal(pool, reg, Tested::Register);
+    let i = refusals::slot_index(s);
+    let mut readers = reg.readers;
+    let x = readers[i];
+    let why = refusals::turn_refusal(pool, lent, s, x);
     if why != 0 {
         return replies::refuses_reader(why, reg);
     }
-    let i = s as usize;
-    let x = reg.readers[i];
     let looked = lookups::look(pool, reg.root, x);
-    let h = Head {
-        root: reg.root,
-        first: reg.first,
-        last: reg.last,
-        free: reg.free,
-        held: reg.held,
-        awaited: reg.awaited,
-    };
     let reader = looked.reader;
-    let left = lookups::leave(pool, h, s, reader.reading);
-    reg.root = left.root;
-    reg.first = left.first;
-    reg.last = left.last;
-    reg.free = left.free;
-    reg.held = left.held;
-    reg.awaited = left.awaited;
-    reg.readers[i] = reader;
+    let left = lookups::leave(pool, heads::head_of(reg), s, reader.reading);
+    readers[i] = reader;
+    let write = reg.write;
+    let register = heads::register_of(left, readers, write);
     let answer = looked.answer;
-    replies::answers_reader(answer, reg)
+    replies::answers_reader(answer, register)
 }
 
 // Give up: ends the lookup, or the search for the next ticket, of the slot s without an answer.
@@ -180,31 +170,20 @@ pub fn reader_turn(pool: &mut [u32], mut reg: Register, s: u32) -> ReaderReply
 // Refuses, tested in this order: 1 length; 2 a word or field out of range; 3 the slot is above 7; 5 the slot is not reading.
 // Leaves: the slot no longer reading, awaited or a holder of a retired node; a retired node without a holder is freed; refused, both as they
 // were.
-pub fn give_up(pool: &mut [u32], mut reg: Register, s: u32) -> Reply
+pub fn give_up(pool: &mut [u32], reg: Register, s: u32) -> Reply
     ensures { λ r. ⌜ accepts (r .answer) ≡ giveUp (state (now (pool .entry)) reg) s .answer ⌝ }
     ensures { λ r. ⌜ state (now (pool .exit)) (r .register) ≡ giveUp (state (now (pool .entry)) reg) s .after ⌝ }
 {
-    let lent = refusals::lent_refusal(pool, reg);
+    let lent = refusals::lent_refusal(pool, reg, Tested::All);
     let i = refusals::slot_index(s);
-    let why = refusals::slot_refusal(lent, s, !reg.readers[i].reading, 5);
+    let mut readers = reg.readers;
+    let why = refusals::slot_refusal(lent, s, !readers[i].reading, 5);
     if why != 0 {
         return replies::refused(why, reg);
     }
-    let h = Head {
-        root: reg.root,
-        first: reg.first,
-        last: reg.last,
-        free: reg.free,
-        held: reg.held,
-        awaited: reg.awaited,
-    };
-    let left = reading_ends::end_reading(pool, h, s);
-    reg.root = left.root;
-    reg.first = left.first;
-    reg.last = left.last;
-    reg.free = left.free;
-    reg.held = left.held;
-    reg.awaited = left.awaited;
-    reg.readers[i] = register::no_reader();
-    replies::accepted(reg)
+    let left = reading_ends::end_reading(pool, heads::head_of(reg), s);
+    readers[i] = register::no_reader();
+    let write = reg.write;
+    let register = heads::register_of(left, readers, write);
+    replies::accepted(register)
 }

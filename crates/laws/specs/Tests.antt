@@ -43,7 +43,7 @@ first-lent true b ts = refl
 first-lent false true ts = refl
 first-lent false false ts = refl
 
-lent-passed : (a b : Bool) → _≡_ {A = ℕ} (firstOf (not a gives 1 ∷ not b gives 2 ∷ [])) 0 → (a ≡ true) × (b ≡ true)
+pub lent-passed : (a b : Bool) → _≡_ {A = ℕ} (firstOf (not a gives 1 ∷ not b gives 2 ∷ [])) 0 → (a ≡ true) × (b ≡ true)
 lent-passed true true h = (refl, refl)
 lent-passed true false h = absurd (let z : ⊥ = omega arith in z)
 lent-passed false b h = absurd (let z : ⊥ = omega arith in z)

@@ -1,22 +1,40 @@
 // The tests that a call begins with: each answers the number of the first cause that holds, or 0.
+use datatypes::Reader;
 use datatypes::Register;
 ghost use mathlib.Core.Path.{_≡_};
-ghost use Rattle.spec.specs.Numbers.{slots};
+ghost use Prim.Native.Nat.{_<_, _≤_};
+ghost use lib.ListN.{length};
+ghost use Rattle.spec.specs.Numbers.{poolLimit, slots};
+ghost use Rattle.spec.specs.Pool.{nodes};
 ghost use Rattle.spec.specs.Register.{state};
-ghost use Rattle.spec.specs.Calls.{firstOf, readerTests};
-ghost use Rattle.laws.specs.Tests.{lentNumber};
-ghost use Rattle.refusals.specs.Slots.{slotIndex, slotNumber};
-ghost use Prim.Native.Nat.{_<_};
+ghost use Rattle.refusals.specs.Slots.{wordsInRange, testedNumber, slotIndex, slotNumber, turnNumber};
 
-// Makes tests 1 and 2 of what was lent. The register is tested first: nothing of it is kept over the pass through the pool.
-pub fn lent_refusal(pool: &[u32], reg: Register) -> u32
-    ensures { λ r. ⌜ r ≡ lentNumber (state (now (pool .entry)) reg) ⌝ }
+// What test 2 looks at: every word of the pool and the register, or the register alone.
+pub enum Tested {
+    All,
+    Register,
+}
+
+fn words_in_range(pool: &[u32], tested: Tested) -> bool
+    requires { ⌜ length (now pool) < poolLimit ⌝ }
+    ensures { λ r. ⌜ r ≡ wordsInRange tested (now (pool .entry)) ⌝ }
+{
+    match tested {
+        Tested::All => pool::pool_in_range(pool),
+        Tested::Register => true,
+    }
+}
+
+// Makes tests 1 and 2 of what was lent. The two tests of ranges are joined by `&`: with an exit after the first the compiler makes a slower pass
+// through the pool.
+pub fn lent_refusal(pool: &[u32], reg: Register, tested: Tested) -> u32
+    ensures { λ r. ⌜ r ≡ testedNumber tested (state (now (pool .entry)) reg) ⌝ }
 {
     if !pool::length_right(pool) {
         return 1;
     }
     let capacity = pool::nodes(pool);
-    if !(register::register_in_range(reg, capacity) & pool::pool_in_range(pool)) {
+    if !(words_in_range(pool, tested) & register::register_in_range(reg, capacity)) {
         return 2;
     }
     0
@@ -46,21 +64,18 @@ pub fn slot_refusal(lent: u32, s: u32, cause: bool, number: u32) -> u32
     counts::choose(cause, number, 0)
 }
 
-// Makes the tests of a reader's turn of slot s: of the pool's words only those of the node that the slot's record names, once the register is
-// known to be in range.
-pub fn turn_refusal(pool: &[u32], reg: Register, s: u32) -> u32
-    ensures { λ r. ⌜ r ≡ firstOf (readerTests (state (now (pool .entry)) reg) s) ⌝ }
+// Makes the tests of a reader's turn of slot s, from the number of tests 1 and 2 of length and register and the slot's record x: the node that
+// it names is tested too.
+pub fn turn_refusal(pool: &[u32], lent: u32, s: u32, x: Reader) -> u32
+    requires { ⌜ (lent ≡ 0 → (length (now pool) < poolLimit) × (x .node ≤ nodes (now pool))) ⌝ }
+    ensures { λ r. ⌜ r ≡ turnNumber (now (pool .entry)) lent s x ⌝ }
 {
-    if !pool::length_right(pool) {
-        return 1;
-    }
-    if !register::register_in_range(reg, pool::nodes(pool)) {
-        return 2;
+    if lent != 0 {
+        return lent;
     }
     if numbers::SLOT_LIMIT <= s {
         return 3;
     }
-    let x = reg.readers[s as usize];
     if pool::out_of_range(pool, x.node) {
         return 2;
     }

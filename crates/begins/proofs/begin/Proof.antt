@@ -54,8 +54,8 @@ returns c =
 begun-reader-requires : tie.Need-begun-reader-requires
 begun-reader-requires c κs = search needs
 
-mul-t11 : tie.Need-mul-t11
-mul-t11 c = search needs
+mul-t12 : tie.Need-mul-t12
+mul-t12 c = search needs
 
 element-set-from-reg : tie.Need-element-set-from-reg
 element-set-from-reg c = search needs
@@ -94,7 +94,7 @@ begin-spec =
     refused-requires
     returns
     begun-reader-requires
-    mul-t11
+    mul-t12
     element-set-from-reg
     accepted-requires
     returns-2)
