@@ -1,8 +1,8 @@
 // Repeats one call, and puts the pool back before each, so that the instructions of a call can be counted.
 // Arguments: CALL SIZE MODE SLOT. Instructions of a call: those of a run in mode 1 less those in mode 0, by 1,000.
-// CALL: P set up, I insert, D delete, B begin, G F A a reader's turn that answers go (it loads the root), found, absent, E give up,
-// W a writer's turn that answers wait. Of a search for the next ticket: S begin, L R a turn that answers go at a greater key (to the left,
-// remembering it) and at a smaller one (to the right), N O a turn that answers next and none.
+// CALL: P set up, I insert, D delete, B begin, G C F A a reader's turn that answers go (G loads the root, C compares at a node), found,
+// absent, E give up, W a writer's turn that answers wait. Of a search for the next ticket: S begin, L R a turn that answers go at a greater
+// key (to the left, remembering it) and at a smaller one (to the right), N O a turn that answers next and none.
 // A small letter is a writer's turn, by its store: i insert under a black parent, j with colours above alone, k with a rotation to come;
 // d e diag lower, raise; x y z zig lower A, lower C, raise; u unlink, a adopt, r replace, p publish, t detach.
 // SIZE: s m l: N 8, 128, 1,023, with about N / 2 − 1 keys; v: N 128, a damaged tree with a path of 64 nodes.
@@ -148,12 +148,12 @@ fn seeks_next(call: u8) -> bool {
 
 // whether a call is a reader's turn
 fn reads(call: u8) -> bool {
-    (call == b'G') | (call == b'F') | (call == b'A') | seeks_next(call)
+    (call == b'G') | (call == b'C') | (call == b'F') | (call == b'A') | seeks_next(call)
 }
 
 // the key of a begin on the way: one below all, one above all, or the root's
 fn begin_key(pool: &[u32], root: u32, call: u8) -> u32 {
-    if (call == b'A') | (call == b'L') | (call == b'N') {
+    if (call == b'C') | (call == b'A') | (call == b'L') | (call == b'N') {
         return 1;
     }
     if (call == b'R') | (call == b'O') {
@@ -201,7 +201,7 @@ fn while_reading(pool: &[u32], call: u8, node: u32, awaited: u32) -> u8 {
     if (call == b'W') & (awaited == 0) {
         return b'w';
     }
-    if ((call == b'F') | (call == b'L') | (call == b'R')) & (node == 0) {
+    if ((call == b'C') | (call == b'F') | (call == b'L') | (call == b'R')) & (node == 0) {
         return b'G';
     }
     let onward = if call == b'O' {

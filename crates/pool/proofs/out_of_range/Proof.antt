@@ -1,4 +1,3 @@
-use mathlib.Core.Path.{_∙_}
 use Rattle.laws.specs.Tests.{none-fits}
 use borrow.Author.Needs.{needs}
 use Rattle.pool.proofs.out_of_range.Statement.{statement}
