@@ -7,6 +7,7 @@ ghost use lib.ListN.{length};
 ghost use Rattle.spec.specs.Numbers.{poolLimit, slots};
 ghost use Rattle.spec.specs.Pool.{nodes};
 ghost use Rattle.spec.specs.Register.{state};
+ghost use Rattle.spec.specs.Calls.{slotTooHigh};
 ghost use Rattle.refusals.specs.Slots.{wordsInRange, testedNumber, slotIndex, slotNumber, turnNumber};
 
 // What test 2 looks at: every word of the pool and the register, or the register alone.
@@ -51,6 +52,12 @@ pub fn slot_index(s: u32) -> usize
     }
 }
 
+fn slot_too_high(s: u32) -> bool
+    ensures { λ r. ⌜ r ≡ slotTooHigh s ⌝ }
+{
+    numbers::SLOT_LIMIT <= s
+}
+
 // Makes the tests of a call that names slot s, from the number of tests 1 and 2 and the call's own cause with its number.
 pub fn slot_refusal(lent: u32, s: u32, cause: bool, number: u32) -> u32
     ensures { λ r. ⌜ r ≡ slotNumber lent s cause number ⌝ }
@@ -58,7 +65,7 @@ pub fn slot_refusal(lent: u32, s: u32, cause: bool, number: u32) -> u32
     if lent != 0 {
         return lent;
     }
-    if numbers::SLOT_LIMIT <= s {
+    if slot_too_high(s) {
         return 3;
     }
     counts::choose(cause, number, 0)
@@ -73,7 +80,7 @@ pub fn turn_refusal(pool: &[u32], lent: u32, s: u32, x: Reader) -> u32
     if lent != 0 {
         return lent;
     }
-    if numbers::SLOT_LIMIT <= s {
+    if slot_too_high(s) {
         return 3;
     }
     if pool::out_of_range(pool, x.node) {
