@@ -16,6 +16,7 @@ pub enum Tested {
     Register,
 }
 
+// Tests the pool's words, where test 2 looks at them.
 fn words_in_range(pool: &[u32], tested: Tested) -> bool
     requires { ⌜ length (now pool) < poolLimit ⌝ }
     ensures { λ r. ⌜ r ≡ wordsInRange tested (now (pool .entry)) ⌝ }
@@ -52,6 +53,7 @@ pub fn slot_index(s: u32) -> usize
     }
 }
 
+// Tests whether there is no slot s.
 fn slot_too_high(s: u32) -> bool
     ensures { λ r. ⌜ r ≡ slotTooHigh s ⌝ }
 {
