@@ -9,9 +9,9 @@ use Rattle.datatypes.specs.declared.Reader.{Reader}
 use Rattle.datatypes.specs.declared.Step.the-variants.{Vacant, Unlink, Publish}
 use Rattle.spec.specs.Register.{State}
 use Rattle.spec.specs.Calls.{go, absent, found, next, refused}
-use Rattle.table.specs.Picture.{row, _keptBy_, root_held_awaited_stores_, picture, drawn, _on_, key, value, left, right, colour}
-use Rattle.table.specs.Picture.{standing, holders, nextFree, Change, _of_:=_, root:=_, first:=_, last:=_, free:=_, held:=_, awaited:=_, count:=_}
-use Rattle.table.specs.Picture.{reader_:=_, store_:=_, reads, idle, seeks, _ofKind_, Ticket, _remembering_, _but_}
+use Rattle.table.specs.Picture.{row, _keptBy_, root_held_awaited_stores_, picture, drawn, none, _on_, key, value, left, right, colour}
+use Rattle.table.specs.Picture.{standing, holders, nextFree, Change, _of_:=_, root:=_, first:=_, last:=_, free:=_, held:=_, awaited:=_, count:=_, hand}
+use Rattle.table.specs.Picture.{reader_:=_, store_:=_, reads, idle, seeks, _ofKind_, Ticket, _remembering_, _but_, words}
 use Rattle.table.specs.Entry.{I, D, W, B, S, R, E, _⇒_, leaves, Entry, entry}
 use Rattle.table.specs.Lent.{three, planned}
 
@@ -63,6 +63,18 @@ abbrev retiredLeft : List Change
 retiredLeft =
     standing of 4 := 0 ∷ holders of 4 := 0 ∷ nextFree of 4 := 9 ∷ holders of 5 := 256 ∷ holders of 6 := 1 ∷ holders of 7 := 4294967287
     ∷ standing of 9 := 0 ∷ holders of 9 := 0 ∷ nextFree of 9 := 0 ∷ nextFree of 14 := 4 ∷ last:= 9 ∷ free:= 7 ∷ awaited:= 4 ∷ reader 3 := (idle 0 0) ∷ []
+
+-- Retired nodes 4, without a holder, and 5, held by slot 3 alone, both with a colour past its range; slot 3 is at the key that it wants.
+abbrev coloured : State
+coloured =
+    drawn 8
+    (picture (root 2 held 3 awaited 0 stores 0)
+    []
+    (row 1 10 100 1 0 0 ∷ row 2 20 200 0 1 3 ∷ row 3 30 300 1 0 0 ∷ [])
+    (row 4 40 400 2 0 0 keptBy 0 ∷ row 5 50 500 2 0 0 keptBy 8 ∷ [])
+    (6 ∷ 7 ∷ 8 ∷ []))
+    []
+    but (reader 3 := (reads 20 2) ∷ [])
 
 abbrev pub turns : List Entry
 turns =
@@ -135,4 +147,35 @@ turns =
     ∷ entry "turn: go leaves damaged retired nodes as they are" (retiring (reads 10 2))
     (R 3 ⇒ go
     ∷ leaves (reader 3 := (reads 10 1) ∷ []) ∷ [])
+    ∷ entry "turn: with a write in hand another node is not tested, and the node named is"
+    (three but (hand (Unlink on Root) ∷ left of 8 := 9 ∷ right of 3 := 9 ∷ reader 0 := (reads 10 2) ∷ reader 1 := (seeks 30 3) ∷ reader 2 := (reads 30 3) ∷ []))
+    (W ⇒ refused 2 ∷ R 1 ⇒ refused 2 ∷ R 2 ⇒ refused 2 ∷ R 0 ⇒ go
+    ∷ leaves (reader 0 := (reads 10 1) ∷ []) ∷ [])
+    ∷ entry "turn: 1 before 2 of the node named"
+    (words 65 but (reader 0 := (reads 10 1) ∷ reader 1 := (seeks 10 8) ∷ reader 2 := (idle 10 1) ∷ []))
+    (R 0 ⇒ refused 1 ∷ R 1 ⇒ refused 1 ∷ R 2 ⇒ refused 1 ∷ [])
+    ∷ entry "turn: 2, right of a retired node, named, one past its range"
+    (three but (standing of 1 := 2 ∷ holders of 1 := 255 ∷ right of 1 := 9 ∷ reader 0 := (reads 10 1) ∷ reader 6 := (seeks 10 1) ∷ reader 7 := (idle 10 1) ∷ []))
+    (R 0 ⇒ refused 2 ∷ R 6 ⇒ refused 2 ∷ R 7 ⇒ refused 2 ∷ [])
+    ∷ entry "turn: goes on at a retired node that the slot doesn't hold"
+    (three but (standing of 2 := 2 ∷ holders of 2 := 2 ∷ reader 0 := (reads 10 2) ∷ reader 6 := (seeks 10 2) ∷ reader 7 := (idle 10 2) ∷ []))
+    (R 0 ⇒ go ∷ R 6 ⇒ go ∷ R 7 ⇒ refused 5
+    ∷ leaves (reader 0 := (reads 10 1) ∷ reader 6 := (seeks 10 1 remembering Ticket 20 200) ∷ []) ∷ [])
+    ∷ field "turn: 2, a store to come on node 9" planned (store 6 := (Unlink on Left 9) ∷ [])
+    ∷ field "turn: 2, a store to come on node 0" planned (store 0 := (Unlink on Left 0) ∷ [])
+    ∷ field "turn: 2, no store where one is to come" planned (store 6 := none ∷ [])
+    ∷ entry "turn: each number of the register at its largest"
+    (three but (root:= 8 ∷ first:= 8 ∷ last:= 8 ∷ free:= 8 ∷ held:= 8 ∷ awaited:= 255 ∷ reader 0 := (reads 4294967295 8) ∷ reader 1 := (reads 5 0)
+    ∷ reader 7 := (idle 4294967295 8) ∷ []))
+    (R 7 ⇒ refused 5 ∷ R 1 ⇒ go ∷ R 0 ⇒ absent
+    ∷ leaves (reader 1 := (reads 5 8) ∷ reader 0 := (idle 0 0) ∷ awaited:= 254 ∷ []) ∷ [])
+    ∷ entry "turn: an empty queue, each number of the register 0"
+    (three but (root:= 0 ∷ first:= 0 ∷ last:= 0 ∷ free:= 0 ∷ held:= 0 ∷ reader 0 := (reads 10 2) ∷ reader 1 := (seeks 5 0) ∷ []))
+    (R 2 ⇒ refused 5 ∷ R 0 ⇒ go ∷ R 1 ⇒ absent
+    ∷ leaves (reader 0 := (reads 10 1) ∷ reader 1 := (idle 0 0) ∷ []) ∷ [])
+    ∷ entry "turn: retired nodes with a colour past its range are freed, also one that had no holder" coloured
+    (R 3 ⇒ found 200
+    ∷ leaves (standing of 4 := 0 ∷ nextFree of 4 := 5 ∷ standing of 5 := 0 ∷ holders of 5 := 0 ∷ nextFree of 8 := 4 ∷ last:= 5 ∷ free:= 5
+    ∷ reader 3 := (idle 0 0) ∷ []) ∷ [])
+    ∷ elsewhere "turn: next of the first free node one past its range" nextFree 4 9
     ∷ []
