@@ -138,8 +138,8 @@ pub fn begin_next(pool: &[u32], reg: Register, s: u32, k: u32) -> Reply
 // Answers: Go, the search goes on. A lookup ends with Found and the record, or with Absent, right at one moment since the slot's begin. A
 // search for the next ticket ends with Next and the ticket's key and record, or with Absent: the ticket was held at a moment since the begin,
 // and no key between the given one and it (after Absent: no greater key) was held all the time since.
-// Refuses, tested in this order: 1 length; 2 a field of the register, or a word of the node that the slot's record names, out of range; 3 the
-// slot is above 7; 5 the slot is not reading.
+// Refuses, tested in this order: 1 length; 2 a field of the register, or a word of the node that the slot's record names, reading or not, out
+// of range; 3 the slot is above 7; 5 the slot is not reading. No other word of the pool is tested.
 // Leaves: after Go only the slot's node and what it remembers changed; after Found, Next and Absent the slot is no longer reading, awaited or
 // a holder of a retired node, and a retired node without a holder is freed; refused, both as they were.
 pub fn reader_turn(pool: &mut [u32], reg: Register, s: u32) -> ReaderReply

@@ -4,8 +4,8 @@
 use Prim.Native.Nat.{ℕ, _+_, _<_, _≤_}
 use mathlib.Core.Path.{_≡_}
 use mathlib.Core.Logic.{_≢_, _⊎_, _↔_}
-use mathlib.Core.Bool.{Bool, true, false, cond}
-use mathlib.Core.List.{List}
+use mathlib.Core.Bool.{Bool, true, false, cond, not}
+use mathlib.Core.List.{List, [], _∷_}
 use mathlib.Core.Option.{Option, none, some}
 use lib.Dec.{eqb}
 use lib.ListN.{length}
@@ -26,7 +26,7 @@ use Rattle.spec.specs.Pool.{standingFree, standingLinked, standingRetired, blac
 use Rattle.spec.specs.Register.{State, state, withReader, readerOf, storeOf, linkNode, hasSlot, begunReader}
 use Rattle.spec.specs.Turn.{profile}
 use Rattle.spec.specs.Calls.{Answer, go, absent, found, next, more, done, wait, refused, Outcome, unless, Call, writing, call, reading, writeInHand}
-use Rattle.spec.specs.Calls.{readerStep, readerTurn, giveUpTests}
+use Rattle.spec.specs.Calls.{_gives_, wrongLength, outOfRange, slotTooHigh, readerStep, readerTurn}
 use Rattle.spec.specs.PlainList.{Ticket, carriedOut, noticeOf, recordFor, acceptedWrites}
 use Rattle.spec.specs.FreeQueue.{Queue}
 use Rattle.promise.specs.Run.{Start, justSetUp, Reads, callAt, indexAfter, plainAfter, ticketsAfter, Gives, Turns, Reading, Lookup, NextSearch}
@@ -210,10 +210,11 @@ pub record NeverMet (S : Start) (cs : List Call) : Type 0 where
   pub twelve : (j : ℕ) (c : Call) → ¬ (Gives S cs j c (refused 12))
   pub one : (j : ℕ) (c : Call) → ¬ (Gives S cs j c (refused 1))
 
--- 02, C-12: 'For pools reached from a fresh index no answer differs.' The reader's turn as 01 has it, with the tests that give up has: every word
--- of the pool and the register. After every call of a run it is the reader's turn: the same answer, pool and register, for every slot.
+-- 02, C-12: 'For pools reached from a fresh index no answer differs.' The reader's turn as 01 has it: test 2 looks at every word of the pool and
+-- at the register. After every call of a run it is the reader's turn: the same answer, pool and register, for every slot.
 abbrev pub fullyTestedTurn : State → ℕ → Outcome
-fullyTestedTurn st s = unless (giveUpTests st s) st (readerStep st s)
+fullyTestedTurn st s =
+    unless (wrongLength st gives 1 ∷ outOfRange st gives 2 ∷ slotTooHigh s gives 3 ∷ not (reading st s) gives 5 ∷ []) st (readerStep st s)
 
 abbrev pub TurnsAlike : Start → List Call → Type 0
 TurnsAlike S cs = (j s : ℕ) → readerTurn (indexAfter S cs j) s ≡ fullyTestedTurn (indexAfter S cs j) s

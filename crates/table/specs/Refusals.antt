@@ -33,7 +33,7 @@ refusals =
     ∷ gives1 "1 in all eight calls, before 2 and 3: 63 words" 63
     ∷ gives1 "1 in all eight calls, before 2 and 3: 65 words" 65
     ∷ gives1 "1 in all eight calls, before 2 and 3: 1,024 nodes" 8192
-    ∷ entry "2 in six calls, before 3, 7 and the search; a reader's turn tests the register; set up tests 1 only" (three but (left of 1 := 9 ∷ []))
+    ∷ entry "2 in six calls, before 3, 7 and the search; a reader's turn doesn't test another node; set up tests 1 only" (three but (left of 1 := 9 ∷ []))
     (I 20 5 ⇒ refused 2 ∷ D 25 ⇒ refused 2 ∷ W ⇒ refused 2 ∷ B 8 1 ⇒ refused 2 ∷ S 8 1 ⇒ refused 2 ∷ R 8 ⇒ refused 3 ∷ E 8 ⇒ refused 2
     ∷ P ⇒ ok
     ∷ stands (picture (root 0 held 0 awaited 0 stores 0) [] [] [] (1 ∷ 2 ∷ 3 ∷ 4 ∷ 5 ∷ 6 ∷ 7 ∷ 8 ∷ [])) ∷ [])

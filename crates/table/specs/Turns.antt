@@ -33,7 +33,7 @@ named title f n v =
     (three but (f of n := v ∷ reader 0 := (reads 10 n) ∷ reader 6 := (seeks 10 n) ∷ reader 7 := (idle 10 n) ∷ reader 2 := (idle 0 n ofKind kind.Next) ∷ []))
     (R 0 ⇒ refused 2 ∷ R 6 ⇒ refused 2 ∷ R 7 ⇒ refused 2 ∷ R 2 ⇒ refused 2 ∷ R 1 ⇒ refused 5 ∷ R 8 ⇒ refused 3 ∷ [])
 
--- A field of the register is out of its range: of a slot that reads, of one that doesn't, and of a slot too high.
+-- A field of the register is out of its range: the turns of a slot that reads, of one that doesn't, and of a slot too high.
 abbrev field : String → State → List Change → Entry
 field title lent cs =
     entry title (lent but (reader 0 := (reads 10 2) ∷ reader 1 := (seeks 10 0) ∷ []) but cs)
@@ -86,7 +86,7 @@ turns =
     ∷ elsewhere "turn: next of another node, the last, one past its range" nextFree 8 9
     ∷ elsewhere "turn: next of the node that it loads one past its range" nextFree 1 9
     ∷ elsewhere "turn: left of the node that it loads at its largest" left 1 4294967295
-    ∷ elsewhere "turn: colour of the child that it leaves one past its range" colour 3 2
+    ∷ elsewhere "turn: colour of the child that it doesn't go to one past its range" colour 3 2
     ∷ named "turn: 2, left of the node named one past its range" left 2 9
     ∷ named "turn: 2, right of the node named one past its range" right 2 9
     ∷ named "turn: 2, colour of the node named one past its range" colour 2 2
