@@ -98,6 +98,20 @@ fn next_retired(pool: &[u32], from: usize, capacity: usize) -> usize
     scan_eights(pool, n, capacity)
 }
 
+// The same; first the node itself, since nodes retired one after the other often stand side by side.
+fn following_retired(pool: &[u32], from: usize, capacity: usize) -> usize
+    requires { ⌜ (1 ≤ from) × (from ≤ capacity + 1) × (capacity * nodeWords ≤ length (now pool)) × (capacity ≤ mostNodes) ⌝ }
+    ensures { λ r. ⌜ Next (now (pool .entry)) from capacity r ⌝ }
+{
+    if capacity < from {
+        return from;
+    }
+    if pool[from * numbers::NODE_WORDS - STANDING_BACK] == pool::RETIRED {
+        return from;
+    }
+    next_retired(pool, from + 1, capacity)
+}
+
 // Takes slot s from a retired node's holders, and frees the node if it is then without a holder.
 fn release(pool: &mut [u32], h: Head, s: u32, n: u32) -> Head
     requires { ⌜ (length (now pool) < poolLimit) × (s < wordBits) × (eqb (word (now pool) n standingWord) standingRetired ≡ true) ⌝ }
@@ -122,7 +136,7 @@ pub fn end_reading(pool: &mut [u32], h: Head, s: u32) -> Head
     let mut n = next_retired(pool, 1, count);
     while n <= count {
         r = release(pool, r, s, n as u32);
-        n = next_retired(pool, n + 1, count);
+        n = following_retired(pool, n + 1, count);
     }
     r
 }

@@ -14,6 +14,7 @@ use Rattle.reading_ends.proofs.end_reading.Statement.{statement}
 use Rattle.reading_ends.proofs.end_reading.Tie as tie
 use Rattle.reading_ends.proofs.end_reading.Reads as reads
 use Rattle.reading_ends.proofs.end_reading.Lts as lts
+use Rattle.reading_ends.proofs.following_retired.Reads as following-retired-reads
 use Rattle.reading_ends.proofs.next_retired.Reads as next-retired-reads
 use Rattle.reading_ends.proofs.release.Reads as release-reads
 use Rattle.register.proofs.drop_slot.Reads as drop-slot-reads
@@ -42,21 +43,21 @@ cast-release c = search needs
 release-requires : tie.Need-release-requires Inv-loop μ-loop
 release-requires c κs = (search needs, search needs, c .before .before .loop .inv .3 (c .before .loop-test .taken))
 
-add-next-retired : tie.Need-add-next-retired Inv-loop μ-loop
-add-next-retired c = search needs
+add-following-retired : tie.Need-add-following-retired Inv-loop μ-loop
+add-following-retired c = search needs
 
-next-retired-requires-2 : tie.Need-next-retired-requires-2 Inv-loop μ-loop
-next-retired-requires-2 c κs = search needs
+following-retired-requires : tie.Need-following-retired-requires Inv-loop μ-loop
+following-retired-requires c κs = search needs
 
 loop-less : tie.Need-loop-less Inv-loop μ-loop
-loop-less c = omega (arith, c .next-retired2 .ensures .low)
+loop-less c = omega (arith, c .following-retired .ensures .low)
 
 loop-again : tie.Need-loop-again Inv-loop μ-loop
 loop-again c =
     let c4 = c .before .before .before .before in
     let c7 = c4 .before .before .before in
     let c12 = c7 .before .before .before .before .before in
-    let x = c .next-retired2 .ensures in
+    let x = c .following-retired .ensures in
     let e = c4 .release in
     let l = c7 .loop in
     let s = c12 .args .s in (
@@ -64,7 +65,7 @@ loop-again c =
       x .high,
       search needs,
       x .here,
-      λ q. release-next s (l .n) (c .next-retired2 .result) _ (at (l .pool) (l .r) q) (at (e .last .0) (e .result) q) (omega arith) (e .ensures q) x
+      λ q. release-next s (l .n) (c .following-retired .result) _ (at (l .pool) (l .r) q) (at (e .last .0) (e .result) q) (omega arith) (e .ensures q) x
           ∙ l .inv .4 q,
     )
 
@@ -88,8 +89,8 @@ end-reading-spec =
     loop-holds
     cast-release
     release-requires
-    add-next-retired
-    next-retired-requires-2
+    add-following-retired
+    following-retired-requires
     loop-less
     loop-again
     same-length
