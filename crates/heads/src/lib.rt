@@ -1,5 +1,5 @@
-// The register's head: taken out of a register, put into it, made a register of with the rest; the store of a link, which is the root's or a word of the pool, and the
-// awaited slots.
+// The register's head: taken out of a register, put into it, made a register of with the rest; the store of a link, which is the root's or a
+// word of the pool; the awaited slots.
 use datatypes::Head;
 use datatypes::Link;
 use datatypes::Reader;

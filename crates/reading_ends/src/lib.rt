@@ -5,8 +5,8 @@ ghost use mathlib.Core.Bool.{true};
 ghost use Prim.Native.Nat.{_<_, _≤_, _+_, _*_};
 ghost use lib.Dec.{eqb};
 ghost use lib.ListN.{length};
-ghost use Rattle.reading_ends.specs.Retired.{Bounded, Next};
-ghost use Rattle.spec.specs.Numbers.{nodeWords, mostNodes, poolLimit, slots, wordBits};
+ghost use Rattle.reading_ends.specs.Retired.{Bounded, Span, Width, Past, Next};
+ghost use Rattle.spec.specs.Numbers.{nodeWords, poolLimit, slots, wordBits};
 ghost use Rattle.spec.specs.Pool.{word, standingWord, standingRetired};
 ghost use Rattle.datatypes.specs.declared.Register.{Register};
 ghost use Rattle.heads.specs.Head.{at, Follows};
@@ -53,9 +53,40 @@ fn thirty_two_standings(pool: &[u32], n: usize) -> u32
     sixteen_standings(pool, n) | sixteen_standings(pool, n + 16)
 }
 
-// The first retired node from n on, node by node; past the last if there is none.
+// how many nodes are looked at by one test, first and where one of them may be retired
+const WIDE: usize = 32;
+
+const NARROW: usize = 8;
+
+// The same of so many nodes.
+fn standings(pool: &[u32], n: usize, width: usize) -> u32
+    requires { ⌜ Width width × (1 ≤ n) × ((n + width) * nodeWords ≤ length (now pool) + nodeWords) ⌝ }
+    ensures { λ r. ⌜ Bounded (now (pool .entry)) n (n + width) r ⌝ }
+{
+    if width == WIDE {
+        return thirty_two_standings(pool, n);
+    }
+    eight_standings(pool, n)
+}
+
+// Passes over nodes of which none is retired, so many by one test; answers where it stopped.
+fn scan_blocks(pool: &[u32], from: usize, capacity: usize, width: usize) -> usize
+    requires { ⌜ Span (now pool) from capacity × Width width ⌝ }
+    ensures { λ r. ⌜ Past (now (pool .entry)) from capacity r ⌝ }
+{
+    let mut n = from;
+    while n + width <= capacity + 1 {
+        if standings(pool, n, width) > pool::LINKED {
+            return n;
+        }
+        n += width;
+    }
+    n
+}
+
+// Answers the first retired node from n on, node by node; past the last if there is none.
 fn scan_retired(pool: &[u32], from: usize, capacity: usize) -> usize
-    requires { ⌜ (1 ≤ from) × (from ≤ capacity + 1) × (capacity * nodeWords ≤ length (now pool)) × (capacity ≤ mostNodes) ⌝ }
+    requires { ⌜ Span (now pool) from capacity ⌝ }
     ensures { λ r. ⌜ Next (now (pool .entry)) from capacity r ⌝ }
 {
     let mut n = from;
@@ -68,39 +99,19 @@ fn scan_retired(pool: &[u32], from: usize, capacity: usize) -> usize
     n
 }
 
-// The same; eight nodes of which none is retired are passed over by one test.
-fn scan_eights(pool: &[u32], from: usize, capacity: usize) -> usize
-    requires { ⌜ (1 ≤ from) × (from ≤ capacity + 1) × (capacity * nodeWords ≤ length (now pool)) × (capacity ≤ mostNodes) ⌝ }
-    ensures { λ r. ⌜ Next (now (pool .entry)) from capacity r ⌝ }
-{
-    let mut n = from;
-    while n + 7 <= capacity {
-        if eight_standings(pool, n) > pool::LINKED {
-            return scan_retired(pool, n, capacity);
-        }
-        n += 8;
-    }
-    scan_retired(pool, n, capacity)
-}
-
-// The same; first thirty-two nodes are passed over by one test.
+// The same, by blocks of nodes.
 fn next_retired(pool: &[u32], from: usize, capacity: usize) -> usize
-    requires { ⌜ (1 ≤ from) × (from ≤ capacity + 1) × (capacity * nodeWords ≤ length (now pool)) × (capacity ≤ mostNodes) ⌝ }
+    requires { ⌜ Span (now pool) from capacity ⌝ }
     ensures { λ r. ⌜ Next (now (pool .entry)) from capacity r ⌝ }
 {
-    let mut n = from;
-    while n + 31 <= capacity {
-        if thirty_two_standings(pool, n) > pool::LINKED {
-            return scan_eights(pool, n, capacity);
-        }
-        n += 32;
-    }
-    scan_eights(pool, n, capacity)
+    let wide = scan_blocks(pool, from, capacity, WIDE);
+    let narrow = scan_blocks(pool, wide, capacity, NARROW);
+    scan_retired(pool, narrow, capacity)
 }
 
 // The same; first the node itself, since nodes retired one after the other often stand side by side.
 fn following_retired(pool: &[u32], from: usize, capacity: usize) -> usize
-    requires { ⌜ (1 ≤ from) × (from ≤ capacity + 1) × (capacity * nodeWords ≤ length (now pool)) × (capacity ≤ mostNodes) ⌝ }
+    requires { ⌜ Span (now pool) from capacity ⌝ }
     ensures { λ r. ⌜ Next (now (pool .entry)) from capacity r ⌝ }
 {
     if capacity < from {

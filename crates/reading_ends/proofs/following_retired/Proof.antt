@@ -1,7 +1,7 @@
 use Prim.Native.Nat.{_+_, _-_, _*_}
 use native.Mathlib.Omega.{arith}
 use Rattle.spec.specs.Numbers.{nodeWords}
-use Rattle.reading_ends.specs.Retired.{standingBack, one-other, one-retired, next-past}
+use Rattle.reading_ends.specs.Retired.{standingBack, Past, one-other, one-retired, next-past}
 use borrow.Author.Needs.{needs}
 use Rattle.reading_ends.proofs.following_retired.Statement.{statement}
 use Rattle.reading_ends.proofs.following_retired.Tie as tie
@@ -49,8 +49,12 @@ next-retired-requires c κs = search needs
 returns-3 : tie.Need-returns-3
 returns-3 c =
     let a = c .before .before .before .before .before .args in
-    next-past (a .pool .now) (a .from) (a .from + 1) (a .capacity) (c .next-retired .result) (omega arith)
-    (one-other (a .pool .now) (a .from) (a .from * nodeWords - standingBack) (omega arith) (omega arith) (c .before .if2 .left)) (c .next-retired .ensures)
+    let past : Past (a .pool .now) (a .from) (a .capacity) (a .from + 1) = record {
+      low = omega arith;
+      high = search needs;
+      none = one-other (a .pool .now) (a .from) (a .from * nodeWords - standingBack) (omega arith) (omega arith) (c .before .if2 .left);
+    } in
+    next-past (a .pool .now) (a .from) (a .from + 1) (a .capacity) (c .next-retired .result) past (c .next-retired .ensures)
 
 pub following-retired-spec : {M : Type 1} → statement M
 following-retired-spec =
