@@ -1,7 +1,5 @@
-use Prim.Native.Nat.{_+_}
 use mathlib.Core.Path.{_≡_}
 use mathlib.Core.Logic.{⊎-elim}
-use Rattle.reading_ends.specs.Retired.{Bounded}
 use borrow.Author.Needs.{needs}
 use Rattle.reading_ends.proofs.standings.Statement.{statement}
 use Rattle.reading_ends.proofs.standings.Tie as tie
