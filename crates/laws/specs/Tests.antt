@@ -98,7 +98,7 @@ whole-length p h =
     let whole = eqb-true (length p % nodeWords) 0 (and-left (eqb (length p % nodeWords) 0) (leb leastNodes (nodes p)) (and-left a (leb (nodes p) mostNodes) h)) in
     omega arith
 
--- no node is in range
+-- node 0, which is no node, is in range
 pub none-fits : (p : List ℕ) (capacity : ℕ) → nodeInRange p capacity 0 ≡ true
 unfolding nodeInRange
 none-fits p capacity =

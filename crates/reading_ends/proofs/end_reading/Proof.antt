@@ -35,7 +35,7 @@ next-retired-requires c κs = search needs
 
 loop-holds : tie.Need-loop-holds Inv-loop μ-loop
 loop-holds c = let x = c .next-retired .ensures in let a = c .before .before .before .before .args in
-    (omega (arith, x .low), x .high, refl, x .here, λ q. sym (skip (a .s) 1 (c .next-retired .result) _ (at (a .pool .now) _ q) x))
+    (omega (arith, x .upTo .low), x .upTo .high, refl, x .here, λ q. sym (skip (a .s) 1 (c .next-retired .result) _ (at (a .pool .now) _ q) (x .upTo)))
 
 cast-release : tie.Need-cast-release Inv-loop μ-loop
 cast-release c = search needs
@@ -50,7 +50,7 @@ following-retired-requires : tie.Need-following-retired-requires Inv-loop μ-loo
 following-retired-requires c κs = search needs
 
 loop-less : tie.Need-loop-less Inv-loop μ-loop
-loop-less c = omega (arith, c .following-retired .ensures .low)
+loop-less c = omega (arith, c .following-retired .ensures .upTo .low)
 
 loop-again : tie.Need-loop-again Inv-loop μ-loop
 loop-again c =
@@ -61,8 +61,8 @@ loop-again c =
     let e = c4 .release in
     let l = c7 .loop in
     let s = c12 .args .s in (
-      omega (arith, x .low),
-      x .high,
+      omega (arith, x .upTo .low),
+      x .upTo .high,
       search needs,
       x .here,
       λ q. release-next s (l .n) (c .following-retired .result) _ (at (l .pool) (l .r) q) (at (e .last .0) (e .result) q) (omega arith) (e .ensures q) x

@@ -12,9 +12,7 @@ use Rattle.reading_ends.proofs.next_retired.Reads as next-retired-reads
 returns : tie.Need-returns
 returns c =
     record {
-      low = omega arith;
-      high = search needs;
-      none = λ i a b. absurd (let z : ⊥ = omega arith in z);
+      upTo = record { low = omega arith; high = search needs; none = λ i a b. absurd (let z : ⊥ = omega arith in z) };
       here = λ h. absurd (let z : ⊥ = omega (arith, c .if1 .taken) in z);
     }
 
@@ -34,9 +32,7 @@ returns-2 : tie.Need-returns-2
 returns-2 c =
     let a = c .before .before .before .before .args in
     record {
-      low = omega arith;
-      high = search needs;
-      none = λ i u v. absurd (let z : ⊥ = omega arith in z);
+      upTo = record { low = omega arith; high = search needs; none = λ i u v. absurd (let z : ⊥ = omega arith in z) };
       here = λ h. one-retired (a .pool .now) (a .from) (a .from * nodeWords - standingBack) (omega arith) (omega arith) (c .if2 .taken);
     }
 
