@@ -5,7 +5,7 @@ use datatypes::Reply;
 use datatypes::Write;
 ghost use mathlib.Core.Path.{_≡_};
 ghost use mathlib.Core.Bool.{false};
-ghost use Prim.Native.Nat.{_<_};
+ghost use Prim.Native.Nat.{ℕ, _<_};
 ghost use Rattle.datatypes.specs.declared.Place.the-variants.{Held, Empty};
 ghost use Rattle.spec.specs.Register.{state, withWrite};
 ghost use Rattle.laws.specs.Tests.{lentNumber};
@@ -37,6 +37,19 @@ pub fn insert_at(pool: &[u32], reg: Register, k: u32, v: u32, l: Link) -> Reply
     }
     let write = plan.write;
     accepted(reg, write)
+}
+
+// Tests and plans an insert of a held key, whose node the link l holds, after the tests of the search (document 02, C-13). Keys held don't grow: a
+// full index is no refusal.
+pub fn replace_at(pool: &[u32], reg: Register, k: u32, v: u32, l: Link) -> Reply
+    requires { ⌜ (lentNumber (state (now pool) reg) ≡ 0) × (writeInHand (state (now pool) reg) ≡ false) × ((n : ℕ) × (placeOf (state (now pool) reg) k ≡ Held l n)) ⌝ }
+    ensures { λ r. ⌜ accepts (r .answer) ≡ insert (state (now (pool .entry)) reg) k v .answer ⌝ }
+    ensures { λ r. ⌜ state (now (pool .entry)) (r .register) ≡ insert (state (now (pool .entry)) reg) k v .after ⌝ }
+{
+    if reg.free < numbers::FREE_FOR_INSERT {
+        return replies::refused(11, reg);
+    }
+    accepted(reg, plans::replace_plan(v, l))
 }
 
 // Tests and plans a delete of node n, which the link l holds, after the tests of the search.

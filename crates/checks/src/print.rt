@@ -104,7 +104,7 @@ fn steps(counts: &[u64]) {
     line(b"store insert", tally::get(counts, tally::STEPS));
     line(b"store unlink", tally::get(counts, tally::STEPS + 1));
     line(b"store adopt", tally::get(counts, tally::STEPS + 2));
-    line(b"store replace", tally::get(counts, tally::STEPS + 3));
+    line(b"store promote", tally::get(counts, tally::STEPS + 3));
     line(b"store publish", tally::get(counts, tally::STEPS + 4));
     line(b"store detach", tally::get(counts, tally::STEPS + 5));
 }

@@ -18,7 +18,7 @@ use Rattle.spec.specs.Free.{takeFree, fillNode, takeNode, freeNode, retire, rel
 use Rattle.spec.specs.Search.{seek, trail, leftmost}
 use Rattle.spec.specs.Plan.{insertFixup, fixupAfterInsert, paintInsertFixup, deleteFixup, fixupAfterRemoval, paintDeleteLevels, paintDeleteFixup}
 use Rattle.spec.specs.Plan.{insertPlan, unlinkPlan, deletePlan}
-use Rattle.spec.specs.Turn.{insertStore, unlinkStore, adoptStore, replaceStore, stepFinds, stepMade}
+use Rattle.spec.specs.Turn.{insertStore, unlinkStore, adoptStore, promoteStore, stepFinds, stepMade}
 use Rattle.spec.specs.Calls.{insert, delete, stored, writerTurn, begin, readerStep, readerTurn}
 use Rattle.datatypes.specs.declared.Kind.the-variants as kind
 use Rattle.spec.specs.Calls.{ok, absent, next, Call, inserting, deleting, writing, beginning, turning, givingUp, call, reading}
@@ -109,7 +109,7 @@ pub computed : Computed
 unfolding after rel allFrom allIn foldFrom foldIn word setWord nodeInRange poolInRange lengthRight freshNodes freshPool withRoot withQueue withHeld
     withReader withAwaited withWrite nodeAt setLink putSlot dropSlot readingSlots storeInRange registerInRange freshRegister fresh writeOf lessFirst takeFree fillNode
     takeNode freeNode retire release endReading seek trail insertFixup fixupAfterInsert paintInsertFixup deleteFixup fixupAfterRemoval paintDeleteLevels paintDeleteFixup
-    insertPlan unlinkPlan deletePlan leftmost unlinkStore adoptStore replaceStore insertStore stepFinds stepMade insert delete stored writerTurn begin readerStep readerTurn
+    insertPlan unlinkPlan deletePlan leftmost unlinkStore adoptStore promoteStore insertStore stepFinds stepMade insert delete stored writerTurn begin readerStep readerTurn
 computed = record {
   accepted = refl;
   readers1 = refl;

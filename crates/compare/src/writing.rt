@@ -172,7 +172,7 @@ pub fn step_row(step: Step) -> usize {
         Step::ZigRaise(side, purpose) => rotation_row(4, side, purpose),
         Step::Unlink => tally::STEPS + 1,
         Step::Adopt => tally::STEPS + 2,
-        Step::Replace => tally::STEPS + 3,
+        Step::Promote => tally::STEPS + 3,
         Step::Publish(_) => tally::STEPS + 4,
         Step::Detach(_) => tally::STEPS + 5,
     }

@@ -4,7 +4,7 @@
 // absent, E give up, W a writer's turn that answers wait. Of a search for the next ticket: S begin, L R a turn that answers go at a greater
 // key (to the left, remembering it) and at a smaller one (to the right), N O a turn that answers next and none.
 // A small letter is a writer's turn, by its store: i insert under a black parent, j with colours above alone, k with a rotation to come;
-// d e diag lower, raise; x y z zig lower A, lower C, raise; u unlink, a adopt, r replace, p publish, t detach.
+// d e diag lower, raise; x y z zig lower A, lower C, raise; u unlink, a adopt, r promote, p publish, t detach.
 // SIZE: s m l: N 8, 128, 1,023, with about N / 2 − 1 keys; v: N 128, a damaged tree with a path of 64 nodes.
 // MODE: 1,000 times, 0: the pool is put back, 1: and the call is made. SLOT: the slot of a reader's call, 0 or 1; in a writer's turn 1: slot 1
 // reads, so that a node let go is retired, 0: none does.
@@ -73,7 +73,7 @@ fn letter_of(step: Step) -> u8 {
         Step::ZigRaise(_, _) => b'z',
         Step::Unlink => b'u',
         Step::Adopt => b'a',
-        Step::Replace => b'r',
+        Step::Promote => b'r',
         Step::Publish(_) => b'p',
         Step::Detach(_) => b't',
     }

@@ -40,14 +40,16 @@ pub struct Rotation {
 // What one planned store does, with what its filling needs. The nodes are those of document 01's steps.
 // Vacant: no store is planned here.
 // Insert(key, record): links a new red node.
+// Replace(record): B's link from above := B', a copy of B with this record.
 // DiagLower, DiagRaise: B's inner link := C'; the link from above := B.
 // ZigLowerA, ZigLowerC, ZigRaise: B's link := A'; B's other link := C'; the link from above := B.
 // Unlink: B's link from above := its only child, or 0.
-// Adopt, Replace: C's left := B's left; B's link from above := C.
+// Adopt, Promote: C's left := B's left; B's link from above := C.
 // Publish(C), Detach(key): B's link from above := C'; F's left := C's right. The key is B's, by which the place is found again.
 pub enum Step {
     Vacant,
     Insert(u32, u32),
+    Replace(u32),
     DiagLower(Side, Purpose),
     DiagRaise(Side, Purpose),
     ZigLowerA(Side, Purpose),
@@ -55,7 +57,7 @@ pub enum Step {
     ZigRaise(Side, Purpose),
     Unlink,
     Adopt,
-    Replace,
+    Promote,
     Publish(u32),
     Detach(u32),
 }

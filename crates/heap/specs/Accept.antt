@@ -34,8 +34,8 @@ use Rattle.heap.specs.Fixups.{insertFixupOf, formOf, numOf, insertFixupE
 use Rattle.heap.specs.DeleteFixupRun.{deleteFixupOf}
 use Rattle.heap.specs.Places.{wayToC, copiedWay}
 use Rattle.heap.specs.Phase.{DiagFor, forInsert, onBlackSibling, onRedSibling, followStores, removalEnding, Phases, at-rest, diag-0, diag-1, zig-0, zig-1}
-use Rattle.heap.specs.Phase.{zig-2, insert-0, unlink-0, adopt-0, replace-0, publish-0, detach-0}
-use Rattle.heap.specs.Plans.{Rest, Placed, empty-at, held-at, placed, Planned, insert-planned}
+use Rattle.heap.specs.Phase.{zig-2, insert-0, replace-0, unlink-0, adopt-0, promote-0, publish-0, detach-0}
+use Rattle.heap.specs.Plans.{Rest, Placed, empty-at, held-at, placed, Planned, insert-planned, replace-planned}
 use Rattle.heap.specs.DeletePlans.{delete-planned}
 use Rattle.heap.specs.Writes.{InHand, with-root, with-write}
 
@@ -76,9 +76,10 @@ phase-room (zig-0 w d h i) = omega arith
 phase-room (zig-1 w d m h i c) = omega arith
 phase-room (zig-2 w d m n h i c e u) = omega arith
 phase-room {f = f} (insert-0 k v way h i) = let a = insert-ending-room (insertFixupOf f way .end) (pairsUp (insertFixupOf f way .levels) way) in omega arith
+phase-room (replace-0 v way B l r h i) = omega arith
 phase-room {f = f} (unlink-0 d h i) = let a = removal-room (f (d .B .num)) f (colourOf (erase f (d .only))) (d .way) in omega arith
 phase-room {f = f} (adopt-0 d h i) = let a = removal-room (f (d .C .num)) f (colourOf (erase f (d .right))) (wayToC d []) in omega arith
-phase-room {f = f} (replace-0 d h i) = let a = removal-room (f (d .C .num)) f (colourOf (erase f (d .right))) (wayToC d []) in omega arith
+phase-room {f = f} (promote-0 d h i) = let a = removal-room (f (d .C .num)) f (colourOf (erase f (d .right))) (wayToC d []) in omega arith
 phase-room {f = f} (publish-0 d down h i) = let a = removal-room (f (d .C .num)) f (colourOf (erase f (d .right))) (wayToC d down) in omega arith
 phase-room {f = f} (detach-0 d down n h i) = let a = removal-room (f (d .C .num)) f (colourOf (erase f (d .right))) (copiedWay d down n) in omega arith
 
@@ -111,14 +112,14 @@ searched st T k h = record { not-deep = deep (placed st T k h); is-held = held (
     held (empty-at fs e i n) = rw n
     held (held-at fs N l r e i q n) = rw n
 
--- a key that is not held: insert's plan
-pub insert-possible : (st : State) (T : Linked) (k v : ℕ) → Rest st T → find T k ≡ none
+-- insert's plan, of a key that is not held and of one that is
+pub insert-possible : (st : State) (T : Linked) (k v : ℕ) → Rest st T
     → Planned st (SeqInsert.insert (erase (colours (st .pool)) T) k v) T (insertAt st k v (placeOf st k))
-insert-possible st T k v h n = go (placed st T k h)
+insert-possible st T k v h = go (placed st T k h)
   where
     go : {x : Place} → Placed T k x → Planned st (SeqInsert.insert (erase (colours (st .pool)) T) k v) T (insertAt st k v x)
     go (empty-at fs e i q) = rw (sym e) (insert-planned st k v fs (rw e h) i)
-    go (held-at fs N l r e i q m) = let z : _≡_ {A = Option ℕ} none (some (N .val)) = sym n ∙ m in let y : _≡_ {A = ℕ} 0 1 = cc in absurd (omega arith)
+    go (held-at fs N l r e i q m) = rw (sym e, q) (replace-planned st v fs N l r (rw e h))
 
 -- a key that is held: delete's plan
 pub delete-possible : (st : State) (T : Linked) (k v : ℕ) → Rest st T → find T k ≡ some v

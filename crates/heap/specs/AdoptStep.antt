@@ -6,7 +6,7 @@ use mathlib.Core.List.{List, [], _∷_}
 use native.Mathlib.Omega.{arith}
 use Rattle.datatypes.specs.declared.Side.the-variants.{L, R}
 use Rattle.datatypes.specs.declared.Link.the-variants.{Left}
-use Rattle.datatypes.specs.declared.Step.the-variants.{Adopt, Replace}
+use Rattle.datatypes.specs.declared.Step.the-variants.{Adopt, Promote}
 use Rattle.spec.specs.Pool.{child}
 use Rattle.spec.specs.Register.{State, setLink}
 use Rattle.spec.specs.Plan.{store}
@@ -23,7 +23,7 @@ use Rattle.heap.specs.Lowers.{is-node, Top, top-of, near-down, far-down,
 use Rattle.heap.specs.Raises.{Raised, raised-link}
 use Rattle.heap.specs.Parts.{unchanged, copied}
 use Rattle.heap.specs.Places.{Double, doubleTop, doubleTree, adopted, wayToC}
-use Rattle.heap.specs.Phase.{replace-0, DoublePlan, removalStores}
+use Rattle.heap.specs.Phase.{promote-0, DoublePlan, removalStores}
 use Rattle.heap.specs.Shift.{by-adopt, Next}
 use Rattle.heap.specs.Fixups.{rep-num}
 
@@ -66,7 +66,7 @@ module _ (st : State) (G : Tree) (d : Double) (h : At st (d .way) (doubleTop d [
       raised-link st (hole L C y ∷ hole R B l ∷ fs) nil l n (omega arith, omega arith, omega arith)
       (near-down st (hole R B l ∷ fs) L C nil y (far-down st fs L B l (at L C nil y) h)) (top .near)
 
-  pub adopt-0-next : Next st G (doubleTree d []) (adoptStore st (linkTo fs)) (store (linkTo fs) Adopt) (store (linkTo fs) Replace ∷ removalStores f C y (wayToC d []))
+  pub adopt-0-next : Next st G (doubleTree d []) (adoptStore st (linkTo fs)) (store (linkTo fs) Adopt) (store (linkTo fs) Promote ∷ removalStores f C y (wayToC d []))
   adopt-0-next =
       let after = setLink st (Left (C .num)) n in
       let e : colours (after .pool) ≡ f = fun-ext (colours-link st (Left (C .num)) n) in
@@ -75,7 +75,7 @@ module _ (st : State) (G : Tree) (d : Double) (h : At st (d .way) (doubleTop d [
         tree = plug fs (adopted d);
         gone = [];
         shift = rw (rep-num (st .pool) n l (top .near)) (by-adopt fs B C l y left-there (ordered-bare f _ (doubleTree d []) (good .proper .ordered)) (good .once));
-        phase = rw e (replace-0 d site plan);
+        phase = rw e (promote-0 d site plan);
         parts = copied st st _ (Left (C .num)) n [] unchanged refl;
         size = raised .size;
         held = raised .held;

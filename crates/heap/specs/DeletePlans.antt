@@ -10,7 +10,7 @@ use borrow.Author.Tests.{ne-eqb, eq-eqb}
 use native.Mathlib.Omega.{arith}
 use Rattle.datatypes.specs.declared.Side.{Side}
 use Rattle.datatypes.specs.declared.Side.the-variants.{L, R}
-use Rattle.datatypes.specs.declared.Step.the-variants.{Adopt, Replace, Publish, Detach}
+use Rattle.datatypes.specs.declared.Step.the-variants.{Adopt, Promote, Publish, Detach}
 use Rattle.datatypes.specs.Side.{other, linkAt}
 use Rattle.spec.specs.Numbers.{pathBound}
 use Rattle.spec.specs.Pool.{child, isRed}
@@ -180,7 +180,7 @@ module _ (st : State) (d : Double) (gs : List Frame) (along : Along L gs) (there
   -- the plan, but for the form
   two-plan : deletePlan st (linkTo fs) (B .num)
       ≡ cond (eqb (child (st .pool) L (child (st .pool) R (B .num))) 0)
-      (plan (store (linkTo fs) Adopt ∷ store (linkTo fs) Replace ∷ []) (removalEnding (f2 (C .num)) f2 (colourOf (erase f2 y)) old))
+      (plan (store (linkTo fs) Adopt ∷ store (linkTo fs) Promote ∷ []) (removalEnding (f2 (C .num)) f2 (colourOf (erase f2 y)) old))
       (plan (store (linkTo fs) (Publish (C .num)) ∷ store (linkTo fs) (Detach (B .key)) ∷ []) (removalEnding (f2 (C .num)) f2 (colourOf (erase f2 y)) old))
   unfolding deletePlan
   two-plan =

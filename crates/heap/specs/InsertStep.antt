@@ -24,7 +24,7 @@ use Rattle.tree.specs.Sorted.{NotLeaf}
 use Rattle.tree.specs.Changes.{changed-proper}
 use Rattle.tree.specs.Linked.{Node, Linked, nil, cell, at, nodes}
 use Rattle.tree.specs.LinkedOrder.{ordered-bare}
-use Rattle.tree.specs.Zipper.{Frame, hole, plug, find-into, sameBut-lift}
+use Rattle.tree.specs.Zipper.{Frame, hole, plug, sameBut-lift}
 use Rattle.tree.specs.Stores.{insert-find}
 use Rattle.tree.specs.Erase.{erase, eraseWay, erase-plug, erase-find}
 use Rattle.tree.specs.Height.{mostHeight}
@@ -176,7 +176,7 @@ module _ (st : State) (G : Tree) (k v : ℕ) (fs : List Frame) (h : At st fs nil
       let once : Once T = once-turnover [] n (plug fs nil) T (turnover-plug fs [] (n ∷ []) nil (cell Z nil nil) (insert-turnover Z)) (good .once) (fresh .new) in
       let ordered = writes-whole fs nil (cell Z nil nil) into (insertion-writes Z) .ordered (ordered-bare f _ (plug fs nil) (good .proper .ordered)) in
       let told : Told G T = told-insert G (erase f (plug fs nil)) k v (plug fs nil) T goal (good .proper .ordered) (erase-find f (plug fs nil))
-      (find-into fs nil k into) (sameBut-lift fs into (insert-find Z)) in
+      (sameBut-lift fs into (insert-find Z)) in
       let lined : Lined G (plug U u) = rw same (record { once = once; ordered = ordered; told = told }) in
       let proper : Proper G = rw goal (changed-proper (erase f (plug fs nil)) (insertion k v) (good .proper)) in
       insertFixup-phase coloured G T once proper U (insertFixupOf f fs .end) u stops (pairTreeUp-there gg levels fs (cell Z nil nil) tt) same

@@ -20,13 +20,14 @@ pub mod TurnSteps
 pub mod RaiseSteps
 pub mod Inserts
 pub mod InsertStep
+pub mod ReplaceStep
 pub mod Removals
 pub mod RemovalCore
 pub mod RemovalFixup
 pub mod UnlinkStep
 pub mod AdoptStep
 pub mod Swap
-pub mod ReplaceStep
+pub mod PromoteStep
 pub mod Rename
 pub mod DetachStep
 pub mod PublishStep

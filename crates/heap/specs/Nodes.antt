@@ -10,18 +10,18 @@ use Rattle.datatypes.specs.declared.Store.{Store}
 use Rattle.sequential.specs.Tree as Seq
 use Rattle.sequential.specs.Proper.{Ordered}
 use Rattle.sequential.specs.Tree.{Colour, Tree}
-use Rattle.tree.specs.Linked.{find, copy, Linked, nil, at, nodes}
+use Rattle.tree.specs.Linked.{find, copy, replacement, Linked, nil, cell, at, nodes}
 use Rattle.tree.specs.LinkedOrder.{bare, ordered-within}
 use Rattle.tree.specs.Zipper.{plug, same-lift}
 use Rattle.tree.specs.Erase.{erase-find}
-use Rattle.tree.specs.Occurs.{occ, occ-at, occ-plug, turnover-plug, diag-turnover, zig-turnover}
+use Rattle.tree.specs.Occurs.{occ, occ-at, occ-plug, turnover-plug, replace-turnover, diag-turnover, zig-turnover}
 use Rattle.tree.specs.Rotations.{diag₀, diag₂, zig₀, zig₃, diag-lower-find, zig-order, zig-lower-A-find, zig-lower-C-find}
 use Rattle.tree.specs.Successor.{third₀}
 use Rattle.heap.specs.Moves.{new-apart}
 use Rattle.heap.specs.Tolds.{Told}
 use Rattle.heap.specs.Places.{diagTop, diagLow, Zig, zigTop, zigTree, zigLowA, zigLowC}
-use Rattle.heap.specs.Phase.{Phases, at-rest, diag-0, diag-1, zig-0, zig-1, zig-2, insert-0, unlink-0, adopt-0, replace-0, publish-0, detach-0}
-use Rattle.heap.specs.Shift.{Shift, by-insert, by-diag-lower, by-diag-raise, by-zig-A, by-zig-C, by-zig-raise, by-unlink, by-adopt, by-replace, by-publish, by-detach, isListStore}
+use Rattle.heap.specs.Phase.{Phases, at-rest, diag-0, diag-1, zig-0, zig-1, zig-2, insert-0, replace-0, unlink-0, adopt-0, promote-0, publish-0, detach-0}
+use Rattle.heap.specs.Shift.{Shift, by-insert, by-replace, by-diag-lower, by-diag-raise, by-zig-A, by-zig-C, by-zig-raise, by-unlink, by-adopt, by-promote, by-publish, by-detach, isListStore}
 use Rattle.heap.specs.AdoptStep.{form-count}
 use Rattle.heap.specs.DetachStep.{third-count}
 
@@ -34,6 +34,7 @@ pub record NodeCounts (a b new gone : ℕ) : Type 0 where
 
 pub shift-nodes : {T U : Linked} {l : Link} {b : ℕ} {new gone : List ℕ} {v a : Bool} → Shift T U l b new gone v a → (i : ℕ) → NodeCounts (occ i (nodes T)) (occ i (nodes U)) (occ i new) (occ i gone)
 shift-nodes (by-insert fs Z j z) i = simp (occ-plug, occ-at) (omega arith)
+shift-nodes (by-replace fs B n v l r j z) i = simp (occ-plug, occ-at) (omega arith)
 shift-nodes (by-diag-lower fs s B C n o x r h j z) i = simp (occ-plug, occ-at) (omega arith)
 shift-nodes (by-diag-raise fs s B C n o x r h j z) i = simp (occ-plug, occ-at) (omega arith)
 shift-nodes (by-zig-A fs s A B C m a x y r h j z) i = simp (occ-plug, occ-at) (omega arith)
@@ -41,13 +42,19 @@ shift-nodes (by-zig-C fs s A B C m n a x y r h j z k d) i = simp (occ-plug, occ-
 shift-nodes (by-zig-raise fs s A B C m n a x y r h j z k d) i = simp (occ-plug, occ-at) (omega arith)
 shift-nodes (by-unlink fs s B x h j) i = simp (occ-plug, occ-at) (omega arith)
 shift-nodes (by-adopt fs B C l y a h j) i = simp (occ-plug, occ-at) (omega arith)
-shift-nodes (by-replace fs B C l y h j) i = simp (occ-plug, occ-at) (omega arith)
+shift-nodes (by-promote fs B C l y h j) i = simp (occ-plug, occ-at) (omega arith)
 shift-nodes (by-publish fs gs B C n l y a h j z) i = simp (occ-plug, occ-at) (omega arith)
 shift-nodes (by-detach fs gs B C n l y a h j z) i = simp (occ-plug, occ-at) (omega arith)
 
 -- what leaves is no more in the tree
 pub shift-left : {T U : Linked} {l : Link} {b : ℕ} {new gone : List ℕ} {v a : Bool} → Shift T U l b new gone v a → (i : ℕ) → 0 < occ i gone → occ i (nodes U) ≡ 0
 shift-left (by-insert fs Z j z) i q = absurd (omega arith)
+shift-left (by-replace fs B n v l r j z) i q =
+    let T = plug fs (cell B l r) in
+    let a = turnover-plug fs (B .num ∷ []) (n ∷ []) (cell B l r) (cell (replacement B n v) l r) (replace-turnover B n v l r) i in
+    let k = new-apart i n (nodes T) z (simp (occ-plug, occ-at) (omega arith)) in
+    let o = j i in
+    omega arith
 shift-left (by-diag-lower fs s B C n o x r h j z) i q = absurd (omega arith)
 shift-left (by-diag-raise fs s B C n o x r h j z) i q =
     let a = turnover-plug fs (C .num ∷ []) (n ∷ []) (diag₀ s B C n o x r) (diag₂ s B C n o x r) (diag-turnover s B C n o x r) i in
@@ -66,7 +73,7 @@ shift-left (by-zig-raise fs s A B C m n a x y r h j z k d) i q =
     omega arith
 shift-left (by-unlink fs s B x h j) i q = let a = occ-plug fs (at s B x nil) i in let b = occ-at s B x nil i in let c = occ-plug fs x i in let o = j i in omega arith
 shift-left (by-adopt fs B C l y a h j) i q = absurd (omega arith)
-shift-left (by-replace fs B C l y h j) i q = let a = form-count fs B C l nil y i in let b = occ-plug fs (at L C l y) i in let c = occ-at L C l y i in let o = j i in omega arith
+shift-left (by-promote fs B C l y h j) i q = let a = form-count fs B C l nil y i in let b = occ-plug fs (at L C l y) i in let c = occ-at L C l y i in let o = j i in omega arith
 shift-left (by-publish fs gs B C n l y a h j z) i q =
     let a = third-count fs gs B C l y i in
     let b = third-count fs gs (copy C n) C l y i in
@@ -107,8 +114,9 @@ phase-told (zig-0 w d h i) n q = i .lined .told q
 phase-told (zig-1 w d m h i c) n q = zig-told d m 0 (i .lined .ordered) q .0 ∙ i .lined .told q
 phase-told (zig-2 w d m k h i c e u) n q = zig-told d m k (i .lined .ordered) q .1 ∙ zig-told d m k (i .lined .ordered) q .0 ∙ i .lined .told q
 phase-told (insert-0 k v way h i) n q = absurd (false≢true (sym (n .0)))
+phase-told (replace-0 v way B l r h i) n q = absurd (false≢true (sym (n .0)))
 phase-told (unlink-0 d h i) n q = absurd (false≢true (sym (n .0)))
 phase-told (adopt-0 d h i) n q = absurd (false≢true (sym (n .1 .0)))
-phase-told (replace-0 d h i) n q = absurd (false≢true (sym (n .0)))
+phase-told (promote-0 d h i) n q = absurd (false≢true (sym (n .0)))
 phase-told (publish-0 d down h i) n q = absurd (false≢true (sym (n .0)))
 phase-told (detach-0 d down k h i) n q = i .told q

@@ -12,7 +12,7 @@ use Rattle.datatypes.specs.declared.Purpose.the-variants.{ForInsert, RedSibling
 use Rattle.datatypes.specs.declared.Ending.{Ending}
 use Rattle.datatypes.specs.declared.Ending.the-variants.{Balanced}
 use Rattle.datatypes.specs.declared.Step.{Step}
-use Rattle.datatypes.specs.declared.Step.the-variants.{Insert, DiagLower, DiagRaise, ZigLowerA, ZigLowerC, ZigRaise, Unlink, Adopt, Replace, Publish, Detach}
+use Rattle.datatypes.specs.declared.Step.the-variants.{Insert, Replace, DiagLower, DiagRaise, ZigLowerA, ZigLowerC, ZigRaise, Unlink, Adopt, Promote, Publish, Detach}
 use Rattle.datatypes.specs.declared.Store.{Store}
 use Rattle.datatypes.specs.Side.{other, linkAt}
 use Rattle.spec.specs.Plan.{store, turnStores, endingStores}
@@ -22,7 +22,7 @@ use Rattle.sequential.specs.Tree.{Colour, red, black, Tree, mk, colourOf}
 use Rattle.sequential.specs.Insert as SeqInsert
 use Rattle.sequential.specs.Delete.{blackOuter, afterRemoval, delete}
 use Rattle.tree.specs.Sorted.{NotLeaf}
-use Rattle.tree.specs.Linked.{Node, Linked, nil, at, NotNil, nodes}
+use Rattle.tree.specs.Linked.{Node, Linked, nil, cell, at, NotNil, nodes}
 use Rattle.tree.specs.LinkedOrder.{bare}
 use Rattle.tree.specs.Zipper.{Frame, plug, Into, Along}
 use Rattle.tree.specs.Erase.{erase, eraseWay}
@@ -149,6 +149,11 @@ module _ (f : ℕ → Colour) (G : Tree) where
     pub into : Into k way
     pub goal : G ≡ SeqInsert.insert (erase f (plug way nil)) k v
 
+  -- B's key is held: its record becomes v
+  pub record ReplacePlan (v : ℕ) (way : List Frame) (B : Node) (l r : Linked) : Type 0 where
+    pub sound : SoundBy f (plug way (cell B l r))
+    pub goal : G ≡ SeqInsert.insert (erase f (plug way (cell B l r))) (B .key) v
+
   pub record UnlinkPlan (d : Single) : Type 0 where
     pub sound : SoundBy f (singleTree d)
     pub proper : Proper G
@@ -229,6 +234,14 @@ module _ (p : List ℕ) (root : ℕ) (f : ℕ → Colour) (G : Tree) where
     --   insert-0           at rest, or a rotation above
     insert-0 : (k v : ℕ) (way : List Frame) → Site p root way nil → InsertPlan f G k v way → Phases (plug way nil) (store (linkTo way) (Insert k v) ∷ endingStores (insertEnding f way))
     --
+    --       B                 B'
+    --      / \    replace    / \
+    --     l   r     -->     l   r
+    --
+    --   replace-0           at rest
+    replace-0 : (v : ℕ) (way : List Frame) (B : Node) (l r : Linked) → Site p root way (cell B l r) → ReplacePlan f G v way B l r
+        → Phases (plug way (cell B l r)) (store (linkTo way) (Replace v) ∷ [])
+    --
     --       B
     --      /       unlink
     --     x         -->      x
@@ -238,15 +251,15 @@ module _ (p : List ℕ) (root : ℕ) (f : ℕ → Colour) (G : Tree) where
         → Phases (singleTree d) (store (linkTo (d .way)) Unlink ∷ removalStores f (d .B) (d .only) (d .way))
     --
     --     B                   B
-    --    / \      adopt      / \      replace     C
+    --    / \      adopt      / \      promote     C
     --   l   C      -->      l   C       -->      / \
     --        \                 / \              l   y
     --         y               l   y
-    --   adopt-0            replace-0          at rest, or rotations above y
+    --   adopt-0            promote-0          at rest, or rotations above y
     adopt-0 : (d : Double) → Site p root (d .way) (doubleTop d []) → DoublePlan f G d []
-        → Phases (doubleTree d []) (store (linkTo (d .way)) Adopt ∷ store (linkTo (d .way)) Replace ∷ removalStores f (d .C) (d .right) (wayToC d []))
-    replace-0 : (d : Double) → Site p root (d .way) (adopted d) → DoublePlan f G d []
-        → Phases (plug (d .way) (adopted d)) (store (linkTo (d .way)) Replace ∷ removalStores f (d .C) (d .right) (wayToC d []))
+        → Phases (doubleTree d []) (store (linkTo (d .way)) Adopt ∷ store (linkTo (d .way)) Promote ∷ removalStores f (d .C) (d .right) (wayToC d []))
+    promote-0 : (d : Double) → Site p root (d .way) (adopted d) → DoublePlan f G d []
+        → Phases (plug (d .way) (adopted d)) (store (linkTo (d .way)) Promote ∷ removalStores f (d .C) (d .right) (wayToC d []))
     --
     --     B                  C'                 C'
     --    / \     publish    / \     detach     / \
@@ -273,9 +286,10 @@ phases-alike a root f G (zig-0 w d h i) = zig-0 w d (site-alike a root (d .way) 
 phases-alike a root f G (zig-1 w d m h i c) = zig-1 w d m (site-alike a root (d .way) _ h) i c
 phases-alike a root f G (zig-2 w d m n h i c e u) = zig-2 w d m n (site-alike a root (d .way) _ h) i c e u
 phases-alike a root f G (insert-0 k v way h i) = insert-0 k v way (site-alike a root way nil h) i
+phases-alike a root f G (replace-0 v way B l r h i) = replace-0 v way B l r (site-alike a root way _ h) i
 phases-alike a root f G (unlink-0 d h i) = unlink-0 d (site-alike a root (d .way) _ h) i
 phases-alike a root f G (adopt-0 d h i) = adopt-0 d (site-alike a root (d .way) _ h) i
-phases-alike a root f G (replace-0 d h i) = replace-0 d (site-alike a root (d .way) _ h) i
+phases-alike a root f G (promote-0 d h i) = promote-0 d (site-alike a root (d .way) _ h) i
 phases-alike a root f G (publish-0 d down h i) = publish-0 d down (site-alike a root (d .way) _ h) i
 phases-alike a root f G (detach-0 d down n h i) = detach-0 d down n (site-alike a root (d .way) _ h) i
 
@@ -293,8 +307,9 @@ phase-rep {p} {root} (zig-0 w d h i) = of-site p root (d .way) _ h
 phase-rep {p} {root} (zig-1 w d m h i c) = of-site p root (d .way) _ h
 phase-rep {p} {root} (zig-2 w d m n h i c e u) = of-site p root (d .way) _ h
 phase-rep {p} {root} (insert-0 k v way h i) = of-site p root way _ h
+phase-rep {p} {root} (replace-0 v way B l r h i) = of-site p root way _ h
 phase-rep {p} {root} (unlink-0 d h i) = of-site p root (d .way) _ h
 phase-rep {p} {root} (adopt-0 d h i) = of-site p root (d .way) _ h
-phase-rep {p} {root} (replace-0 d h i) = of-site p root (d .way) _ h
+phase-rep {p} {root} (promote-0 d h i) = of-site p root (d .way) _ h
 phase-rep {p} {root} (publish-0 d down h i) = of-site p root (d .way) _ h
 phase-rep {p} {root} (detach-0 d down n h i) = of-site p root (d .way) _ h

@@ -121,12 +121,12 @@ module _ (d : Double) where
   abbrev pub doubleTree : List Frame → Linked
   doubleTree down = plug way (third₀ L B C 0 l y down)
 
-  -- the second form: adopted, replaced
+  -- the second form: adopted, promoted
   abbrev pub adopted : Linked
   adopted = form₁ L B C l y
 
-  abbrev pub replaced : Linked
-  replaced = form₂ L B C l y
+  abbrev pub promoted : Linked
+  promoted = form₂ L B C l y
 
   -- the third form: published, detached
   abbrev pub published : List Frame → ℕ → Linked

@@ -10,7 +10,7 @@ use Rattle.datatypes.specs.declared.Place.{Place}
 use Rattle.datatypes.specs.declared.Place.the-variants.{Held, Empty}
 use Rattle.spec.specs.Pool.{isRed}
 use Rattle.spec.specs.Register.{State}
-use Rattle.spec.specs.Plan.{Plan, insertPlan, fixupAfterRemoval}
+use Rattle.spec.specs.Plan.{Plan, insertPlan, replacePlan, fixupAfterRemoval}
 use Rattle.spec.specs.Calls.{placeOf}
 use Rattle.sequential.specs.Tree.{Colour, red, black, Tree}
 use Rattle.sequential.specs.Insert as SeqInsert
@@ -26,7 +26,7 @@ use Rattle.heap.specs.Colours.{redly, colours}
 use Rattle.heap.specs.Paths.{HasKey, seek-place, Located, located}
 use Rattle.heap.specs.Fixups.{Sides}
 use Rattle.heap.specs.Moves.{At}
-use Rattle.heap.specs.Phase.{removalEnding, SoundIn, Phase, insert-0}
+use Rattle.heap.specs.Phase.{removalEnding, SoundIn, Phase, insert-0, replace-0}
 use Rattle.heap.specs.Inserts.{Small, way-short, once-way, insert-fixup, insertFixup-stops, stops-there}
 use Rattle.heap.specs.RemovalFixup.{removal-red, removal-black}
 
@@ -75,6 +75,11 @@ insert-planned st k v fs h i =
     let c = insert-fixup st k fs (site .way) i (once-way fs nil (h .sound .once)) (omega arith) in
     let s = insertFixup-stops f fs (insert-fixup-finds (eraseWay f fs) (rw (erase-plug f fs nil) at (h .sound .proper .redblack))) in
     rw c record { possible = rw (stops-there s); phase = insert-0 k v fs site (record { sound = h .sound; into = i; goal = refl }) }
+
+pub replace-planned : (st : State) (v : ℕ) (fs : List Frame) (B : Node) (l r : Linked) → Rest st (plug fs (cell B l r))
+    → Planned st (SeqInsert.insert (erase (colours (st .pool)) (plug fs (cell B l r))) (B .key) v) (plug fs (cell B l r)) (replacePlan v (linkTo fs))
+replace-planned st v fs B l r h =
+    record { possible = refl; phase = replace-0 v fs B l r (rest-at h fs (cell B l r) refl) (record { sound = h .sound; goal = refl }) }
 
 -- the ending that a removal's fix-up plans
 pub removal-ending : (p : List ℕ) (n x : ℕ) (c : Colour) (fs : List Frame) → isRed p x ≡ redly c → Sides p fs → (colours p n ≡ black → DeleteFixupFinds c (eraseWay (colours p) fs))

@@ -22,7 +22,7 @@ use Rattle.tree.specs.Zipper.{Frame, Same}
 use Rattle.tree.specs.Erase.{erase}
 use Rattle.heap.specs.Tolds.{Told}
 use Rattle.heap.specs.Places.{wayToC}
-use Rattle.heap.specs.Phase.{insertEnding, removalEnding, Phases, diag-0, diag-1, zig-0, zig-1, zig-2, insert-0, unlink-0, adopt-0, replace-0, publish-0, detach-0, removalStores}
+use Rattle.heap.specs.Phase.{insertEnding, removalEnding, Phases, diag-0, diag-1, zig-0, zig-1, zig-2, insert-0, replace-0, unlink-0, adopt-0, promote-0, publish-0, detach-0, removalStores}
 use Rattle.heap.specs.Shift.{isListStore, later}
 use Rattle.heap.specs.Effects.{shift-same}
 use Rattle.heap.specs.Nodes.{Settled, phase-told}
@@ -61,9 +61,10 @@ phase-settles (zig-0 w d h i) q = no q
 phase-settles (zig-1 w d m h i c) q = no q
 phase-settles (zig-2 w d m n h i c e u) q = no q
 phase-settles {f = f} (insert-0 k v way h i) q = ending-settled (insertEnding f way)
+phase-settles (replace-0 v way B l r h i) q = tt
 phase-settles {f = f} (unlink-0 d h i) q = lost-settled f (d .B) (d .only) (d .way)
 phase-settles (adopt-0 d h i) q = no q
-phase-settles {f = f} (replace-0 d h i) q = lost-settled f (d .C) (d .right) (wayToC d [])
+phase-settles {f = f} (promote-0 d h i) q = lost-settled f (d .C) (d .right) (wayToC d [])
 phase-settles {f = f} (publish-0 d down h i) q = (refl, lost-settled f (d .C) (d .right) (wayToC d down))
 phase-settles (detach-0 d down n h i) q = no q
 

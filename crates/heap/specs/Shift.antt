@@ -1,4 +1,4 @@
--- What a store does to the whole tree, as a relation: the eleven changes, each at a place, with the link stored, its new
+-- What a store does to the whole tree, as a relation: the twelve changes, each at a place, with the link stored, its new
 -- value, the nodes that come, the nodes that leave, whether it is a list store and whether reading slots are awaited after it; and what the facts
 -- of lookups (crate tree) ask. `Next` is what a turn leaves: such a change and the phase after it.
 use Prim.Native.Nat.{ℕ}
@@ -23,7 +23,7 @@ use Rattle.spec.specs.Register.{State, linkNode, readingSlots}
 use Rattle.spec.specs.Turn.{Made, movedStore, movedWrite, profile, isListed, countedBy}
 use Rattle.sequential.specs.Tree.{Tree}
 use Rattle.sequential.specs.Proper.{Ordered}
-use Rattle.tree.specs.Linked.{Node, copy, Linked, nil, cell, at, NotNil, nodes}
+use Rattle.tree.specs.Linked.{Node, copy, replacement, Linked, nil, cell, at, NotNil, nodes}
 use Rattle.tree.specs.LinkedOrder.{bare}
 use Rattle.tree.specs.Zipper.{Frame, hole, plug, Into, Along}
 use Rattle.tree.specs.Occurs.{occ, one-other, one-case, Turnover}
@@ -40,6 +40,8 @@ use Rattle.heap.specs.Phase.{Phase}
 pub data Shift : Linked → Linked → Link → ℕ → List ℕ → List ℕ → Bool → Bool → Type 0 where
   by-insert : (fs : List Frame) (Z : Node) → Into (Z .key) fs → occ (Z .num) (nodes (plug fs nil)) ≡ 0
       → Shift (plug fs nil) (plug fs (cell Z nil nil)) (linkTo fs) (Z .num) (Z .num ∷ []) [] true false
+  by-replace : (fs : List Frame) (B : Node) (n v : ℕ) (l r : Linked) → Once (plug fs (cell B l r)) → occ n (nodes (plug fs (cell B l r))) ≡ 0
+      → Shift (plug fs (cell B l r)) (plug fs (cell (replacement B n v) l r)) (linkTo fs) n (n ∷ []) (B .num ∷ []) true false
   by-diag-lower : (fs : List Frame) (s : Side) (B C : Node) (n : ℕ) (o x r : Linked) → Ordered (bare (plug fs (diag₀ s B C n o x r)))
       → Once (plug fs (diag₀ s B C n o x r)) → occ n (nodes (plug fs (diag₀ s B C n o x r))) ≡ 0
       → Shift (plug fs (diag₀ s B C n o x r)) (plug fs (diag₁ s B C n o x r)) (linkAt (other s) (B .num)) n (n ∷ []) [] false false
@@ -61,7 +63,7 @@ pub data Shift : Linked → Linked → Link → ℕ → List ℕ → List ℕ �
   by-adopt : (fs : List Frame) (B C : Node) (l y : Linked) → NotNil l → Ordered (bare (plug fs (form₀ L B C l y)))
       → Once (plug fs (form₀ L B C l y))
       → Shift (plug fs (form₀ L B C l y)) (plug fs (form₁ L B C l y)) (Left (C .num)) (numOf l) [] [] false false
-  by-replace : (fs : List Frame) (B C : Node) (l y : Linked) → Ordered (bare (plug fs (form₀ L B C l y)))
+  by-promote : (fs : List Frame) (B C : Node) (l y : Linked) → Ordered (bare (plug fs (form₀ L B C l y)))
       → Once (plug fs (form₀ L B C l y))
       → Shift (plug fs (form₁ L B C l y)) (plug fs (form₂ L B C l y)) (linkTo fs) (C .num) [] (B .num ∷ []) true false
   by-publish : (fs gs : List Frame) (B C : Node) (n : ℕ) (l y : Linked) → Along L gs → Ordered (bare (plug fs (third₀ L B C n l y gs)))

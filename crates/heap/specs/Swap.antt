@@ -1,4 +1,4 @@
--- Two ways that differ in one node on the right, as B's and C's in a replace: a fix-up's ending, its levels and its colours are the same
+-- Two ways that differ in one node on the right, as B's and C's in a promote: a fix-up's ending, its levels and its colours are the same
 -- where the erased ways are.
 use Prim.Native.Nat.{ℕ, zero, suc, _<_}
 use mathlib.Core.Path.{_≡_, refl, ap}

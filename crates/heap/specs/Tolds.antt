@@ -16,10 +16,10 @@ use Rattle.tree.specs.Zipper.{SameBut}
 abbrev pub Told : Tree → Linked → Type 0
 Told G T = (q : ℕ) → find T q ≡ Seq.find G q
 
-pub told-insert : (G S : Tree) (k v : ℕ) (T U : Linked) → G ≡ insert S k v → Ordered S → ((q : ℕ) → Seq.find S q ≡ find T q) → find T k ≡ none → SameBut k (some v) T U → Told G U
-told-insert G S k v T U g ord same n s q =
+pub told-insert : (G S : Tree) (k v : ℕ) (T U : Linked) → G ≡ insert S k v → Ordered S → ((q : ℕ) → Seq.find S q ≡ find T q) → SameBut k (some v) T U → Told G U
+told-insert G S k v T U g ord same s q =
     elim (ℕ-discrete q k) [
-      | yes e ↦ rw (e, g) (s .there ∙ sym (find-insert S k v ord (same k ∙ n)))
+      | yes e ↦ rw (e, g) (s .there ∙ sym (find-insert S k v ord))
       | no d ↦ rw g (s .elsewhere q d ∙ sym (same q) ∙ sym (find-insert-other S k v q ord d))
     ]
 

@@ -32,11 +32,12 @@ pub fn set_up(pool: &mut [u32], reg: Register) -> Reply
     replies::accepted(register)
 }
 
-// Insert: takes the key k with its record v in hand as a write, with its stores planned. The writer's turns make the stores.
+// Insert: takes the key k with its record v in hand as a write, with its stores planned. The writer's turns make the stores. If the key is held, its
+// record is replaced, in one store.
 // Needs: nothing; key and record are any 32-bit numbers.
 // Answers: Accepted. Then writer_turn is to be called until it answers Done.
-// Refuses, tested in this order: 1 length; 2 a word or field out of range; 6 a write is in hand; 12 a path of over 64 nodes; 8 the key is
-// held; 10 keys held are N − 4 or more; 11 fewer than 3 free nodes; 12 a step names a node where there is none.
+// Refuses, tested in this order: 1 length; 2 a word or field out of range; 6 a write is in hand; 12 a path of over 64 nodes; 10 the key is not
+// held and keys held are N − 4 or more; 11 fewer than 3 free nodes; 12 a step names a node where there is none.
 // Leaves: the pool as it was, and in the register the write in hand; refused, both as they were.
 pub fn insert(pool: &[u32], reg: Register, k: u32, v: u32) -> Reply
     ensures { λ r. ⌜ accepts (r .answer) ≡ insert (state (now (pool .entry)) reg) k v .answer ⌝ }
@@ -52,7 +53,7 @@ pub fn insert(pool: &[u32], reg: Register, k: u32, v: u32) -> Reply
     }
     let place = search::seek(pool, k, Link::Root, reg.root, numbers::PATH_BOUND);
     match place {
-        Place::Held(_, _) => replies::refused(8, reg),
+        Place::Held(l, _) => accepts::replace_at(pool, reg, k, v, l),
         Place::Empty(l) => accepts::insert_at(pool, reg, k, v, l),
         Place::TooDeep => replies::refused(12, reg),
     }

@@ -11,7 +11,7 @@ use Rattle.datatypes.specs.declared.Link.{Link}
 use Rattle.datatypes.specs.declared.Place.the-variants.{Held, Empty, TooDeep}
 use Rattle.spec.specs.Numbers.{reserve, freeForInsert}
 use Rattle.spec.specs.Register.{State, state, withWrite, writeOf}
-use Rattle.spec.specs.Plan.{insertPlan}
+use Rattle.spec.specs.Plan.{insertPlan, replacePlan}
 use Rattle.spec.specs.Calls.{Test, outcome, refused, ok, firstOf, writeInHand, placeOf, full, fewerFree, insertAt, acceptedPlan, insertTests, insert}
 use Rattle.laws.specs.Tests.{lentNumber, lent-refused, lent-passes, unless-refused, unless-done}
 
@@ -44,8 +44,17 @@ module _ (st : State) (k v : ℕ) where
       pub insert-deep : placeOf st k ≡ TooDeep → insert st k v ≡ outcome (refused 12) st
       insert-deep x = stops 12 (rw (idle, x)) (omega arith)
 
-      pub insert-held : (l : Link) (n : ℕ) → placeOf st k ≡ Held l n → insert st k v ≡ outcome (refused 8) st
-      insert-held l n x = stops 8 (rw (idle, x)) (omega arith)
+      -- 02, C-13: a held key
+      module _ (l : Link) (n : ℕ) (x : placeOf st k ≡ Held l n) where
+        pub replace-few : fewerFree st freeForInsert ≡ true → insert st k v ≡ outcome (refused 11) st
+        replace-few f = stops 11 (rw (idle, x, f)) (omega arith)
+
+        pub replace-goes : fewerFree st freeForInsert ≡ false
+            → insert st k v ≡ outcome ok (state (st .pool) (withWrite (st .register) (writeOf (replacePlan v l .stores))))
+        unfolding insert
+        replace-goes f =
+            unless-done (insertTests st k v) st (acceptedPlan st (insertAt st k v (placeOf st k))) (lent-passes st later lent ∙ rw (idle, x, f))
+            ∙ rw x
 
       module _ (l : Link) (x : placeOf st k ≡ Empty l) where
         pub insert-full : full st ≡ true → insert st k v ≡ outcome (refused 10) st

@@ -6,7 +6,7 @@ use borrow.Author.Tests.{eq-eqb, ne-eqb}
 use Prim.Native.Nat.{ℕ}
 use Rattle.datatypes.specs.declared.Link.{Link}
 use Rattle.datatypes.specs.declared.Side.the-variants.{L, R}
-use Rattle.datatypes.specs.declared.Step.the-variants.{Adopt, Replace, Publish, Detach}
+use Rattle.datatypes.specs.declared.Step.the-variants.{Adopt, Promote, Publish, Detach}
 use Rattle.datatypes.specs.declared.Ending.{Ending}
 use Rattle.spec.specs.Pool.{word, child, keyWord}
 use Rattle.spec.specs.Register.{State, linkNode}
@@ -33,7 +33,7 @@ module _ (st : State) (l : Link) (b : ℕ) where
   delete-one e = rw e
 
   pub successor-near : (path : List Link) → (path ≡ [] → ⊥) → child (st .pool) L (child (st .pool) R b) ≡ 0
-      → successorPlan st l b path ≡ plan (store l Adopt ∷ store l Replace ∷ []) (nextRemoval st path)
+      → successorPlan st l b path ≡ plan (store l Adopt ∷ store l Promote ∷ []) (nextRemoval st path)
   successor-near [] d e = absurd (d refl)
   successor-near (above ∷ up) d e = rw (eq-eqb (child (st .pool) L (child (st .pool) R b)) 0 e)
 

@@ -20,7 +20,7 @@ ghost use Rattle.spec.specs.Search.{pathTo};
 ghost use Prim.Native.Nat.{_<_, _≤_, _+_};
 ghost use lib.ListN.{length};
 ghost use Rattle.spec.specs.Register.{state, writeOf};
-ghost use Rattle.spec.specs.Plan.{store, rotationStores, endingStores, missing, fixupResult, insertFixup, insertPlan, unlinkPlan, successorPlan, deletePlan};
+ghost use Rattle.spec.specs.Plan.{store, rotationStores, endingStores, missing, fixupResult, insertFixup, insertPlan, replacePlan, unlinkPlan, successorPlan, deletePlan};
 ghost use Rattle.paths.specs.Upward.{mostLinks, upward};
 ghost use Rattle.plans.specs.Pushed.{pushed, pushAll};
 
@@ -129,6 +129,13 @@ pub fn insert_plan(pool: &[u32], reg: Register, k: u32, v: u32, l: Link) -> Plan
     plan(one_store(l, Step::Insert(k, v)), ending)
 }
 
+// Plans the insert of a held key, whose node the link l holds, with its record v.
+pub fn replace_plan(v: u32, l: Link) -> Write
+    ensures { λ r. ⌜ r ≡ writeOf (replacePlan v l .stores) ⌝ }
+{
+    one_store(l, Step::Replace(v))
+}
+
 // Plans the delete of node b, which has at most one child, at the end of a path of that depth.
 fn unlink_plan(pool: &[u32], reg: Register, l: Link, b: u32, path: &[u64], depth: u32) -> Planned
     requires { ⌜ (depth ≤ length (now path)) × (depth ≤ mostLinks) ⌝ }
@@ -164,7 +171,7 @@ fn successor_plan(pool: &[u32], reg: Register, l: Link, b: u32, path: &[u64], de
     let ending = fix.ending;
     let right = pool::child(pool, Side::R, b);
     if pool::child(pool, Side::L, right) == 0 {
-        return plan(two_stores(l, Step::Adopt, Step::Replace), ending);
+        return plan(two_stores(l, Step::Adopt, Step::Promote), ending);
     }
     let key = pool::word(pool, b, pool::KEY);
     plan(two_stores(l, Step::Publish(n), Step::Detach(key)), ending)

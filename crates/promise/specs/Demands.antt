@@ -204,10 +204,11 @@ pub record Demand2 (S : Start) (cs : List Call) : Type 0 where
   pub size : (j : ℕ) → nodes (indexAfter S cs j .pool) ≡ S .size
 
 -- 'When a call is turned down': no run from a fresh index meets 2 or 12; and the pool keeps its length, so none meets 1. From any other
--- sound start likewise.
+-- sound start likewise. 02, C-13: refusal 8 no longer occurs.
 pub record NeverMet (S : Start) (cs : List Call) : Type 0 where
   pub two : (j : ℕ) (c : Call) → ¬ (Gives S cs j c (refused 2))
   pub twelve : (j : ℕ) (c : Call) → ¬ (Gives S cs j c (refused 12))
+  pub eight : (j : ℕ) (c : Call) → ¬ (Gives S cs j c (refused 8))
   pub one : (j : ℕ) (c : Call) → ¬ (Gives S cs j c (refused 1))
 
 -- 02, C-12: 'For pools reached from a fresh index no answer differs.' The reader's turn as 01 has it: test 2 looks at every word of the pool and

@@ -13,7 +13,7 @@ use Rattle.datatypes.specs.declared.Link.the-variants.{Root, Left, Right}
 use Rattle.datatypes.specs.declared.Place.{Place}
 use Rattle.datatypes.specs.declared.Place.the-variants.{Held, Empty, TooDeep}
 use Rattle.datatypes.specs.declared.Step.{Step}
-use Rattle.datatypes.specs.declared.Step.the-variants.{Vacant, Insert, DiagLower, DiagRaise, ZigLowerA, ZigLowerC, ZigRaise, Unlink, Adopt, Replace, Publish, Detach}
+use Rattle.datatypes.specs.declared.Step.the-variants.{Vacant, Insert, Replace, DiagLower, DiagRaise, ZigLowerA, ZigLowerC, ZigRaise, Unlink, Adopt, Promote, Publish, Detach}
 use Rattle.datatypes.specs.declared.Write.{Write}
 use Rattle.datatypes.specs.declared.Reader.{Reader}
 use Rattle.spec.specs.Numbers.{slots, allSlots, pathBound, mostStores}
@@ -48,6 +48,7 @@ link-true capacity (Right n) h = number-true capacity n h
 step-true : (capacity : ℕ) (x : Step) → StepOk capacity x → stepInRange capacity x ≡ true
 step-true capacity Vacant h = absurd h
 step-true capacity (Insert k v) h = refl
+step-true capacity (Replace v) h = refl
 step-true capacity (DiagLower s c) h = refl
 step-true capacity (DiagRaise s c) h = refl
 step-true capacity (ZigLowerA s c) h = refl
@@ -55,7 +56,7 @@ step-true capacity (ZigLowerC s c) h = refl
 step-true capacity (ZigRaise s c) h = refl
 step-true capacity Unlink h = refl
 step-true capacity Adopt h = refl
-step-true capacity Replace h = refl
+step-true capacity Promote h = refl
 step-true capacity (Publish n) h = number-true capacity n h
 step-true capacity (Detach k) h = refl
 
@@ -107,7 +108,7 @@ named-in capacity st s h = rw (h .within .size, node-true capacity (st .pool) (n
 
 -- Plans.
 insert-at : (capacity : ℕ) (st : State) (k v : ℕ) → Within capacity st → (x : Place) → PlaceOk capacity x → PlanOk capacity (insertAt st k v x)
-insert-at capacity st k v h (Held l n) o = record { stores = tt; few = omega arith }
+insert-at capacity st k v h (Held l n) o = record { stores = ((o .0, tt), tt); few = omega arith }
 insert-at capacity st k v h (Empty l) o = insert-ok capacity st h k v l o
 insert-at capacity st k v h TooDeep o = record { stores = tt; few = omega arith }
 

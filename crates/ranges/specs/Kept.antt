@@ -18,7 +18,7 @@ use Rattle.datatypes.specs.declared.Ending.{Ending}
 use Rattle.datatypes.specs.declared.Ending.the-variants.{Balanced, Blacken, Rotate, RotateTwice, Missing}
 use Rattle.datatypes.specs.declared.Fixup.{Fixup}
 use Rattle.datatypes.specs.declared.Step.{Step}
-use Rattle.datatypes.specs.declared.Step.the-variants.{Vacant, Insert, DiagLower, DiagRaise, ZigLowerA, ZigLowerC, ZigRaise, Unlink, Adopt, Replace, Publish, Detach}
+use Rattle.datatypes.specs.declared.Step.the-variants.{Vacant, Insert, Replace, DiagLower, DiagRaise, ZigLowerA, ZigLowerC, ZigRaise, Unlink, Adopt, Promote, Publish, Detach}
 use Rattle.datatypes.specs.declared.Write.{Write}
 use Rattle.datatypes.specs.Side.{other}
 use Rattle.spec.specs.Pool.{word, setWord, child, nodes, redColour, keyWord, recordAt, standingWord, holdersWord, standingRetired}
@@ -27,8 +27,8 @@ use Rattle.spec.specs.Free.{queueEmpty, takeFree, takeNode, freeNode, retire, r
 use Rattle.spec.specs.Search.{pathTo}
 use Rattle.spec.specs.Plan.{fixupAfterInsert, paintInsertFixup, paintDeleteFixup, redChild, onlyChild}
 use Rattle.spec.specs.Turn.{painted, colourOf, oneMore, oneLess, endInsert, insertStore, copyNode, diagLower, endDiag, diagRaise, zigLowerA}
-use Rattle.spec.specs.Turn.{zigLowerC, endZig, zigRaise, unlinkStore, adoptStore, replaceStore, movedWrite, publishStore, detachStore, isNode}
-use Rattle.spec.specs.Turn.{stepFinds, stepMade, unlinkPath, unlinkFixup, replacePath, replaceFixup}
+use Rattle.spec.specs.Turn.{zigLowerC, endZig, zigRaise, replaceStore, unlinkStore, adoptStore, promoteStore, movedWrite, publishStore, detachStore, isNode}
+use Rattle.spec.specs.Turn.{stepFinds, stepMade, unlinkPath, unlinkFixup, promotePath, promoteFixup}
 use Rattle.heap.specs.Fill.{retire-quiet, retireTwo-quiet}
 use Rattle.laws.specs.Tests.{and-right}
 use Rattle.ranges.specs.Fits.{Within}
@@ -117,14 +117,14 @@ unlink-hand st l =
     let less = oneLess (setLink st l x) in
     hand-retire (paintDeleteFixup less (unlinkFixup st l) x (unlinkPath st l)) b ∙ hand-removal less (unlinkFixup st l) x (unlinkPath st l) ∙ hand-link st l x
 
-replace-hand : (st : State) (l : Link) → hand (replaceStore st l .after) ≡ hand st
-unfolding replaceStore withHeld
-replace-hand st l =
+promote-hand : (st : State) (l : Link) → hand (promoteStore st l .after) ≡ hand st
+unfolding promoteStore withHeld
+promote-hand st l =
     let b = linkNode st l in
     let c = child (st .pool) R b in
     let x = child (st .pool) R c in
-    let replaced = painted (oneLess (setLink st l c)) c (colourOf st b) in
-    hand-retire (paintDeleteFixup replaced (replaceFixup st l) x (replacePath st l)) b ∙ hand-removal replaced (replaceFixup st l) x (replacePath st l) ∙ hand-link st l c
+    let promoted = painted (oneLess (setLink st l c)) c (colourOf st b) in
+    hand-retire (paintDeleteFixup promoted (promoteFixup st l) x (promotePath st l)) b ∙ hand-removal promoted (promoteFixup st l) x (promotePath st l) ∙ hand-link st l c
 
 publish-hand : (st : State) (l : Link) (c : ℕ) → hand (publishStore st l c .after) ≡ movedWrite (linkNode st l) (st .register .first) (hand st)
 unfolding publishStore withHeld withAwaited withWrite
@@ -143,9 +143,10 @@ module _ (capacity : ℕ) (st : State) (h : Within capacity st) (w : WriteOk cap
   same x e = rw e w
 
   pub step-hand : (l : Link) (x : Step) → stepFinds st l x ≡ true → WriteOk capacity (stepMade st l x .after .register .write)
-  unfolding stepMade stepFinds diagLower diagRaise zigLowerA zigLowerC zigRaise adoptStore detachStore
+  unfolding stepMade stepFinds replaceStore diagLower diagRaise zigLowerA zigLowerC zigRaise adoptStore detachStore
   step-hand l Vacant f = w
   step-hand l (Insert k v) f = same _ (insert-hand st l k v)
+  step-hand l (Replace v) f = same _ (hand-retire _ _ ∙ hand-link _ _ _ ∙ hand-take st _ _ _ _ _ _)
   step-hand l (DiagLower s c) f = same _ (hand-link _ _ _ ∙ hand-take st _ _ _ _ _ _)
   step-hand l (DiagRaise s c) f = same _ (hand-retire _ _ ∙ hand-diag c _ s _ ∙ hand-link st l _)
   step-hand l (ZigLowerA s c) f = same _ (hand-link _ _ _ ∙ hand-take st _ _ _ _ _ _)
@@ -153,7 +154,7 @@ module _ (capacity : ℕ) (st : State) (h : Within capacity st) (w : WriteOk cap
   step-hand l (ZigRaise s c) f = same _ (retireTwo-quiet _ _ _ .fields .write ∙ hand-zig c _ ∙ hand-link st l _)
   step-hand l Unlink f = same _ (unlink-hand st l)
   step-hand l Adopt f = same _ (hand-link st _ _)
-  step-hand l Replace f = same _ (replace-hand st l)
+  step-hand l Promote f = same _ (promote-hand st l)
   step-hand l (Publish c) f =
       let n = st .register .first in
       let d = filled st (and-right (isNode (linkNode st l)) (not (queueEmpty st)) f) in

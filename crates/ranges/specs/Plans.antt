@@ -21,7 +21,7 @@ use Rattle.datatypes.specs.declared.Purpose.{Purpose}
 use Rattle.datatypes.specs.declared.Ending.{Ending}
 use Rattle.datatypes.specs.declared.Ending.the-variants.{Balanced, Blacken, Rotate, RotateTwice, Missing}
 use Rattle.datatypes.specs.declared.Fixup.{Fixup}
-use Rattle.datatypes.specs.declared.Step.the-variants.{Insert, Unlink, Adopt, Replace, Publish, Detach}
+use Rattle.datatypes.specs.declared.Step.the-variants.{Insert, Unlink, Adopt, Promote, Publish, Detach}
 use Rattle.datatypes.specs.declared.Store.{Store}
 use Rattle.datatypes.specs.Side.{other, linkAt, owner, sideOf}
 use Rattle.spec.specs.Numbers.{pathBound, mostStores}
@@ -196,7 +196,7 @@ module _ (capacity : ℕ) (st : State) (h : Within capacity st) where
       let c = linkNode st above in
       let k = removal-ok capacity p (h .fits) c (child p R c) (above ∷ up) g in
       cond-both (PlanOk capacity) (eqb (child p L (child p R b)) 0)
-      (planned (store l Adopt ∷ store l Replace ∷ []) (fixupAfterRemoval p c (child p R c) (above ∷ up) .ending) ((o, tt), ((o, tt), tt)) (omega arith) k)
+      (planned (store l Adopt ∷ store l Promote ∷ []) (fixupAfterRemoval p c (child p R c) (above ∷ up) .ending) ((o, tt), ((o, tt), tt)) (omega arith) k)
       (planned (store l (Publish c) ∷ store l (Detach (word p b keyWord)) ∷ []) (fixupAfterRemoval p c (child p R c) (above ∷ up) .ending)
       ((o, number capacity c e (node-fits capacity st above h)), ((o, tt), tt)) (omega arith) k)
 

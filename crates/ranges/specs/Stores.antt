@@ -13,7 +13,7 @@ use Rattle.datatypes.specs.declared.Ending.{Ending}
 use Rattle.datatypes.specs.declared.Ending.the-variants.{Balanced, Blacken, Rotate, RotateTwice, Missing}
 use Rattle.datatypes.specs.declared.Fixup.{Fixup}
 use Rattle.datatypes.specs.declared.Step.{Step}
-use Rattle.datatypes.specs.declared.Step.the-variants.{Vacant, Insert, DiagLower, DiagRaise, ZigLowerA, ZigLowerC, ZigRaise, Unlink, Adopt, Replace, Publish, Detach}
+use Rattle.datatypes.specs.declared.Step.the-variants.{Vacant, Insert, Replace, DiagLower, DiagRaise, ZigLowerA, ZigLowerC, ZigRaise, Unlink, Adopt, Promote, Publish, Detach}
 use Rattle.datatypes.specs.Side.{other, linkAt, owner, sideOf}
 use Rattle.spec.specs.Pool.{child, paint, blackColour, redColour}
 use Rattle.spec.specs.Register.{State, state, linkNode, setLink, withAwaited, readingSlots}
@@ -22,7 +22,7 @@ use Rattle.spec.specs.Search.{pathTo}
 use Rattle.spec.specs.Plan.{fixupAfterInsert, paintInsertFixup, paintDeleteLevels, paintEnd, paintDeleteFixup, redChild, onlyChild, nearest}
 use Rattle.spec.specs.Turn.{painted, colourOf, oneMore, oneLess, endInsert, insertStore, copyColour, risenColour, copyNode, diagLower, underCopy}
 use Rattle.spec.specs.Turn.{endDiag, diagRaise, zigLowerA, zigLowerC, endZig, zigRaise, stepMade}
-use Rattle.spec.specs.Turn.{unlinkPath, unlinkFixup, unlinkStore, adoptStore, replacePath, replaceFixup, replaceStore, publishStore, detachPath, detachFixup, detachStore}
+use Rattle.spec.specs.Turn.{unlinkPath, unlinkFixup, unlinkStore, adoptStore, replaceStore, promotePath, promoteFixup, promoteStore, publishStore, detachPath, detachFixup, detachStore}
 use Rattle.heap.specs.ColourWork.{coloursOnly-paint, coloursOnly-insertFixup, coloursOnly-deleteFixup}
 use Rattle.ranges.specs.Fits.{PoolOk, child-fits, colour-fits, Within, within-pool, within-take, within-retire, within-retireTwo, within-write}
 use Rattle.ranges.specs.Fits.{within-await, within-link, fits-paint, within-more, within-less, node-fits}
@@ -104,8 +104,11 @@ module _ (capacity : ℕ) (st : State) (h : Within capacity st) where
   low : (s : Side) (n : ℕ) → child (st .pool) s n ≤ capacity
   low s n = child-fits capacity (st .pool) s n (h .fits)
 
+  taken : (k v : ℕ) (s : Side) (x y c : ℕ) (l : Link) → x ≤ capacity → y ≤ capacity → c ≤ 1 → Within capacity (setLink (takeNode st k v s x y c) l (st .register .first))
+  taken k v s x y c l hx hy hc = within-link capacity _ l (st .register .first) (h .first) (within-take capacity st k v s x y c hx hy hc h)
+
   copied : (n : ℕ) (s : Side) (x y c : ℕ) (l : Link) → x ≤ capacity → y ≤ capacity → c ≤ 1 → Within capacity (setLink (copyNode st n s x y c) l (st .register .first))
-  copied n s x y c l hx hy hc = within-link capacity _ l (st .register .first) (h .first) (within-take capacity st _ _ s x y c hx hy hc h)
+  copied n s x y c l hx hy hc = taken _ _ s x y c l hx hy hc
 
   insert-within : (l : Link) (k v : ℕ) → Within capacity (insertStore st l k v .after)
   unfolding insertStore
@@ -114,9 +117,16 @@ module _ (capacity : ℕ) (st : State) (h : Within capacity st) where
       let path = pathTo (st .pool) (st .register .root) k l in
       let base = setLink (takeNode st k v L 0 0 redColour) l (st .register .first) in
       let linked = oneMore base in
-      let a = within-more capacity base (within-link capacity _ l (st .register .first) (h .first) (within-take capacity st k v L 0 0 redColour (omega arith) (omega arith) (omega arith) h)) in
+      let a = within-more capacity base (taken k v L 0 0 redColour l (omega arith) (omega arith) (omega arith)) in
       within-insert-end capacity (c .ending) _ (within-pool capacity linked (paintInsertFixup (c .levels) path (linked .pool)) (coloursOnly-insertFixup (c .levels) path (linked .pool) .size)
       (fits-insertFixup capacity (c .levels) path (linked .pool) (a .fits)) a)
+
+  replace-within : (l : Link) (v : ℕ) → Within capacity (replaceStore st l v .after)
+  unfolding replaceStore
+  replace-within l v =
+      let b = linkNode st l in
+      within-retire capacity _ b (node-fits capacity st l h)
+      (taken _ v L (kid L b) (kid R b) (colourOf st b) l (low L b) (low R b) (colour-fits capacity (st .pool) b (h .fits)))
 
   diag-lower-within : (l : Link) (s : Side) (purpose : Purpose) → Within capacity (diagLower st l s purpose .after)
   unfolding diagLower
@@ -168,13 +178,13 @@ module _ (capacity : ℕ) (st : State) (h : Within capacity st) where
   unfolding adoptStore
   adopt-within l = within-link capacity st _ _ (low L (linkNode st l)) h
 
-  replace-within : (l : Link) → Within capacity (replaceStore st l .after)
-  unfolding replaceStore
-  replace-within l =
+  promote-within : (l : Link) → Within capacity (promoteStore st l .after)
+  unfolding promoteStore
+  promote-within l =
       let b = linkNode st l in
       let c = kid R b in
       within-retire capacity _ b (node-fits capacity st l h)
-      (within-removal capacity _ (replaceFixup st l) (kid R c) (replacePath st l)
+      (within-removal capacity _ (promoteFixup st l) (kid R c) (promotePath st l)
       (within-paint capacity _ c (colourOf st b) (colour-fits capacity (st .pool) b (h .fits)) (within-less capacity _ (within-link capacity st l c (low R b) h))))
 
   publish-within : (l : Link) (c : ℕ) → Within capacity (publishStore st l c .after)
@@ -198,6 +208,7 @@ module _ (capacity : ℕ) (st : State) (h : Within capacity st) where
   unfolding stepMade
   step-within l Vacant = h
   step-within l (Insert k v) = insert-within l k v
+  step-within l (Replace v) = replace-within l v
   step-within l (DiagLower s c) = diag-lower-within l s c
   step-within l (DiagRaise s c) = diag-raise-within l s c
   step-within l (ZigLowerA s c) = zig-lower-A-within l s c
@@ -205,6 +216,6 @@ module _ (capacity : ℕ) (st : State) (h : Within capacity st) where
   step-within l (ZigRaise s c) = zig-raise-within l s c
   step-within l Unlink = unlink-within l
   step-within l Adopt = adopt-within l
-  step-within l Replace = replace-within l
+  step-within l Promote = promote-within l
   step-within l (Publish c) = publish-within l c
   step-within l (Detach k) = detach-within l k

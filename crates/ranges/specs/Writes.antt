@@ -12,7 +12,7 @@ use Rattle.base.specs.Walk.{cond-both}
 use Rattle.datatypes.specs.declared.Link.{Link}
 use Rattle.datatypes.specs.declared.Link.the-variants.{Root, Left, Right}
 use Rattle.datatypes.specs.declared.Step.{Step}
-use Rattle.datatypes.specs.declared.Step.the-variants.{Vacant, Insert, DiagLower, DiagRaise, ZigLowerA, ZigLowerC, ZigRaise, Unlink, Adopt, Replace, Publish, Detach}
+use Rattle.datatypes.specs.declared.Step.the-variants.{Vacant, Insert, Replace, DiagLower, DiagRaise, ZigLowerA, ZigLowerC, ZigRaise, Unlink, Adopt, Promote, Publish, Detach}
 use Rattle.datatypes.specs.declared.Store.{Store}
 use Rattle.datatypes.specs.declared.Write.{Write}
 use Rattle.spec.specs.Numbers.{mostStores}
@@ -32,6 +32,7 @@ LinkOk capacity (Right n) = Number capacity n
 abbrev pub StepOk : ℕ → Step → Type 0
 StepOk capacity Vacant = ⊥
 StepOk capacity (Insert k v) = Unit {0}
+StepOk capacity (Replace v) = Unit {0}
 StepOk capacity (DiagLower s c) = Unit {0}
 StepOk capacity (DiagRaise s c) = Unit {0}
 StepOk capacity (ZigLowerA s c) = Unit {0}
@@ -39,7 +40,7 @@ StepOk capacity (ZigLowerC s c) = Unit {0}
 StepOk capacity (ZigRaise s c) = Unit {0}
 StepOk capacity Unlink = Unit {0}
 StepOk capacity Adopt = Unit {0}
-StepOk capacity Replace = Unit {0}
+StepOk capacity Promote = Unit {0}
 StepOk capacity (Publish n) = Number capacity n
 StepOk capacity (Detach k) = Unit {0}
 

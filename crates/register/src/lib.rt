@@ -174,6 +174,7 @@ fn step_in_range(s: Step, capacity: u32) -> bool
     match s {
         Step::Vacant => false,
         Step::Insert(_, _) => true,
+        Step::Replace(_) => true,
         Step::DiagLower(_, _) => true,
         Step::DiagRaise(_, _) => true,
         Step::ZigLowerA(_, _) => true,
@@ -181,7 +182,7 @@ fn step_in_range(s: Step, capacity: u32) -> bool
         Step::ZigRaise(_, _) => true,
         Step::Unlink => true,
         Step::Adopt => true,
-        Step::Replace => true,
+        Step::Promote => true,
         Step::Publish(n) => node_number(n, capacity),
         Step::Detach(_) => true,
     }
@@ -203,6 +204,7 @@ fn is_vacant(s: Step) -> bool
     match s {
         Step::Vacant => true,
         Step::Insert(_, _) => false,
+        Step::Replace(_) => false,
         Step::DiagLower(_, _) => false,
         Step::DiagRaise(_, _) => false,
         Step::ZigLowerA(_, _) => false,
@@ -210,7 +212,7 @@ fn is_vacant(s: Step) -> bool
         Step::ZigRaise(_, _) => false,
         Step::Unlink => false,
         Step::Adopt => false,
-        Step::Replace => false,
+        Step::Promote => false,
         Step::Publish(_) => false,
         Step::Detach(_) => false,
     }

@@ -1,4 +1,4 @@
-// The stores of a writer's turn that take a node out of the tree: unlink, replace, detach. Each function tries one store: it tests that the
+// The stores of a writer's turn that take a node out of the tree: unlink, promote, detach. Each function tries one store: it tests that the
 // nodes are there before it changes anything. In the drawings small letters are subtrees, and a subtree drawn twice is one, held by two
 // links.
 use datatypes::Fixup;
@@ -8,7 +8,7 @@ use datatypes::Side;
 use datatypes::StepResult;
 ghost use Prim.Native.Nat.{_<_, _≤_};
 ghost use lib.ListN.{length};
-ghost use Rattle.datatypes.specs.declared.Step.the-variants.{Unlink, Replace, Detach};
+ghost use Rattle.datatypes.specs.declared.Step.the-variants.{Unlink, Promote, Detach};
 ghost use Rattle.spec.specs.Numbers.{poolLimit};
 ghost use Rattle.spec.specs.Register.{setLink};
 ghost use Rattle.spec.specs.Free.{retire};
@@ -95,9 +95,9 @@ fn store_successor(pool: &mut [u32], h: Head, l: Link, n: u32, colour: u32) -> H
 //      l   C           l   y
 //         / \
 //        l   y
-pub fn replace(pool: &mut [u32], h: Head, reading: u32, l: Link) -> StepResult
+pub fn promote(pool: &mut [u32], h: Head, reading: u32, l: Link) -> StepResult
     requires { ⌜ length (now pool) < poolLimit ⌝ }
-    ensures { λ r. ⌜ TriesReading reading l Replace (now (pool .entry)) h (now (pool .exit)) r ⌝ }
+    ensures { λ r. ⌜ TriesReading reading l Promote (now (pool .entry)) h (now (pool .exit)) r ⌝ }
 {
     let b = pool::node_at(pool, h.root, l);
     let n = pool::child(pool, Side::R, b);

@@ -162,6 +162,15 @@ not-two st (beginning κ s k) r m = avoided 2 (beginTests st s) (omega arith) (i
 not-two st (turning s) r m = avoided 2 (readerTests st s) (omega arith) (inl (omega arith), λ _. (inr (m s), λ _. others-avoid 2 (drop 2 (readerTests st s)) (omega arith)))
 not-two st (givingUp s) r m = avoided 2 (giveUpTests st s) (omega arith) (inl (omega arith), λ _. (inr r, λ _. others-avoid 2 (drop 2 (giveUpTests st s)) (omega arith)))
 
+-- 02, C-13: no cause has the number 8, whatever pool and register are lent
+pub not-eight : (st : State) (c : Call) → firstOf (testsOf st c) ≢ 8
+not-eight st (inserting k v) = avoided 8 (insertTests st k v) (omega arith) (others-avoid 8 (insertTests st k v) (omega arith))
+not-eight st (deleting k) = avoided 8 (deleteTests st k) (omega arith) (others-avoid 8 (deleteTests st k) (omega arith))
+not-eight st writing = avoided 8 (writerTests st) (omega arith) (others-avoid 8 (writerTests st) (omega arith))
+not-eight st (beginning κ s k) = avoided 8 (beginTests st s) (omega arith) (others-avoid 8 (beginTests st s) (omega arith))
+not-eight st (turning s) = avoided 8 (readerTests st s) (omega arith) (others-avoid 8 (readerTests st s) (omega arith))
+not-eight st (givingUp s) = avoided 8 (giveUpTests st s) (omega arith) (others-avoid 8 (giveUpTests st s) (omega arith))
+
 -- a pool of N nodes has the right length
 pub length-right : (st : State) (N : ℕ) → leastNodes ≤ N → N ≤ mostNodes → Whole (st .pool) → nodes (st .pool) ≡ N → wrongLength st ≡ false
 unfolding lengthRight
@@ -176,7 +185,7 @@ pub record Completes (W : State → Plain → Linked → Type 0) : Type 0 where
   pub counts : (st : State) (x : Plain) (T : Linked) → W st x T → writeInHand st ≡ false → Distinct (treeNodes T) × (length (treeNodes T) ≡ st .register .held)
   pub few : (st : State) (x : Plain) (T : Linked) → W st x T → writeInHand st ≡ true → x .made + st .register .write .count ≤ mostStores
   pub insertGoes : (st : State) (x : Plain) (T : Linked) (k v : ℕ) → Safe st → W st x T → writeInHand st ≡ false
-      → (tooDeep (placeOf st k) ≡ false) × (isHeld (placeOf st k) ≡ false → fewerFree st freeForInsert ≡ false → insertAt st k v (placeOf st k) .possible ≡ true)
+      → (tooDeep (placeOf st k) ≡ false) × (fewerFree st freeForInsert ≡ false → insertAt st k v (placeOf st k) .possible ≡ true)
   pub deleteGoes : (st : State) (x : Plain) (T : Linked) (k : ℕ) → Safe st → W st x T → writeInHand st ≡ false
       → (tooDeep (placeOf st k) ≡ false) × (isHeld (placeOf st k) ≡ true → fewerFree st freeForDelete ≡ false → deleteAt st (placeOf st k) .possible ≡ true)
   pub stepGoes : (st : State) (x : Plain) (T : Linked) → Safe st → W st x T → st .register .awaited ≡ 0 → writeInHand st ≡ true
@@ -195,7 +204,7 @@ not-twelve W w st x T h g (inserting k v) =
           inl (omega arith),
           λ n. (
               let z = w .insertGoes st x T k v h g n in
-              (inr (z .0), λ _. (inl (omega arith), λ d. (inl (omega arith), λ _. (inl (omega arith), λ f. (inr (not-true _ (z .1 d f)), λ _. tt)))))
+              (inr (z .0), λ _. (inl (omega arith), λ _. (inl (omega arith), λ f. (inr (not-true _ (z .1 f)), λ _. tt))))
               ),
         ),
       ),

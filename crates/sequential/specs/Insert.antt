@@ -23,10 +23,10 @@ rbInsertFixup (frame s red k v y ∷ frame z c j w aunt ∷ fs) x =
     (rbInsertFixup fs (mk z red j w (mk s black k v x y) (paint black aunt)))
     (plug fs (turnUp (sameSide s z) z j w (mk s red k v x y) aunt))
 
--- A new red node at the empty place; line 189: the root ends black. A key that is held changes nothing.
+-- A new red node at the empty place; line 189: the root ends black. A held key's record is overwritten (02, C-13).
 abbrev pub insertedAt : ℕ → ℕ → List Frame → Tree → Tree
 insertedAt q w fs leaf = paint black (rbInsertFixup fs (node red q w leaf leaf))
-insertedAt q w fs (node c k v l r) = plug fs (node c k v l r)
+insertedAt q w fs (node c k v l r) = plug fs (node c k w l r)
 
 abbrev pub insert : Tree → ℕ → ℕ → Tree
 insert t q w = let x = descend t q [] in insertedAt q w (x .way) (x .at)

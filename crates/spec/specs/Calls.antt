@@ -1,5 +1,6 @@
 -- 01, 'Calls' and 'When a call is turned down': each call as its tests in order, with the number of each cause, and then what it does. 02, C-11:
--- a slot may search for the next ticket. 02, C-12: a reader's turn tests the register and one node.
+-- a slot may search for the next ticket. C-12: a reader's turn tests the register and one node. C-13: insert of a held key replaces its record, and
+-- no cause has the number 8.
 use Prim.Native.Nat.{ℕ, _-_}
 use mathlib.Core.Bool.{Bool, true, false, cond, not, _&&_}
 use mathlib.Core.List.{List, [], _∷_}
@@ -22,7 +23,7 @@ use Rattle.spec.specs.Pool.{word, child, recordAt, keyWord, nodes, nodeI
 use Rattle.spec.specs.Register.{State, state, fresh, begunReader, movedReader, remembering, withReader, withWrite, readerOf, storeOf, registerInRange, writeOf, lessFirst}
 use Rattle.spec.specs.Free.{endReading}
 use Rattle.spec.specs.Search.{towards, seek}
-use Rattle.spec.specs.Plan.{Plan, insertPlan, deletePlan}
+use Rattle.spec.specs.Plan.{Plan, insertPlan, replacePlan, deletePlan}
 use Rattle.spec.specs.Turn.{Made, stepFinds, stepMade}
 
 -- What a call answers, in 01's words: ok, go, found with the record, absent, more and done with the link stored and its new node, wait,
@@ -127,18 +128,18 @@ abbrev pub acceptedPlan : State → Plan → Outcome
 acceptedPlan st w = outcome ok (state (st .pool) (withWrite (st .register) (writeOf (w .stores))))
 
 abbrev pub insertAt : State → ℕ → ℕ → Place → Plan
-insertAt st k v (Held l n) = record { possible = false; stores = [] }
+insertAt st k v (Held l n) = replacePlan v l
 insertAt st k v (Empty l) = insertPlan st k v l
 insertAt st k v TooDeep = record { possible = false; stores = [] }
 
+-- 02, C-13: the test for a full index (10) doesn't apply to a held key, the test for three free nodes does.
 abbrev pub insertTests : State → ℕ → ℕ → List Test
 insertTests st k v =
     wrongLength st gives 1
     ∷ outOfRange st gives 2
     ∷ writeInHand st gives 6
     ∷ tooDeep (placeOf st k) gives 12
-    ∷ isHeld (placeOf st k) gives 8
-    ∷ full st gives 10
+    ∷ (not (isHeld (placeOf st k)) && full st) gives 10
     ∷ fewerFree st freeForInsert gives 11
     ∷ not (insertAt st k v (placeOf st k) .possible) gives 12
     ∷ []

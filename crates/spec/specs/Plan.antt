@@ -14,7 +14,7 @@ use Rattle.datatypes.specs.declared.Purpose.{Purpose}
 use Rattle.datatypes.specs.declared.Purpose.the-variants.{ForInsert, RedSibling, BlackSibling}
 use Rattle.datatypes.specs.declared.Rotation.{Rotation}
 use Rattle.datatypes.specs.declared.Step.{Step}
-use Rattle.datatypes.specs.declared.Step.the-variants.{Insert, DiagLower, DiagRaise, ZigLowerA, ZigLowerC, ZigRaise, Unlink, Adopt, Replace, Publish, Detach}
+use Rattle.datatypes.specs.declared.Step.the-variants.{Insert, Replace, DiagLower, DiagRaise, ZigLowerA, ZigLowerC, ZigRaise, Unlink, Adopt, Promote, Publish, Detach}
 use Rattle.datatypes.specs.declared.Store.{Store}
 use Rattle.datatypes.specs.declared.Fixup.{Fixup}
 use Rattle.datatypes.specs.declared.Ending.{Ending}
@@ -157,6 +157,10 @@ plan l e = record { possible = not (missing e); stores = l ++ endingStores e }
 unfoldable pub insertPlan : State → ℕ → ℕ → Link → Plan
 insertPlan st k v l = plan (store l (Insert k v) ∷ []) (fixupAfterInsert st k l .ending)
 
+-- 02, C-13: insert of a held key, with its record v; the link l holds its node. One store; no colour changes.
+abbrev pub replacePlan : ℕ → Link → Plan
+replacePlan v l = plan (store l (Replace v) ∷ []) Balanced
+
 -- 'Delete B'. The form goes by B's links alone. At most one child: the child that there is, or 0.
 abbrev pub twoChildren : List ℕ → ℕ → Bool
 twoChildren p b = not (eqb (child p L b) 0) && not (eqb (child p R b) 0)
@@ -193,7 +197,7 @@ successorPlan st l b (above ∷ up) =
     let c = linkNode st above in
     let e = fixupAfterRemoval p c (child p R c) (above ∷ up) .ending in
     cond (eqb (child p L (child p R b)) 0)
-    (plan (store l Adopt ∷ store l Replace ∷ []) e)
+    (plan (store l Adopt ∷ store l Promote ∷ []) e)
     (plan (store l (Publish c) ∷ store l (Detach (word p b keyWord)) ∷ []) e)
 
 -- delete of node B, which the link l holds

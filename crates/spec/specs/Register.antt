@@ -8,7 +8,7 @@ use Rattle.base.specs.Walk.{allIn, foldIn}
 use Rattle.datatypes.specs.declared.Link.{Link}
 use Rattle.datatypes.specs.declared.Link.the-variants.{Root, Left, Right}
 use Rattle.datatypes.specs.declared.Step.{Step}
-use Rattle.datatypes.specs.declared.Step.the-variants.{Vacant, Insert, DiagLower, DiagRaise, ZigLowerA, ZigLowerC, ZigRaise, Unlink, Adopt, Replace, Publish, Detach}
+use Rattle.datatypes.specs.declared.Step.the-variants.{Vacant, Insert, Replace, DiagLower, DiagRaise, ZigLowerA, ZigLowerC, ZigRaise, Unlink, Adopt, Promote, Publish, Detach}
 use Rattle.datatypes.specs.declared.Store.{Store}
 use Rattle.datatypes.specs.declared.Write.{Write}
 use Rattle.datatypes.specs.declared.Kind.{Kind}
@@ -128,6 +128,7 @@ linkInRange capacity (Right n) = nodeNumber capacity n
 abbrev pub stepInRange : ℕ → Step → Bool
 stepInRange capacity Vacant = false
 stepInRange capacity (Insert k v) = true
+stepInRange capacity (Replace v) = true
 stepInRange capacity (DiagLower s purpose) = true
 stepInRange capacity (DiagRaise s purpose) = true
 stepInRange capacity (ZigLowerA s purpose) = true
@@ -135,7 +136,7 @@ stepInRange capacity (ZigLowerC s purpose) = true
 stepInRange capacity (ZigRaise s purpose) = true
 stepInRange capacity Unlink = true
 stepInRange capacity Adopt = true
-stepInRange capacity Replace = true
+stepInRange capacity Promote = true
 stepInRange capacity (Publish n) = nodeNumber capacity n
 stepInRange capacity (Detach k) = true
 
@@ -147,6 +148,7 @@ isRoot (Right n) = false
 abbrev pub isVacant : Step → Bool
 isVacant Vacant = true
 isVacant (Insert k v) = false
+isVacant (Replace v) = false
 isVacant (DiagLower s purpose) = false
 isVacant (DiagRaise s purpose) = false
 isVacant (ZigLowerA s purpose) = false
@@ -154,7 +156,7 @@ isVacant (ZigLowerC s purpose) = false
 isVacant (ZigRaise s purpose) = false
 isVacant Unlink = false
 isVacant Adopt = false
-isVacant Replace = false
+isVacant Promote = false
 isVacant (Publish n) = false
 isVacant (Detach k) = false
 

@@ -14,7 +14,7 @@ use Rattle.datatypes.specs.declared.Ending.{Ending}
 use Rattle.datatypes.specs.declared.Ending.the-variants.{Balanced, Blacken, Rotate, RotateTwice, Missing}
 use Rattle.datatypes.specs.declared.Fixup.{Fixup}
 use Rattle.datatypes.specs.declared.Step.{Step}
-use Rattle.datatypes.specs.declared.Step.the-variants.{Vacant, Insert, DiagLower, DiagRaise, ZigLowerA, ZigLowerC, ZigRaise, Unlink, Adopt, Replace, Publish, Detach}
+use Rattle.datatypes.specs.declared.Step.the-variants.{Vacant, Insert, Replace, DiagLower, DiagRaise, ZigLowerA, ZigLowerC, ZigRaise, Unlink, Adopt, Promote, Publish, Detach}
 use Rattle.datatypes.specs.declared.Store.{Store}
 use Rattle.datatypes.specs.declared.Write.{Write}
 use Rattle.datatypes.specs.Side.{other, linkAt}
@@ -43,7 +43,7 @@ colourOf st n = word (st .pool) n colourWord
 abbrev pub blackRoot : State → State
 blackRoot st = painted st (st .register .root) blackColour
 
--- Keys held is inserts done less deletes done, counted at the list stores.
+-- Keys held is inserts done less deletes done, counted at the list stores; a held key's insert doesn't count (02, C-13).
 abbrev pub oneMore : State → State
 oneMore st = state (st .pool) (withHeld (st .register) (countUp (nodes (st .pool)) (st .register .held)))
 
@@ -66,6 +66,15 @@ insertStore st l k v =
     let linked = oneMore (setLink (takeNode st k v L 0 0 redColour) l n) in
     let coloured = state (paintInsertFixup (fix .levels) path (linked .pool)) (linked .register) in
     made (endInsert (fix .ending) coloured) l n
+
+-- 02, C-13. Insert of a held key: B' copies B with the record v, B's links and colour. B's link from above := B' (list store); B retired.
+unfoldable pub replaceStore : State → Link → ℕ → Made
+replaceStore st l v =
+    let p = st .pool in
+    let b = linkNode st l in
+    let n = st .register .first in
+    let linked = setLink (takeNode st (word p b keyWord) v L (child p L b) (child p R b) (colourOf st b)) l n in
+    made (retire linked b) l n
 
 -- The colours that a rotation ends with. Copies get theirs when made, other nodes at its last store.
 abbrev pub copyColour : Purpose → ℕ
@@ -172,21 +181,21 @@ adoptStore st l =
     made (setLink st (Left c) x) (Left c) x
 
 -- B's link from above := C (list store); C takes B's colour; B retired. C's old colour is lost, at its right.
-abbrev pub replacePath : State → Link → List Link
-replacePath st l = belowRight (linkNode st l) (unlinkPath st l)
+abbrev pub promotePath : State → Link → List Link
+promotePath st l = belowRight (linkNode st l) (unlinkPath st l)
 
-abbrev pub replaceFixup : State → Link → Fixup
-replaceFixup st l =
+abbrev pub promoteFixup : State → Link → Fixup
+promoteFixup st l =
     let c = child (st .pool) R (linkNode st l) in
-    fixupAfterRemoval (st .pool) c (child (st .pool) R c) (replacePath st l)
+    fixupAfterRemoval (st .pool) c (child (st .pool) R c) (promotePath st l)
 
-unfoldable pub replaceStore : State → Link → Made
-replaceStore st l =
+unfoldable pub promoteStore : State → Link → Made
+promoteStore st l =
     let b = linkNode st l in
     let c = child (st .pool) R b in
     let x = child (st .pool) R c in
-    let replaced = painted (oneLess (setLink st l c)) c (colourOf st b) in
-    made (retire (paintDeleteFixup replaced (replaceFixup st l) x (replacePath st l)) b) l c
+    let promoted = painted (oneLess (setLink st l c)) c (colourOf st b) in
+    made (retire (paintDeleteFixup promoted (promoteFixup st l) x (promotePath st l)) b) l c
 
 -- Delete B, other: C' copies C with B's colour and links. B's link from above := C' (list store); B retired; all reading slots are
 -- awaited. The stores still to come that hang on B's right hang on C' now.
@@ -260,6 +269,7 @@ endDiagFinds BlackSibling st s b = isNode (child (st .pool) s b)
 unfoldable pub stepFinds : State → Link → Step → Bool
 stepFinds st l Vacant = false
 stepFinds st l (Insert k v) = nodesFound (fixupAfterInsert st k l) && not (queueEmpty st)
+stepFinds st l (Replace v) = isNode (linkNode st l) && not (queueEmpty st)
 stepFinds st l (DiagLower s purpose) = isNode (diagChild st l s) && not (queueEmpty st)
 stepFinds st l (DiagRaise s purpose) = isNode (diagChild st l s) && endDiagFinds purpose st s (diagChild st l s)
 stepFinds st l (ZigLowerA s purpose) = isNode (zigChild st l s) && not (queueEmpty st)
@@ -267,13 +277,14 @@ stepFinds st l (ZigLowerC s purpose) = isNode (zigChild st l s) && not (queueEmp
 stepFinds st l (ZigRaise s purpose) = isNode (zigChild st l s)
 stepFinds st l Unlink = isNode (linkNode st l) && nodesFound (unlinkFixup st l)
 stepFinds st l Adopt = isNode (child (st .pool) R (linkNode st l))
-stepFinds st l Replace = isNode (child (st .pool) R (linkNode st l)) && nodesFound (replaceFixup st l)
+stepFinds st l Promote = isNode (child (st .pool) R (linkNode st l)) && nodesFound (promoteFixup st l)
 stepFinds st l (Publish c) = isNode (linkNode st l) && not (queueEmpty st)
 stepFinds st l (Detach k) = reached (detachPath st l k) && isNode (detachNode st l k) && nodesFound (detachFixup st l k)
 
 unfoldable pub stepMade : State → Link → Step → Made
 stepMade st l Vacant = made st l 0
 stepMade st l (Insert k v) = insertStore st l k v
+stepMade st l (Replace v) = replaceStore st l v
 stepMade st l (DiagLower s purpose) = diagLower st l s purpose
 stepMade st l (DiagRaise s purpose) = diagRaise st l s purpose
 stepMade st l (ZigLowerA s purpose) = zigLowerA st l s purpose
@@ -281,13 +292,13 @@ stepMade st l (ZigLowerC s purpose) = zigLowerC st l s purpose
 stepMade st l (ZigRaise s purpose) = zigRaise st l s purpose
 stepMade st l Unlink = unlinkStore st l
 stepMade st l Adopt = adoptStore st l
-stepMade st l Replace = replaceStore st l
+stepMade st l Promote = promoteStore st l
 stepMade st l (Publish c) = publishStore st l c
 stepMade st l (Detach k) = detachStore st l k
 
--- What a step does besides storing a link. Whether it is its write's list store, and whether a key comes or goes with it:
+-- What a step does besides storing a link. Whether it is its write's list store, and whether a key comes, goes, or stays with its new record:
 pub data Listing : Type 0 where
-  unlisted keyComes keyGoes : Listing
+  unlisted keyComes keyStays keyGoes : Listing
 
 pub record Profile : Type 0 where
   -- it takes the first free node, as a new node or a copy
@@ -305,6 +316,7 @@ profiled takes listing awaits renames = record { takes = takes; listing = listin
 abbrev pub profile : Step → Profile
 profile Vacant = profiled false unlisted false false
 profile (Insert k v) = profiled true keyComes false false
+profile (Replace v) = profiled true keyStays false false
 profile (DiagLower s purpose) = profiled true unlisted false false
 profile (DiagRaise s purpose) = profiled false unlisted false false
 profile (ZigLowerA s purpose) = profiled true unlisted false false
@@ -312,17 +324,19 @@ profile (ZigLowerC s purpose) = profiled true unlisted false false
 profile (ZigRaise s purpose) = profiled false unlisted false false
 profile Unlink = profiled false keyGoes false false
 profile Adopt = profiled false unlisted false false
-profile Replace = profiled false keyGoes false false
+profile Promote = profiled false keyGoes false false
 profile (Publish c) = profiled true keyGoes true true
 profile (Detach k) = profiled false unlisted false false
 
 abbrev pub isListed : Listing → Bool
 isListed unlisted = false
 isListed keyComes = true
+isListed keyStays = true
 isListed keyGoes = true
 
 -- keys held after it, of a pool of so many nodes
 abbrev pub countedBy : Listing → ℕ → ℕ → ℕ
 countedBy unlisted capacity h = h
 countedBy keyComes capacity h = countUp capacity h
+countedBy keyStays capacity h = h
 countedBy keyGoes capacity h = countDown h

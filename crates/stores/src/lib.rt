@@ -1,4 +1,4 @@
-// The stores that link a new node, let a node adopt, and publish a copy. Each function tries one store: it tests that the nodes are
+// The stores that link a new node, replace a record, let a node adopt, and publish a copy. Each function tries one store: it tests that the nodes are
 // there, and the free node that it takes, before it changes anything.
 use datatypes::Ending;
 use datatypes::Head;
@@ -13,14 +13,14 @@ ghost use Prim.Native.Nat.{_<_};
 ghost use lib.ListN.{length};
 ghost use Rattle.datatypes.specs.declared.Register.{Register};
 ghost use Rattle.datatypes.specs.declared.Side.the-variants.{L};
-ghost use Rattle.datatypes.specs.declared.Step.the-variants.{Insert, Adopt};
+ghost use Rattle.datatypes.specs.declared.Step.the-variants.{Insert, Replace, Adopt};
 ghost use Rattle.datatypes.specs.Side.{owner};
 ghost use Rattle.spec.specs.Numbers.{poolLimit};
 ghost use Rattle.spec.specs.Pool.{isRed, redColour};
 ghost use Rattle.spec.specs.Register.{state, setLink};
 ghost use Rattle.spec.specs.Free.{takeNode};
 ghost use Rattle.spec.specs.Turn.{oneMore, endInsert, movedLink, movedStore, movedWrite};
-ghost use Rattle.heads.specs.Head.{Follows, Tries};
+ghost use Rattle.heads.specs.Head.{Follows, Tries, TriesReading};
 ghost use Rattle.stores.specs.Published.{Publishes};
 
 // Stores a new red node in the link l; one key more is held.
@@ -108,6 +108,39 @@ pub fn insert(pool: &mut [u32], h: Head, l: Link, k: u32, v: u32) -> StepResult
         return insert_under_red(pool, h, l, k, v);
     }
     insert_under_black(pool, h, l, k, v)
+}
+
+// Insert of a held key, B's (document 02, C-13): takes B', a copy of B with the record v, and stores it in B's link from above. B is retired.
+// This is the write's list store; keys held don't change.
+//
+//        B               B'           B retired: its children are l and r
+//       / \             / \
+//      l   r     =>    l   r
+pub fn replace(pool: &mut [u32], h: Head, reading: u32, l: Link, v: u32) -> StepResult
+    requires { ⌜ length (now pool) < poolLimit ⌝ }
+    ensures { λ r. ⌜ TriesReading reading l (Replace v) (now (pool .entry)) h (now (pool .exit)) r ⌝ }
+{
+    let b = pool::node_at(pool, h.root, l);
+    if b == 0 {
+        return heads::missed(h);
+    }
+    let first = h.first;
+    if first == 0 {
+        return heads::missed(h);
+    }
+    let k = pool::word(pool, b, pool::KEY);
+    let x = pool::child(pool, Side::L, b);
+    let y = pool::child(pool, Side::R, b);
+    let colour = pool::word(pool, b, pool::COLOUR);
+    let taken = queue::take_node(pool, h, k, v, Side::L, x, y, colour);
+    let linked = heads::set_link(pool, taken, l, first);
+    let head = queue::retire(pool, linked, reading, b);
+    StepResult {
+        found: true,
+        link: l,
+        node: first,
+        head,
+    }
 }
 
 // Delete of B, right child C without left child, first store: stores B's left child in C's left link.

@@ -4,7 +4,7 @@ use mathlib.Core.List.{List, [], _∷_}
 use Rattle.datatypes.specs.declared.Side.the-variants as side
 use Rattle.datatypes.specs.declared.Link.the-variants.{Root, Left, Right}
 use Rattle.datatypes.specs.declared.Purpose.the-variants.{ForInsert, RedSibling, BlackSibling}
-use Rattle.datatypes.specs.declared.Step.the-variants.{Insert, DiagLower, DiagRaise, ZigLowerA, ZigLowerC, ZigRaise, Unlink, Adopt, Replace, Publish}
+use Rattle.datatypes.specs.declared.Step.the-variants.{Insert, DiagLower, DiagRaise, ZigLowerA, ZigLowerC, ZigRaise, Unlink, Adopt, Promote, Publish}
 use Rattle.datatypes.specs.declared.Step.the-variants.{Detach}
 use Rattle.spec.specs.Calls.{ok, go, absent, wait, more, done, refused}
 use Rattle.table.specs.Picture.{row, root_held_awaited_stores_, picture, drawn, none, nil, red, black, redLeaf, blackLeaf, tree, _on_, key}
@@ -30,8 +30,8 @@ damaged =
     ∷ gives12 "12: Unlink where the link is 0" (three but (hand (Unlink on Right 3) ∷ []))
     ∷ gives12 "12: Unlink at the root of an empty tree" (three but (root:= 0 ∷ hand (Unlink on Root) ∷ []))
     ∷ gives12 "12: Adopt without a right child" (three but (hand (Adopt on Left 2) ∷ []))
-    ∷ gives12 "12: Replace without a right child" (three but (hand (Replace on Left 2) ∷ []))
-    ∷ gives12 "12: Replace whose sibling is missing" (three but (hand (Replace on Root) ∷ colour of 3 := 0 ∷ left of 2 := 0 ∷ []))
+    ∷ gives12 "12: Promote without a right child" (three but (hand (Promote on Left 2) ∷ []))
+    ∷ gives12 "12: Promote whose sibling is missing" (three but (hand (Promote on Root) ∷ colour of 3 := 0 ∷ left of 2 := 0 ∷ []))
     ∷ gives12 "12: Detach whose sibling is missing" (five but (hand (Detach 20 on Root) ∷ colour of 3 := 0 ∷ right of 4 := 0 ∷ []))
     ∷ gives12 "12: Publish where the link is 0" (three but (hand (Publish 1 on Right 3) ∷ []))
     ∷ gives12 "12: Detach without a node to its right" (single but (hand (Detach 10 on Root) ∷ []))
@@ -114,8 +114,8 @@ damaged =
     ((Unlink on Left 2) ∷ []))
     ∷ gives12 "12: Detach without a node to its right, beside a black sibling"
     (three but (hand (Detach 20 on Root) ∷ colour of 1 := 0 ∷ right of 2 := 0 ∷ []))
-    ∷ gives12 "12: Replace without a right child, beside a black sibling"
-    (three but (hand (Replace on Root) ∷ colour of 1 := 0 ∷ right of 2 := 0 ∷ []))
+    ∷ gives12 "12: Promote without a right child, beside a black sibling"
+    (three but (hand (Promote on Root) ∷ colour of 1 := 0 ∷ right of 2 := 0 ∷ []))
     ∷ gives12 "12: Unlink where the link is 0, beside a black sibling"
     (three but (hand (Unlink on Left 2) ∷ left of 2 := 0 ∷ colour of 3 := 0 ∷ []))
     ∷ entry "an adopt where B has no left child names none" (three but (hand (Adopt on Root) ∷ left of 2 := 0 ∷ left of 3 := 1 ∷ []))
@@ -153,7 +153,7 @@ damaged =
     ∷ entry "Adopt takes no node: the queue may be empty" (three but (hand (Adopt on Root) ∷ first:= 0 ∷ []))
     (W ⇒ done (Left 3) 1
     ∷ leaves (left of 3 := 1 ∷ atRest ∷ []) ∷ [])
-    ∷ entry "Replace takes no node: the queue may be empty" (three but (hand (Replace on Root) ∷ first:= 0 ∷ []))
+    ∷ entry "Promote takes no node: the queue may be empty" (three but (hand (Promote on Root) ∷ first:= 0 ∷ []))
     (W ⇒ done Root 3
     ∷ leaves (standing of 2 := 0 ∷ colour of 3 := 0 ∷ root:= 3 ∷ first:= 2 ∷ last:= 2 ∷ free:= 6 ∷ held:= 2 ∷ atRest ∷ []) ∷ [])
     ∷ entry "Detach takes no node: the queue may be empty" (five but (hand (Detach 20 on Root) ∷ first:= 0 ∷ []))
@@ -178,7 +178,7 @@ damaged =
     [])
     (D 10 ⇒ ok ∷ W ⇒ done (Left 2) 3
     ∷ stands (picture (root 2 held 2 awaited 0 stores 0) [] (row 2 20 200 0 3 0 ∷ row 3 5 50 1 0 0 ∷ []) [] (4 ∷ 5 ∷ 6 ∷ 7 ∷ 8 ∷ 1 ∷ [])) ∷ [])
-    ∷ entry "a red node lost is no loss: a red x stays red: replace"
+    ∷ entry "a red node lost is no loss: a red x stays red: promote"
     (three but (right of 3 := 4 ∷ fills (row 4 40 400 1 0 0) ∷ first:= 5 ∷ free:= 4 ∷ held:= 4 ∷ []))
     (D 20 ⇒ ok ∷ W ⇒ more (Left 3) 1 ∷ W ⇒ done Root 3
     ∷ leaves (standing of 2 := 0 ∷ left of 3 := 1 ∷ colour of 3 := 0 ∷ nextFree of 8 := 2 ∷ root:= 3 ∷ last:= 2 ∷ free:= 5 ∷ held:= 3 ∷ []) ∷ [])
@@ -236,13 +236,13 @@ damaged =
     ∷ leaves (right of 2 := 5 ∷ standing of 4 := 0 ∷ colour of 5 := 0 ∷ nextFree of 12 := 4 ∷ last:= 4 ∷ free:= 8 ∷ held:= 4 ∷ atRest ∷ []) ∷ [])
     ∷ gives12 "decision 12: the link on the other side is another link: left" (five but (hand (Insert 60 600 on Left 5) ∷ []))
     ∷ gives12 "decision 12: the link on the other side is another link: right" (five but (hand (Insert 45 450 on Right 5) ∷ []))
-    ∷ gives12 "decision 12: a replace whose link its descent does not meet"
-    (five but (hand (Replace on Right 2) ∷ key of 2 := 60 ∷ colour of 5 := 0 ∷ []))
-    ∷ entry "decision 12: such a replace by a red node goes by no path" (five but (hand (Replace on Right 2) ∷ key of 2 := 60 ∷ []))
+    ∷ gives12 "decision 12: a promote whose link its descent does not meet"
+    (five but (hand (Promote on Right 2) ∷ key of 2 := 60 ∷ colour of 5 := 0 ∷ []))
+    ∷ entry "decision 12: such a promote by a red node goes by no path" (five but (hand (Promote on Right 2) ∷ key of 2 := 60 ∷ []))
     (W ⇒ done (Right 2) 5
     ∷ leaves (right of 2 := 5 ∷ standing of 4 := 0 ∷ colour of 5 := 0 ∷ nextFree of 12 := 4 ∷ last:= 4 ∷ free:= 8 ∷ held:= 4 ∷ atRest ∷ []) ∷ [])
-    ∷ entry "decision 12: such a replace with a red x goes by no path"
-    (five but (hand (Replace on Right 2) ∷ key of 2 := 60 ∷ colour of 5 := 0 ∷ right of 5 := 3 ∷ []))
+    ∷ entry "decision 12: such a promote with a red x goes by no path"
+    (five but (hand (Promote on Right 2) ∷ key of 2 := 60 ∷ colour of 5 := 0 ∷ right of 5 := 3 ∷ []))
     (W ⇒ done (Right 2) 5
     ∷ leaves (right of 2 := 5 ∷ colour of 3 := 0 ∷ standing of 4 := 0 ∷ nextFree of 12 := 4 ∷ last:= 4 ∷ free:= 8 ∷ held:= 4 ∷ atRest ∷ []) ∷ [])
     ∷ entry "decision 13: a reader goes on in a circle" (three but (right of 3 := 3 ∷ reader 0 := (reads 40 2) ∷ []))

@@ -13,7 +13,7 @@ use Rattle.datatypes.specs.declared.Link.the-variants.{Root, Left, Right}
 use Rattle.datatypes.specs.declared.Purpose.{Purpose}
 use Rattle.datatypes.specs.declared.Purpose.the-variants.{ForInsert, RedSibling, BlackSibling}
 use Rattle.datatypes.specs.declared.Step.{Step}
-use Rattle.datatypes.specs.declared.Step.the-variants.{Vacant, Insert, DiagLower, DiagRaise, ZigLowerA, ZigLowerC, ZigRaise, Unlink, Adopt, Replace}
+use Rattle.datatypes.specs.declared.Step.the-variants.{Vacant, Insert, DiagLower, DiagRaise, ZigLowerA, ZigLowerC, ZigRaise, Unlink, Adopt, Promote}
 use Rattle.datatypes.specs.declared.Step.the-variants.{Publish, Detach}
 use Rattle.datatypes.specs.declared.Store.{Store}
 use Rattle.datatypes.specs.declared.Kind.{Kind}
@@ -113,7 +113,7 @@ stepNumbers (ZigLowerC s purpose) = 5 ∷ sideNumber s ∷ purposeNumber purpose
 stepNumbers (ZigRaise s purpose) = 6 ∷ sideNumber s ∷ purposeNumber purpose ∷ []
 stepNumbers Unlink = 7 ∷ 0 ∷ 0 ∷ []
 stepNumbers Adopt = 8 ∷ 0 ∷ 0 ∷ []
-stepNumbers Replace = 9 ∷ 0 ∷ 0 ∷ []
+stepNumbers Promote = 9 ∷ 0 ∷ 0 ∷ []
 stepNumbers (Publish n) = 10 ∷ n ∷ 0 ∷ []
 stepNumbers (Detach k) = 11 ∷ k ∷ 0 ∷ []
 

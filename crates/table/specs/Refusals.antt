@@ -5,7 +5,7 @@ use mathlib.Core.List.{List, [], _∷_}
 use Rattle.datatypes.specs.declared.Side.the-variants as side
 use Rattle.datatypes.specs.declared.Link.the-variants.{Root, Left, Right}
 use Rattle.datatypes.specs.declared.Purpose.the-variants.{ForInsert}
-use Rattle.datatypes.specs.declared.Step.the-variants.{Vacant, Insert, DiagLower, DiagRaise, ZigLowerA, ZigLowerC, ZigRaise, Unlink, Adopt, Replace}
+use Rattle.datatypes.specs.declared.Step.the-variants.{Vacant, Insert, DiagLower, DiagRaise, ZigLowerA, ZigLowerC, ZigRaise, Unlink, Adopt, Promote}
 use Rattle.datatypes.specs.declared.Step.the-variants.{Publish, Detach}
 use Rattle.spec.specs.Register.{State}
 use Rattle.spec.specs.Calls.{ok, go, absent, found, done, refused}
@@ -134,7 +134,7 @@ refusals =
     ∷ gives2 "2: ZigRaise where no store is to come" three (store 0 := (ZigRaise side.L ForInsert on Root) ∷ [])
     ∷ gives2 "2: Unlink where no store is to come" three (store 0 := (Unlink on Root) ∷ [])
     ∷ gives2 "2: Adopt where no store is to come" three (store 0 := (Adopt on Root) ∷ [])
-    ∷ gives2 "2: Replace where no store is to come" three (store 0 := (Replace on Root) ∷ [])
+    ∷ gives2 "2: Promote where no store is to come" three (store 0 := (Promote on Root) ∷ [])
     ∷ gives2 "2: Publish where no store is to come" three (store 0 := (Publish 1 on Root) ∷ [])
     ∷ entry "10: keys held N − 3" (three but (held:= 5 ∷ []))
     (I 25 5 ⇒ refused 10 ∷ [])

@@ -9,7 +9,7 @@ use Rattle.spec.specs.Free.{takeFree, fillNode, takeNode, freeNode, retire, ret
 use Rattle.spec.specs.Search.{seek, trail, leftmost}
 use Rattle.spec.specs.Plan.{insertFixup, fixupAfterInsert, paintInsertFixup, redSibling, deleteFixup, fixupAfterRemoval, paintDeleteLevels}
 use Rattle.spec.specs.Plan.{paintDeleteFixup, insertPlan, unlinkPlan, deletePlan}
-use Rattle.spec.specs.Turn.{insertStore, diagLower, diagRaise, zigLowerA, zigLowerC, zigRaise, unlinkStore, adoptStore, replaceStore, movedWrite}
+use Rattle.spec.specs.Turn.{insertStore, diagLower, diagRaise, zigLowerA, zigLowerC, zigRaise, unlinkStore, adoptStore, promoteStore, movedWrite}
 use Rattle.spec.specs.Turn.{publishStore, detachStore, stepFinds, stepMade}
 use Rattle.spec.specs.Calls.{setUp, insert, delete, stored, writerTurn, begin, readerStep, readerTurn, giveUp}
 use Rattle.table.specs.Entry.{allPass}
@@ -43,7 +43,7 @@ unfolding allFrom allIn foldFrom foldIn word setWord nodeInRange poolInRange len
     withAwaited withWrite nodeAt setLink putSlot dropSlot readingSlots storeInRange registerInRange freshRegister fresh writeOf lessFirst takeFree
     fillNode takeNode freeNode retire retireTwo release endReading seek trail leftmost insertFixup fixupAfterInsert paintInsertFixup redSibling
     deleteFixup fixupAfterRemoval paintDeleteLevels paintDeleteFixup insertPlan unlinkPlan deletePlan insertStore diagLower diagRaise zigLowerA
-    zigLowerC zigRaise unlinkStore adoptStore replaceStore movedWrite publishStore detachStore stepFinds stepMade setUp insert delete stored
+    zigLowerC zigRaise unlinkStore adoptStore promoteStore movedWrite publishStore detachStore stepFinds stepMade setUp insert delete stored
     writerTurn begin readerStep readerTurn giveUp
 tables-pass =
     record {

@@ -19,7 +19,7 @@ use Rattle.datatypes.specs.declared.Ending.{Ending}
 use Rattle.datatypes.specs.declared.Ending.the-variants.{Balanced, Blacken, Missing}
 use Rattle.datatypes.specs.declared.Fixup.{Fixup}
 use Rattle.datatypes.specs.declared.Place.{Place}
-use Rattle.datatypes.specs.declared.Step.the-variants.{Unlink, Adopt, Replace, Publish, Detach}
+use Rattle.datatypes.specs.declared.Step.the-variants.{Unlink, Adopt, Promote, Publish, Detach}
 use Rattle.datatypes.specs.declared.Store.{Store}
 use Rattle.datatypes.specs.Side.{other, linkAt, owner, sideOf}
 use Rattle.sequential.specs.Tree as Seq
@@ -111,7 +111,7 @@ module _ (st : State) (l : Link) (b : ℕ) where
       go [] y = absurd (false≢true y)
       go (a ∷ up) y =
           let c = linkNode st a in
-          rw (eq-eqb (child p L (child p R b)) 0 z) (second (store l Adopt) (store l Replace) (endingStores (fixupAfterRemoval p c (child p R c) (a ∷ up) .ending)) refl refl refl
+          rw (eq-eqb (child p L (child p R b)) 0 z) (second (store l Adopt) (store l Promote) (endingStores (fixupAfterRemoval p c (child p R c) (a ∷ up) .ending)) refl refl refl
           (λ capacity h. refl) (let i = few-removal p c (child p R c) (a ∷ up) in omega arith))
 
   third-form : twoChildren p b ≡ true → child p L (child p R b) ≢ 0 → deletePlan st l b .possible ≡ true → Shape (deletePlan st l b) 1
@@ -147,10 +147,6 @@ place-shape st T k S r e pl (held-at fs N x y q i j n) held ok =
     let at : descend S k [] .at ≡ erase f (cell N x y) =
     ap (λ t. descend t k [] .at) (sym e ∙ ap (erase f) (sym q) ∙ erase-plug f fs (cell N x y)) ∙ ap (λ z. z .at) (descend-place (eraseWay f fs) (erase f (cell N x y)) k (erase-into f fs k i) j) in
     rw at (form-of st (linkTo fs) (N .num) f (f (N .num)) (N .key) (N .val) x y (there .1) (there .2) ok)
-
-pub some-of : (o : Option ℕ) → heldOf o ≡ true → (v : ℕ) × (o ≡ some v)
-some-of none e = absurd (false≢true e)
-some-of (some v) e = (v, refl)
 
 tells-delete : (S : Tree) (k : ℕ) (ts : List Ticket) → Ordered S → ((q : ℕ) → Seq.find S q ≡ recordFor q ts) → (q : ℕ) → recordFor q (updated (deletion k) ts) ≡ Seq.find (SeqDelete.delete S k) q
 tells-delete S k ts ord seq q = elim (ℕ-discrete k q) [

@@ -7,10 +7,10 @@ use lib.ListN.{length}
 use Rattle.base.specs.Walk.{cond-both}
 use Rattle.datatypes.specs.declared.Link.{Link}
 use Rattle.datatypes.specs.declared.Step.{Step}
-use Rattle.datatypes.specs.declared.Step.the-variants.{Vacant, Insert, DiagLower, DiagRaise, ZigLowerA, ZigLowerC, ZigRaise, Unlink, Adopt, Replace, Publish, Detach}
+use Rattle.datatypes.specs.declared.Step.the-variants.{Vacant, Insert, Replace, DiagLower, DiagRaise, ZigLowerA, ZigLowerC, ZigRaise, Unlink, Adopt, Promote, Publish, Detach}
 use Rattle.datatypes.specs.declared.Store.{Store}
 use Rattle.spec.specs.Register.{State, linkNode}
-use Rattle.spec.specs.Turn.{movedStore, Listing, unlisted, keyComes, keyGoes, profile, isListed, countedBy}
+use Rattle.spec.specs.Turn.{movedStore, Listing, unlisted, keyComes, keyStays, keyGoes, profile, isListed, countedBy}
 use Rattle.heap.specs.Shift.{isListStore, takenIf, takenBy, heldAfter, later}
 
 -- how many nodes the stores to come take
@@ -22,6 +22,7 @@ takesAll (s ∷ l) = length (takenBy (s .step) 0) + takesAll l
 plain-keeps : (x : Step) → isListStore x ≡ false → profile x .renames ≡ false
 plain-keeps Vacant e = refl
 plain-keeps (Insert k v) e = refl
+plain-keeps (Replace v) e = refl
 plain-keeps (DiagLower s c) e = refl
 plain-keeps (DiagRaise s c) e = refl
 plain-keeps (ZigLowerA s c) e = refl
@@ -29,7 +30,7 @@ plain-keeps (ZigLowerC s c) e = refl
 plain-keeps (ZigRaise s c) e = refl
 plain-keeps Unlink e = refl
 plain-keeps Adopt e = refl
-plain-keeps Replace e = refl
+plain-keeps Promote e = refl
 plain-keeps (Publish c) e = absurd (false≢true (sym e))
 plain-keeps (Detach k) e = refl
 
@@ -40,6 +41,7 @@ later-plain st l x w e = rw (plain-keeps x e)
 unlisted-count : (a : Listing) (capacity h : ℕ) → isListed a ≡ false → countedBy a capacity h ≡ h
 unlisted-count unlisted capacity h e = refl
 unlisted-count keyComes capacity h e = absurd (false≢true (sym e))
+unlisted-count keyStays capacity h e = refl
 unlisted-count keyGoes capacity h e = absurd (false≢true (sym e))
 
 pub held-plain : (x : Step) (capacity h : ℕ) → isListStore x ≡ false → heldAfter x capacity h ≡ h

@@ -11,8 +11,8 @@ use Rattle.datatypes.specs.declared.Link.{Link}
 use Rattle.base.specs.Lists.{_∈_}
 use Rattle.tree.specs.Linked.{Linked, nil, cell, nodes}
 use Rattle.tree.specs.Occurs.{one-same, occ, in-occ, occ-in}
-use Rattle.heap.specs.Shift.{Shift, by-insert, by-diag-lower, by-diag-raise, by-zig-A, by-zig-C, by-zig-raise, by-unlink}
-use Rattle.heap.specs.Shift.{by-adopt, by-replace, by-publish, by-detach}
+use Rattle.heap.specs.Shift.{Shift, by-insert, by-replace, by-diag-lower, by-diag-raise, by-zig-A, by-zig-C, by-zig-raise, by-unlink}
+use Rattle.heap.specs.Shift.{by-adopt, by-promote, by-publish, by-detach}
 use Rattle.heap.specs.AdoptStep.{form-count}
 use Rattle.heap.specs.Nodes.{shift-nodes, shift-left}
 
@@ -46,6 +46,7 @@ only n m (inr i) = absurd i
 
 pub shift-new : {T T′ : Linked} {l : Link} {v : ℕ} {came gone : List ℕ} {b w : Bool} → Shift T T′ l v came gone b w → (n : ℕ) → n ∈ came → n ≡ v
 shift-new (by-insert fs Z i w) n j = only n _ j
+shift-new (by-replace fs B m v l r w z) n j = only n _ j
 shift-new (by-diag-lower fs s B C m o x r ord w z) n j = only n _ j
 shift-new (by-diag-raise fs s B C m o x r ord w z) n j = absurd j
 shift-new (by-zig-A fs s A B C m a x y r ord w z) n j = only n _ j
@@ -53,13 +54,14 @@ shift-new (by-zig-C fs s A B C m i a x y r ord w z q d) n j = only n _ j
 shift-new (by-zig-raise fs s A B C m i a x y r ord w z q d) n j = absurd j
 shift-new (by-unlink fs s B x ord w) n j = absurd j
 shift-new (by-adopt fs B C l y a ord w) n j = absurd j
-shift-new (by-replace fs B C l y ord w) n j = absurd j
+shift-new (by-promote fs B C l y ord w) n j = absurd j
 shift-new (by-publish fs gs B C m l y al ord w z) n j = only n _ j
 shift-new (by-detach fs gs B C m l y al ord w z) n j = absurd j
 
 pub shift-effect : {T T′ : Linked} {l : Link} {v : ℕ} {came gone : List ℕ} {b w : Bool} → Shift T T′ l v came gone b w
     → ((n : ℕ) × ((n ∈ came) ⊎ (n ∈ gone))) ⊎ (T ≢ T′)
 shift-effect (by-insert fs Z i w) = inl (_, inl (inl refl))
+shift-effect (by-replace fs B m v l r w z) = inl (_, inl (inl refl))
 shift-effect (by-diag-lower fs s B C m o x r ord w z) = inl (_, inl (inl refl))
 shift-effect (by-diag-raise fs s B C m o x r ord w z) = inl (_, inr (inl refl))
 shift-effect (by-zig-A fs s A B C m a x y r ord w z) = inl (_, inl (inl refl))
@@ -73,6 +75,6 @@ shift-effect (by-adopt fs B C (cell N l r) y a ord w) =
     let z = form-count fs B C (cell N l r) (cell N l r) y n in
     let i = one-same n in
     inr (λ e. let c = ap (λ t. occ n (nodes t)) e in omega arith)
-shift-effect (by-replace fs B C l y ord w) = inl (_, inr (inl refl))
+shift-effect (by-promote fs B C l y ord w) = inl (_, inr (inl refl))
 shift-effect (by-publish fs gs B C m l y al ord w z) = inl (_, inl (inl refl))
 shift-effect (by-detach fs gs B C m l y al ord w z) = inl (_, inr (inl refl))

@@ -2,7 +2,7 @@
 use Prim.Native.Nat.{ℕ, _+_, _-_, _/_, _≤_}
 use mathlib.Core.Path.{_≡_, refl, sym, ap, _∙_, subst}
 use mathlib.Core.Logic.{_≢_}
-use mathlib.Core.Bool.{false, cond, not, false≢true}
+use mathlib.Core.Bool.{true, false, cond, not, _&&_, false≢true}
 use mathlib.Core.List.{List, [], _∷_, _++_}
 use mathlib.Core.Option.{Option, none, some}
 use native.Mathlib.Omega.{arith}
@@ -22,7 +22,7 @@ use Rattle.datatypes.specs.declared.Ending.the-variants.{Balanced, Missing}
 use Rattle.datatypes.specs.declared.Fixup.{Fixup}
 use Rattle.datatypes.specs.declared.Place.{Place}
 use Rattle.datatypes.specs.declared.Place.the-variants.{Held, Empty, TooDeep}
-use Rattle.datatypes.specs.declared.Step.the-variants.{Insert}
+use Rattle.datatypes.specs.declared.Step.the-variants.{Insert, Replace}
 use Rattle.datatypes.specs.declared.Store.{Store}
 use Rattle.datatypes.specs.declared.Register.{Register}
 use Rattle.datatypes.specs.Side.{other, owner, sideOf, sameSide}
@@ -36,19 +36,20 @@ use Rattle.spec.specs.Pool.{child, isRed, nodes as poolNodes}
 use Rattle.spec.specs.Register.{State, withWrite, writeOf}
 use Rattle.spec.specs.Search.{pathTo}
 use Rattle.spec.specs.Plan.{fixupResult, insertFixup, fixupAfterInsert, store, turnStores, endingStores, insertPlan}
-use Rattle.spec.specs.Calls.{firstOf, writeInHand, placeOf, isHeld, tooDeep, insertAt}
-use Rattle.spec.specs.PlainList.{Ticket, Plain, recordFor, updated, acceptedWrites, begun}
+use Rattle.spec.specs.Calls.{firstOf, writeInHand, placeOf, isHeld, tooDeep, full, insertAt}
+use Rattle.spec.specs.PlainList.{Ticket, Plain, recordFor, Unique, updated, acceptedWrites, begun}
 use Rattle.tree.specs.Changes.{changedBy-proper, find-insert, find-insert-other}
 use Rattle.tree.specs.Linked.{Linked, find}
 use Rattle.tree.specs.Erase.{erase, erase-find}
 use Rattle.heap.specs.Colours.{colours}
+use Rattle.heap.specs.Shift.{isListStore, heldAfter}
 use Rattle.heap.specs.Writes.{InHand, Finished, in-hand-rest, in-hand-kept, write-count}
 use Rattle.heap.specs.Accept.{accepted-in-hand, searched, heldOf, insert-possible}
 use Rattle.spec.specs.Calls.{insertTests}
 use Rattle.readers.specs.CallCase.{tests-pass}
 use Rattle.readers.specs.Safe.{Safe}
 use Rattle.runs.specs.Writer.{LeavesTree, planned}
-use Rattle.theorem.specs.Tickets.{without-same, without-other, unique-without, without-none}
+use Rattle.theorem.specs.Tickets.{without-same, without-other, unique-without, without-none, without-some}
 use Rattle.theorem.specs.Laters.{takesAll}
 use Rattle.theorem.specs.WriterSide.{seqOf, Pending, Timing, over, now, soon, WriterSide}
 
@@ -121,16 +122,20 @@ few-insert st k l =
     (few-insertFixup (st .pool) 0 (pathTo (st .pool) (st .register .root) k l)) (omega arith)
 
 -- what the plain list will have is what the sequential tree has
-tells-insert : (S : Tree) (k v : ℕ) (ts : List Ticket) → Ordered S → ((q : ℕ) → Seq.find S q ≡ recordFor q ts) → recordFor k ts ≡ none → (q : ℕ)
+tells-insert : (S : Tree) (k v : ℕ) (ts : List Ticket) → Ordered S → ((q : ℕ) → Seq.find S q ≡ recordFor q ts) → (q : ℕ)
     → recordFor q (updated (insertion k v) ts) ≡ Seq.find (SeqInsert.insert S k v) q
-tells-insert S k v ts ord seq absent q = elim (ℕ-discrete k q) [
-  | yes e ↦ rw (eq-eqb k q e) (subst (λ m. some v ≡ Seq.find (SeqInsert.insert S k v) m) e (sym (find-insert S k v ord (seq k ∙ absent))))
+tells-insert S k v ts ord seq q = elim (ℕ-discrete k q) [
+  | yes e ↦ rw (eq-eqb k q e) (subst (λ m. some v ≡ Seq.find (SeqInsert.insert S k v) m) e (sym (find-insert S k v ord)))
   | no d ↦ rw (ne-eqb k q d) (without-other k q ts (λ z. d (sym z)) ∙ sym (seq q) ∙ sym (find-insert-other S k v q ord (λ z. d (sym z))))
 ]
 
-pub none-of : (o : Option ℕ) → heldOf o ≡ false → o ≡ none
+none-of : (o : Option ℕ) → heldOf o ≡ false → o ≡ none
 none-of none e = refl
 none-of (some v) e = absurd (false≢true (sym e))
+
+pub some-of : (o : Option ℕ) → heldOf o ≡ true → (v : ℕ) × (o ≡ some v)
+some-of none e = absurd (false≢true e)
+some-of (some v) e = (v, refl)
 
 pub with-held : (r : Register) (w : _) → withWrite r w .held ≡ r .held
 unfolding withWrite
@@ -140,34 +145,50 @@ pub with-free : (r : Register) (w : _) → withWrite r w .free ≡ r .free
 unfolding withWrite
 with-free r w = refl
 
-insert-shape : (st : State) (k v : ℕ) (pl : Place) → isHeld pl ≡ false → tooDeep pl ≡ false
-    → (l : Link) × (insertAt st k v pl .stores ≡ store l (Insert k v) ∷ endingStores (fixupAfterInsert st k l .ending))
+-- an insert's plan, of a key that is held or not: its list store comes first; what it makes of keys held, and how many nodes all its stores take
+record Shape (st : State) (k v : ℕ) (ts : List Ticket) (w : List Store) : Type 0 where
+  first : Store
+  others : List Store
+  are : w ≡ first ∷ others
+  lists : isListStore (first .step) ≡ true
+  few : takesAll (first ∷ others) ≤ 3
+  counts : heldAfter (first .step) (poolNodes (st .pool)) (st .register .held) ≡ length (updated (insertion k v) ts)
+
+insert-shape : (st : State) (k v : ℕ) (ts : List Ticket) → Unique ts → st .register .held ≡ length ts → (pl : Place) → tooDeep pl ≡ false → isHeld pl ≡ heldOf (recordFor k ts)
+    → (not (isHeld pl) && full st) ≡ false → Shape st k v ts (insertAt st k v pl .stores)
 unfolding insertPlan
-insert-shape st k v (Held l n) e d = absurd (false≢true (sym e))
-insert-shape st k v (Empty l) e d = (l, refl)
-insert-shape st k v TooDeep e d = absurd (false≢true (sym d))
+insert-shape st k v ts u n (Held l m) d e room =
+    let old = some-of (recordFor k ts) (sym e) in
+    record { first = store l (Replace v); others = []; are = refl; lists = refl; few = omega arith; counts = n ∙ sym (without-some k (old .0) ts u (old .1)) }
+insert-shape st k v ts u n (Empty l) d e room =
+    let low = leb-false (poolNodes (st .pool) - 4) (st .register .held) room in
+    let same = without-none k ts (none-of (recordFor k ts) (sym e)) in
+    record {
+      first = store l (Insert k v);
+      others = endingStores (fixupAfterInsert st k l .ending);
+      are = refl;
+      lists = refl;
+      few = let a = few-insert st k l in omega arith;
+      counts = rw (lt-ltb (st .register .held) (poolNodes (st .pool)) (omega arith)) (omega arith);
+    }
+insert-shape st k v ts u n TooDeep d e room = absurd (false≢true (sym d))
 
 pub writerSide-insert : (st : State) (x : Plain) (T : Linked) (k v : ℕ) → Safe st → WriterSide st x T → firstOf (insertTests st k v) ≡ 0
     → WriterSide (planned st (insertAt st k v (placeOf st k) .stores)) (begun x (insertion k v)) T
 writerSide-insert st x T k v safe h e =
-    let c = tests-pass (insertTests st k v) (omega arith, (omega arith, (omega arith, (omega arith, (omega arith, (omega arith, (omega arith, (omega arith, tt)))))))) e in
+    let c = tests-pass (insertTests st k v) (omega arith, (omega arith, (omega arith, (omega arith, (omega arith, (omega arith, (omega arith, tt))))))) e in
     let fin = resting st x T h (c .1 .1 .0) in
-    let place = c .1 .1 .1 .1 .0 in
-    let new : find T k ≡ none = none-of (find T k) (sym (searched st T k (fin .rest) .is-held) ∙ place) in
     let w = insertAt st k v (placeOf st k) in
-    let pl = insert-possible st T k v (fin .rest) new in
+    let pl = insert-possible st T k v (fin .rest) in
     let ih = accepted-in-hand st (SeqInsert.insert (erase (colours (st .pool)) T) k v) T w (fin .rest) pl in
     let S = seqOf x in
     let goal : SeqInsert.insert (erase (colours (st .pool)) T) k v ≡ seqOf (begun x (insertion k v)) = ap (λ t. SeqInsert.insert t k v) (fin .tree)
     ∙ sym (changed-end (x .started) (acceptedWrites x) (insertion k v)) in
-    let shape = insert-shape st k v (placeOf st k) place (c .1 .1 .1 .0) in
-    let absent : recordFor k (x .tickets) ≡ none = sym (h .finds k) ∙ new in
+    let shape = insert-shape st k v (x .tickets) (h .unique) (h .held) (placeOf st k) (c .1 .1 .1 .0) (searched st T k (fin .rest) .is-held ∙ ap heldOf (h .finds k)) (c .1 .1 .1 .1 .0) in
     let seq : (q : ℕ) → Seq.find S q ≡ recordFor q (x .tickets) = λ q. ap (λ t. Seq.find t q) (sym (fin .tree)) ∙ erase-find (colours (st .pool)) T q ∙ h .finds q in
     let ord = changedBy-proper (x .started) (acceptedWrites x) (h .started) .ordered in
-    let room = leb-false (poolNodes (st .pool) - 4) (st .register .held) (c .1 .1 .1 .1 .1 .0) in
-    let free = ltb-false (st .register .free) 3 (c .1 .1 .1 .1 .1 .1 .0) in
-    let few = few-insert st k (shape .0) in
-    let held = h .held in
+    let free = ltb-false (st .register .free) 3 (c .1 .1 .1 .1 .1 .0) in
+    let few = shape .few in
     record {
       stores = w .stores;
       hand = subst (λ g. InHand (planned st (w .stores)) g T (w .stores)) goal ih;
@@ -175,13 +196,13 @@ writerSide-insert st x T k v safe h e =
       finds = h .finds;
       held = with-held (st .register) _ ∙ h .held;
       unique = h .unique;
-      takes = rw (shape .1, with-free (st .register) (writeOf (store (shape .0) (Insert k v) ∷ endingStores (fixupAfterInsert st k (shape .0) .ending)))) (omega arith);
-      timing = subst (λ l. Timing (planned st (w .stores)) (begun x (insertion k v)) l) (sym (shape .1))
-          (now (store (shape .0) (Insert k v)) (endingStores (fixupAfterInsert st k (shape .0) .ending)) refl (record {
+      takes = subst (λ l. takesAll l ≤ planned st (w .stores) .register .free) (sym (shape .are)) (rw (with-free (st .register) (writeOf (w .stores))) (omega arith));
+      timing = subst (λ l. Timing (planned st (w .stores)) (begun x (insertion k v)) l) (sym (shape .are))
+          (now (shape .first) (shape .others) (shape .lists) (record {
             change = insertion k v;
             inHand = refl;
-            counts = rw (with-held (st .register) (writeOf (w .stores)), lt-ltb (st .register .held) (poolNodes (st .pool)) (omega arith)) (let z = without-none k (x .tickets) absent in omega arith);
-            tells = λ q. tells-insert S k v (x .tickets) ord seq absent q ∙ ap (λ t. Seq.find t q) (sym (changed-end (x .started) (acceptedWrites x) (insertion k v)));
+            counts = rw (with-held (st .register) (writeOf (w .stores))) (shape .counts);
+            tells = λ q. tells-insert S k v (x .tickets) ord seq q ∙ ap (λ t. Seq.find t q) (sym (changed-end (x .started) (acceptedWrites x) (insertion k v)));
             unique = (without-same k (x .tickets), unique-without k (x .tickets) (h .unique));
           }) refl);
       few = let a = ih .room in omega arith;

@@ -37,8 +37,8 @@ use Rattle.runs.specs.Facts.{TicketAt}
 use Rattle.runs.specs.Whole as Whole
 use Rattle.theorem.specs.Tickets.{tickets-size}
 use Rattle.theorem.specs.WriterSide.{WriterSide, writerSide-store, writerSide-finds}
-use Rattle.theorem.specs.Rests.{writerSide-leavesTree, resting, none-of, writerSide-insert}
-use Rattle.theorem.specs.Deletes.{some-of, writerSide-delete}
+use Rattle.theorem.specs.Rests.{writerSide-leavesTree, resting, some-of, writerSide-insert}
+use Rattle.theorem.specs.Deletes.{writerSide-delete}
 use Rattle.theorem.specs.Truth.{phase-sure, phase-true}
 use Rattle.theorem.specs.Starts.{writerSide-start}
 
@@ -88,7 +88,7 @@ completes = record {
   insertGoes = λ st x T k v safe h e. (
       let f = resting st x T h e in
       let s = searched st T k (f .rest) in
-      (s .not-deep, λ n _. insert-possible st T k v (f .rest) (none-of (find T k) (sym (s .is-held) ∙ n)) .possible)
+      (s .not-deep, λ _. insert-possible st T k v (f .rest) .possible)
       );
   deleteGoes = λ st x T k safe h e. (
       let f = resting st x T h e in
@@ -130,7 +130,8 @@ module _ (p : List ℕ) (r : Register) (N : ℕ) (lo : leastNodes ≤ N) (hi : N
   pub promise-after-set-up : (cs : List Call) → PromiseFrom (afterSetUp (state p r)) cs
   promise-after-set-up cs = rw (nodes-is, set-up) (promise N lo hi cs)
 
--- Two facts of every run from a sound start (runs: Facts), between the stores of a write too; C-13 will use them.
+-- Two facts of every run from a sound start (runs: Facts), between the stores of a write too. With C-13: a slot at a replaced node is at a record
+-- that was the plain list's at a moment of its reading.
 -- each linked node has its ticket in the plain list
 pub linked-ticket : (S : Start) → SoundStart S → (cs : List Call) (j m : ℕ) → word (indexAfter S cs j .pool) m standingWord ≡ standingLinked → TicketAt S cs j m j
 linked-ticket S h cs j m e = Facts.linked-ticket WriterSide writer S (starts-sound S h) cs j m e

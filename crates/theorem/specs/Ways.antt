@@ -21,7 +21,7 @@ use Rattle.tree.specs.Stores.{form₁}
 use Rattle.tree.specs.Successor.{third₀}
 use Rattle.heap.specs.Rep.{Rep, not-below-at}
 use Rattle.heap.specs.Sites.{linkTo, site-of}
-use Rattle.heap.specs.Shift.{Shift, by-insert, by-diag-lower, by-diag-raise, by-zig-A, by-zig-C, by-zig-raise, by-unlink, by-adopt, by-replace, by-publish, by-detach}
+use Rattle.heap.specs.Shift.{Shift, by-insert, by-replace, by-diag-lower, by-diag-raise, by-zig-A, by-zig-C, by-zig-raise, by-unlink, by-adopt, by-promote, by-publish, by-detach}
 use Rattle.promise.specs.Demands.{TreeLink}
 use Rattle.readers.specs.Reach.{HasStanding}
 
@@ -71,6 +71,7 @@ module _ (p : List ℕ) (root : ℕ) where
   pub shift-owner : {T T′ : Linked} {l : Link} {v : ℕ} {came gone : List ℕ} {b w : Bool} → Shift T T′ l v came gone b w
       → ((n : ℕ) → 0 < occ n (nodes T) → HasStanding p n standingLinked) → TreeLink p l
   shift-owner (by-insert fs Z i w) lk = link-owner fs nil lk
+  shift-owner (by-replace fs B n v l r w z) lk = link-owner fs _ lk
   shift-owner (by-diag-lower fs s B C n o x r ord w z) lk = linked-at p (other s) (B .num) (lk (B .num) (there fs _ (B .num) (near-in s C (at s B o x) r (B .num) (top s B o x))))
   shift-owner (by-diag-raise fs s B C n o x r ord w z) lk = link-owner fs _ lk
   shift-owner (by-zig-A fs s A B C m a x y r ord w z) lk =
@@ -80,7 +81,7 @@ module _ (p : List ℕ) (root : ℕ) where
   shift-owner (by-zig-raise fs s A B C m n a x y r ord w z q d) lk = link-owner fs _ lk
   shift-owner (by-unlink fs s B x ord w) lk = link-owner fs _ lk
   shift-owner (by-adopt fs B C l y a ord w) lk = lk (C .num) (there fs _ (C .num) (far-in L B l (at L C nil y) (C .num) (top L C nil y)))
-  shift-owner (by-replace fs B C l y ord w) lk = link-owner fs _ lk
+  shift-owner (by-promote fs B C l y ord w) lk = link-owner fs _ lk
   shift-owner (by-publish fs gs B C n l y al ord w z) lk = link-owner fs _ lk
   shift-owner (by-detach fs gs B C n l y al ord w z) lk = link-owner (gs ++ (hole R (copy C n) l ∷ fs)) (at L C nil y)
       (λ i u. lk i (subst (λ t. 0 < occ i (nodes t)) (plug-append gs (hole R (copy C n) l ∷ fs) (at L C nil y)) u))
@@ -95,6 +96,7 @@ module _ (p : List ℕ) (root : ℕ) where
 
   pub shift-gone : {T T′ : Linked} {l : Link} {v : ℕ} {came gone : List ℕ} {b w : Bool} → Shift T T′ l v came gone b w → Rep p root T → (i : ℕ) → i ∈ gone → Leaving T l i
   shift-gone (by-insert fs Z k w) h i j = absurd j
+  shift-gone (by-replace fs B n v l r w z) h i j = at-place fs (cell B l r) (B .num) h (top L B l r) i j
   shift-gone (by-diag-lower fs s B C n o x r ord w z) h i j = absurd j
   shift-gone (by-diag-raise fs s B C n o x r ord w z) h i j = at-place fs (diag₁ s B C n o x r) (C .num) h (top s C _ r) i j
   shift-gone (by-zig-A fs s A B C m a x y r ord w z) h i j = absurd j
@@ -104,7 +106,7 @@ module _ (p : List ℕ) (root : ℕ) where
   shift-gone (by-zig-raise fs s A B C m n a x y r ord w z q d) h i (inr j) = at-place fs (zig₂ s A B C m n a x y r) (C .num) h (top s C _ r) i j
   shift-gone (by-unlink fs s B x ord w) h i j = at-place fs (at s B x nil) (B .num) h (top s B x nil) i j
   shift-gone (by-adopt fs B C l y a ord w) h i j = absurd j
-  shift-gone (by-replace fs B C l y ord w) h i j = at-place fs (form₁ L B C l y) (B .num) h (top L B l (at L C l y)) i j
+  shift-gone (by-promote fs B C l y ord w) h i j = at-place fs (form₁ L B C l y) (B .num) h (top L B l (at L C l y)) i j
   shift-gone (by-publish fs gs B C n l y al ord w z) h i j = at-place fs (third₀ L B C n l y gs) (B .num) h (top L B l (plug gs (at L C nil y))) i j
   shift-gone (by-detach fs gs B C n l y al ord w z) h i j =
       let W = gs ++ (hole R (copy C n) l ∷ fs) in
@@ -119,6 +121,7 @@ module _ (p : List ℕ) (root : ℕ) where
 
   pub shift-two : {T T′ : Linked} {l : Link} {v : ℕ} {came gone : List ℕ} {b w : Bool} → Shift T T′ l v came gone b w → Rep p root T → Two gone
   shift-two (by-insert fs Z k w) h = tt
+  shift-two (by-replace fs B n v l r w z) h = tt
   shift-two (by-diag-lower fs s B C n o x r ord w z) h = tt
   shift-two (by-diag-raise fs s B C n o x r ord w z) h = tt
   shift-two (by-zig-A fs s A B C m a x y r ord w z) h = tt
@@ -132,13 +135,14 @@ module _ (p : List ℕ) (root : ℕ) where
       absurd (omega arith)
   shift-two (by-unlink fs s B x ord w) h = tt
   shift-two (by-adopt fs B C l y a ord w) h = tt
-  shift-two (by-replace fs B C l y ord w) h = tt
+  shift-two (by-promote fs B C l y ord w) h = tt
   shift-two (by-publish fs gs B C n l y al ord w z) h = tt
   shift-two (by-detach fs gs B C n l y al ord w z) h = tt
 
 -- two at most go
 pub shift-few : {T T′ : Linked} {l : Link} {v : ℕ} {came gone : List ℕ} {b w : Bool} → Shift T T′ l v came gone b w → length gone ≤ 2
 shift-few (by-insert fs Z k w) = omega arith
+shift-few (by-replace fs B n v l r w z) = omega arith
 shift-few (by-diag-lower fs s B C n o x r ord w z) = omega arith
 shift-few (by-diag-raise fs s B C n o x r ord w z) = omega arith
 shift-few (by-zig-A fs s A B C m a x y r ord w z) = omega arith
@@ -146,6 +150,6 @@ shift-few (by-zig-C fs s A B C m n a x y r ord w z q d) = omega arith
 shift-few (by-zig-raise fs s A B C m n a x y r ord w z q d) = omega arith
 shift-few (by-unlink fs s B x ord w) = omega arith
 shift-few (by-adopt fs B C l y a ord w) = omega arith
-shift-few (by-replace fs B C l y ord w) = omega arith
+shift-few (by-promote fs B C l y ord w) = omega arith
 shift-few (by-publish fs gs B C n l y al ord w z) = omega arith
 shift-few (by-detach fs gs B C n l y al ord w z) = omega arith

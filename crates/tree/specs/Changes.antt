@@ -14,14 +14,24 @@ use Rattle.sequential.specs.Delete.{delete, Change, insertion, deletion, change
 use Rattle.tree.specs.Order.{tri-case, ord-apart}
 use Rattle.tree.specs.Sorted.{size}
 use Rattle.tree.specs.Writes.{count}
-use Rattle.tree.specs.Insert.{insert-redblack, insert-writes, insert-same}
+use Rattle.tree.specs.Insert.{insert-redblack, insert-writes}
 use Rattle.tree.specs.Delete.{delete-writes, delete-same}
 use Rattle.tree.specs.DeleteShape.{delete-redblack}
 
 pub proper-leaf : Proper leaf
 proper-leaf = record { ordered = tt; redblack = (0, rb-leaf) }
 
--- a key is held or not
+-- Insert.
+pub insert-ordered : (t : Tree) (q w : ℕ) → Ordered t → Ordered (insert t q w)
+insert-ordered t q w h = insert-writes t q w .ordered h
+
+pub find-insert : (t : Tree) (q w : ℕ) → Ordered t → find (insert t q w) q ≡ some w
+find-insert t q w h = insert-writes t q w .there h
+
+pub find-insert-other : (t : Tree) (q w r : ℕ) → Ordered t → r ≢ q → find (insert t q w) r ≡ find t r
+find-insert-other t q w r h n = insert-writes t q w .elsewhere h r n
+
+-- Delete: of a key that is held or not.
 held-case : {A : Type 0} (t : Tree) (q : ℕ) → (find t q ≡ none → A) → ((v : ℕ) → find t q ≡ some v → A) → A
 held-case {A} t q f g = go (find t q) refl
   where
@@ -29,17 +39,6 @@ held-case {A} t q f g = go (find t q) refl
     go none e = f e
     go (some v) e = g v e
 
--- Insert.
-pub insert-ordered : (t : Tree) (q w : ℕ) → Ordered t → Ordered (insert t q w)
-insert-ordered t q w h = held-case t q (λ e. insert-writes t q w e .ordered h) (λ v e. rw (insert-same t q w v e) h)
-
-pub find-insert : (t : Tree) (q w : ℕ) → Ordered t → find t q ≡ none → find (insert t q w) q ≡ some w
-find-insert t q w h e = insert-writes t q w e .there h
-
-pub find-insert-other : (t : Tree) (q w r : ℕ) → Ordered t → r ≢ q → find (insert t q w) r ≡ find t r
-find-insert-other t q w r h n = held-case t q (λ e. insert-writes t q w e .elsewhere h r n) (λ v e. ap (λ u. find u r) (insert-same t q w v e))
-
--- Delete.
 pub delete-ordered : (t : Tree) (q : ℕ) → Ordered t → Ordered (delete t q)
 delete-ordered t q h = held-case t q (λ e. rw (delete-same t q e) h) (λ v e. delete-writes t q v e .ordered h)
 
@@ -59,27 +58,20 @@ changedBy-proper t [] p = p
 changedBy-proper t (c ∷ cs) p = changedBy-proper (changed t c) cs (changed-proper t c p)
 
 -- Below: what the tree of a list of writes holds. Nothing cites it; it says that the sequential tree, which demand 2 names, is what one means.
--- What a write makes of the answer o that a lookup of q had: an insert of a held key and a delete of a key that is not held make nothing of it
-abbrev pub orElse : Option ℕ → ℕ → Option ℕ
-orElse none w = some w
-orElse (some v) w = some v
-
+-- What a write makes of the answer o that a lookup of q had.
 abbrev pub told : Change → ℕ → Option ℕ → Option ℕ
-told (insertion k v) q o = pick (rel L q k) o (orElse o v) o
+told (insertion k v) q o = pick (rel L q k) o (some v) o
 told (deletion k) q o = pick (rel L q k) o none o
 
 abbrev pub toldBy : List Change → ℕ → Option ℕ → Option ℕ
 toldBy [] q o = o
 toldBy (c ∷ cs) q o = toldBy cs q (told c q o)
 
-find-insert-here : (t : Tree) (q w : ℕ) → Ordered t → find (insert t q w) q ≡ orElse (find t q) w
-find-insert-here t q w h = held-case t q (λ e. rw e (find-insert t q w h e)) (λ v e. rw (insert-same t q w v e, e))
-
 pub find-changed : (t : Tree) (c : Change) (q : ℕ) → Ordered t → find (changed t c) q ≡ told c q (find t q)
 find-changed t (insertion k v) q h =
     tri-case L q k
     (λ o e. rw e (find-insert-other t k v q h (ord-apart L q k o)))
-    (λ o e. rw (e, o) (find-insert-here t k v h))
+    (λ o e. rw (e, o) (find-insert t k v h))
     (λ o e. rw e (find-insert-other t k v q h (λ i. ord-apart L k q o (sym i))))
 find-changed t (deletion k) q h =
     tri-case L q k
@@ -93,7 +85,7 @@ find-changedBy t (c ∷ cs) q p = find-changedBy (changed t c) cs q (changed-pro
 
 -- the size
 pub size-insert : (t : Tree) (q w : ℕ) → find t q ≡ none → size (insert t q w) ≡ suc (size t)
-size-insert t q w e = let s = insert-writes t q w e .sized in omega arith
+size-insert t q w e = let s = rw e at (insert-writes t q w .sized) in omega arith
 
 pub size-delete : (t : Tree) (q v : ℕ) → find t q ≡ some v → size t ≡ suc (size (delete t q))
 size-delete t q v e = let s = delete-writes t q v e .sized in omega arith
@@ -104,5 +96,5 @@ keyOfChange (insertion k v) = k
 keyOfChange (deletion k) = k
 
 pub size-changed : (t : Tree) (c : Change) → Ordered t → size (changed t c) + count (find t (keyOfChange c)) ≡ size t + count (find (changed t c) (keyOfChange c))
-size-changed t (insertion k v) h = held-case t k (λ e. rw (find-insert t k v h e, e) (insert-writes t k v e .sized)) (λ u e. rw (insert-same t k v u e))
+size-changed t (insertion k v) h = rw (find-insert t k v h) (insert-writes t k v .sized)
 size-changed t (deletion k) h = held-case t k (λ e. rw (delete-same t k e)) (λ u e. rw (find-delete t k h, e) (delete-writes t k u e .sized))

@@ -15,8 +15,8 @@ use Rattle.tree.specs.Linked.{Node, Linked, nil, cell, at, NotNil}
 use Rattle.tree.specs.Zipper as Zipper
 use Rattle.tree.specs.Erase.{erase, eraseWay, erase-at, erase-plug, erase-into}
 
-pub insert-place : (fs : List Frame) (q w : ℕ) → Into q fs → insert (plug fs leaf) q w ≡ paint black (rbInsertFixup fs (node red q w leaf leaf))
-insert-place fs q w i = ap (λ x. insertedAt q w (x .way) (x .at)) (descend-place fs leaf q i tt)
+pub insert-place : (fs : List Frame) (t : Tree) (q w : ℕ) → Into q fs → AtKey q t → insert (plug fs t) q w ≡ insertedAt q w fs t
+insert-place fs t q w i a = ap (λ x. insertedAt q w (x .way) (x .at)) (descend-place fs t q i a)
 
 pub delete-place : (fs : List Frame) (t : Tree) (q : ℕ) → Into q fs → AtKey q t → delete (plug fs t) q ≡ remove fs t
 delete-place fs t q i a = ap (λ x. remove (x .way) (x .at)) (descend-place fs t q i a)
@@ -64,7 +64,12 @@ remove-other gs fs c k v l d j w y n h =
 -- the same in linked trees, whose colours are given by f
 pub insert-linked : (f : ℕ → Colour) (Fs : List Zipper.Frame) (q w : ℕ) → Zipper.Into q Fs
     → insert (erase f (Zipper.plug Fs nil)) q w ≡ paint black (rbInsertFixup (eraseWay f Fs) (node red q w leaf leaf))
-insert-linked f Fs q w i = rw (erase-plug f Fs nil) (insert-place (eraseWay f Fs) q w (erase-into f Fs q i))
+insert-linked f Fs q w i = rw (erase-plug f Fs nil) (insert-place (eraseWay f Fs) leaf q w (erase-into f Fs q i) tt)
+
+-- of a key that is held
+pub replace-linked : (f : ℕ → Colour) (Fs : List Zipper.Frame) (B : Node) (l r : Linked) (w : ℕ) → Zipper.Into (B .key) Fs
+    → insert (erase f (Zipper.plug Fs (cell B l r))) (B .key) w ≡ plug (eraseWay f Fs) (node (f (B .num)) (B .key) w (erase f l) (erase f r))
+replace-linked f Fs B l r w i = rw (erase-plug f Fs (cell B l r)) (insert-place (eraseWay f Fs) (erase f (cell B l r)) (B .key) w (erase-into f Fs (B .key) i) refl)
 
 key-mk : (s : Side) (c : Colour) (k v : ℕ) (x y : Tree) → AtKey k (mk s c k v x y)
 key-mk L c k v x y = refl

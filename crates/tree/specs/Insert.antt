@@ -1,7 +1,7 @@
--- Sequential insert keeps a red-black tree of keys in order, puts in its ticket and changes no other; a held key changes nothing.
+-- Sequential insert keeps a red-black tree of keys in order, puts in its ticket, in place of any with its key, and changes no other.
 -- Used by Changes.
 use Prim.Native.Nat.{ℕ, suc}
-use mathlib.Core.Path.{_≡_, refl, _∙_}
+use mathlib.Core.Path.{_≡_, refl, subst}
 use mathlib.Core.Bool.{Bool}
 use mathlib.Core.List.{List, [], _∷_}
 use mathlib.Core.Option.{none, some}
@@ -68,21 +68,24 @@ new-writes c q w = record {
   sized = refl;
 }
 
-insertedAt-writes : (q w : ℕ) (fs : List Frame) (t : Tree) → Into q fs → find t q ≡ none → AtKey q t → Writes q none (some w) (plug fs t) (insertedAt q w fs t)
-insertedAt-writes q w fs leaf i e k =
-    writes-keeps (writes-plug fs i (new-writes red q w)) (keeps-trans (rbInsertFixup-keeps fs (node red q w leaf leaf) tt) (keeps-paint black _))
-insertedAt-writes q w fs (node c k v l r) i e h = absurd (let e′ = rw (here-of L q k h) at e in let z : _≡_ {A = ℕ} 0 1 = cc in omega arith)
+-- a held key's record overwritten
+pub record-writes : (c : Colour) (q v w : ℕ) (l r : Tree) → Writes q (some v) (some w) (node c q v l r) (node c q w l r)
+record-writes c q v w l r = record {
+  below = λ s k o h. h;
+  ordered = λ h. h;
+  elsewhere = λ h p n. tri-case L p q (λ _ e. simp e) (λ o e. absurd (n o)) (λ _ e. simp e);
+  there = λ h. rw (here-of L q q refl);
+  sized = refl;
+}
 
-pub insert-writes : (t : Tree) (q w : ℕ) → find t q ≡ none → Writes q none (some w) t (insert t q w)
-insert-writes t q w e =
+insertedAt-writes : (q w : ℕ) (fs : List Frame) (t : Tree) → Into q fs → AtKey q t → Writes q (find t q) (some w) (plug fs t) (insertedAt q w fs t)
+insertedAt-writes q w fs leaf i k =
+    writes-keeps (writes-plug fs i (new-writes red q w)) (keeps-trans (rbInsertFixup-keeps fs (node red q w leaf leaf) tt) (keeps-paint black _))
+insertedAt-writes q w fs (node c k v l r) i h =
+    rw (here-of L q k h) (writes-plug fs i (subst (λ j. Writes q (some v) (some w) (node c j v l r) (node c j w l r)) h (record-writes c q v w l r)))
+
+pub insert-writes : (t : Tree) (q w : ℕ) → Writes q (find t q) (some w) t (insert t q w)
+insert-writes t q w =
     let x = descend t q [] in
     let i = descend-into t q [] tt in
-    rw (descend-plug t q []) at (insertedAt-writes q w (x .way) (x .at) (i .0) (descend-find t q [] ∙ e) (i .1))
-
-insertedAt-held : (q w v : ℕ) (fs : List Frame) (t : Tree) → find t q ≡ some v → insertedAt q w fs t ≡ plug fs t
-insertedAt-held q w v fs leaf e = let z : _≡_ {A = ℕ} 0 1 = cc in absurd (omega arith)
-insertedAt-held q w v fs (node c k u l r) e = refl
-
--- insert of a held key changes nothing
-pub insert-same : (t : Tree) (q w v : ℕ) → find t q ≡ some v → insert t q w ≡ t
-insert-same t q w v e = let x = descend t q [] in insertedAt-held q w v (x .way) (x .at) (descend-find t q [] ∙ e) ∙ descend-plug t q []
+    rw (descend-plug t q [], descend-find t q []) at (insertedAt-writes q w (x .way) (x .at) (i .0) (i .1))

@@ -22,6 +22,10 @@ pub record Node : Type 0 where
 abbrev pub copy : Node → ℕ → Node
 copy N n = record { num = n; key = N .key; val = N .val }
 
+-- the same key in another node, with the record v
+abbrev pub replacement : Node → ℕ → ℕ → Node
+replacement N n v = record { num = n; key = N .key; val = v }
+
 pub data Linked : Type 0 where
   nil : Linked
   cell : (N : Node) (l r : Linked) → Linked

@@ -15,7 +15,7 @@ use Rattle.datatypes.specs.declared.Side.the-variants.{L, R}
 use Rattle.sequential.specs.Tree.{Colour}
 use Rattle.tree.specs.Sorted.{size}
 use Rattle.base.specs.Lists.{_∈_, Distinct, pigeonhole}
-use Rattle.tree.specs.Linked.{Node, Linked, nil, cell, at, nodes}
+use Rattle.tree.specs.Linked.{Node, replacement, Linked, nil, cell, at, nodes}
 use Rattle.tree.specs.Zipper.{Frame, hole, plug}
 use Rattle.tree.specs.Erase.{erase}
 use Rattle.tree.specs.Rotations.{diag₀, diag₂, zig₀, zig₃}
@@ -106,6 +106,9 @@ zig-turnover s A B C m n a x y r i = simp occ-at (omega arith)
 
 pub insert-turnover : (Z : Node) → Turnover [] (Z .num ∷ []) nil (cell Z nil nil)
 insert-turnover Z i = omega arith
+
+pub replace-turnover : (B : Node) (n v : ℕ) (l r : Linked) → Turnover (B .num ∷ []) (n ∷ []) (cell B l r) (cell (replacement B n v) l r)
+replace-turnover B n v l r i = omega arith
 
 pub unlink-turnover : (s : Side) (B : Node) (x : Linked) → Turnover (B .num ∷ []) [] (at s B x nil) x
 unlink-turnover s B x i = simp occ-at (omega arith)

@@ -1,4 +1,4 @@
--- The stores of insert and of delete's first two forms: insert, unlink, adopt, replace. What each lookup finds afterwards, and which
+-- The stores of insert and of delete's first two forms: insert, replace, unlink, adopt, promote. What each lookup finds afterwards, and which
 -- nodes of its path stay. The trees are those of one place; Zipper lifts to the whole tree (a list store's key comes through the hole).
 use Prim.Native.Nat.{ℕ}
 use mathlib.Core.Path.{refl}
@@ -8,7 +8,7 @@ use Rattle.datatypes.specs.declared.Side.the-variants.{L}
 use Rattle.datatypes.specs.Side.{other}
 use Rattle.tree.specs.Order.{ord-trans, ord-anti, ord-apart, other-ord, near-of, here-of, tri-case, cut-case}
 use Rattle.sequential.specs.Proper.{Ord, Below, Ordered}
-use Rattle.tree.specs.Linked.{Node, Linked, nil, cell, at, find-at, path-at}
+use Rattle.tree.specs.Linked.{Node, replacement, Linked, nil, cell, at, find-at, path-at}
 use Rattle.tree.specs.Thin.{thin}
 use Rattle.tree.specs.Zipper.{Same, SameBut, Thins}
 use Rattle.tree.specs.LinkedOrder.{bare, below-at, ordered-at, none-below}
@@ -23,6 +23,17 @@ module _ (Z : Node) where
 
   pub insert-path : (P : ℕ → Type 0) → Thins P nil (cell Z nil nil)
   insert-path P q = search thin
+
+-- replace: a copy of B with the record v takes its place
+module _ (B : Node) (n v : ℕ) (l r : Linked) where
+  pub replace-find : SameBut (B .key) (some v) (cell B l r) (cell (replacement B n v) l r)
+  replace-find = record {
+    there = rw (here-of L (B .key) (B .key) refl);
+    elsewhere = λ q d. tri-case L q (B .key) (λ _ e. rw e) (λ o e. absurd (d o)) (λ _ e. rw e);
+  }
+
+  pub replace-path : (P : ℕ → Type 0) → P (B .num) → Thins P (cell B l r) (cell (replacement B n v) l r)
+  replace-path P p q = tri-case L q (B .key) (λ _ e. rw e (search thin)) (λ _ e. rw e (search thin)) (λ _ e. rw e (search thin))
 
 -- unlink: B's only child x, on the side s, or nothing takes its place
 module _ (s : Side) (B : Node) (x : Linked) where
@@ -50,7 +61,7 @@ module _ (s : Side) (B C : Node) (l y : Linked) where
   abbrev pub form₁ : Linked
   form₁ = at s B l (at s C l y)
 
-  -- replaced: B's link from above := C
+  -- promoted: B's link from above := C
   abbrev pub form₂ : Linked
   form₂ = at s C l y
 
@@ -68,8 +79,8 @@ module _ (s : Side) (B C : Node) (l y : Linked) where
         (λ _ e. simp (find-at, e))
         (λ o e. tri-case s q (C .key) (λ _ f. simp (find-at, e, f) (none-below s (B .key) q l b (ord-anti s (B .key) q o))) (λ _ f. simp (find-at, e, f)) (λ _ f. simp (find-at, e, f)))
 
-    pub replace-find : Ord s (B .key) (C .key) → SameBut (B .key) none form₁ form₂
-    replace-find bc = record {
+    pub promote-find : Ord s (B .key) (C .key) → SameBut (B .key) none form₁ form₂
+    promote-find bc = record {
       there = simp (find-at, near-of s (B .key) (C .key) bc) (none-below s (B .key) (B .key) l b (λ o. ord-apart s _ _ o refl));
       elsewhere = λ q n. tri-case s q (B .key)
           (λ o e. simp (find-at, e, near-of s q (C .key) (ord-trans s q (B .key) (C .key) o bc)))
@@ -84,8 +95,8 @@ module _ (s : Side) (B C : Node) (l y : Linked) where
       (λ _ e. simp (path-at, e) (search thin))
       (λ _ e. tri-case s q (C .key) (λ _ f. simp (path-at, e, f) (search thin)) (λ _ f. simp (path-at, e, f) (search thin)) (λ _ f. simp (path-at, e, f) (search thin)))
 
-  pub replace-path : Ord s (B .key) (C .key) → (P : ℕ → Type 0) → P (B .num) → Thins P form₁ form₂
-  replace-path bc P p q =
+  pub promote-path : Ord s (B .key) (C .key) → (P : ℕ → Type 0) → P (B .num) → Thins P form₁ form₂
+  promote-path bc P p q =
       cut-case s (B .key) (C .key) q bc
       (λ e f. simp (path-at, e, f) (search thin)) (λ e f. simp (path-at, e, f) (search thin)) (λ e f. simp (path-at, e, f) (search thin)) (λ e f. simp (path-at, e, f) (search thin))
       (λ e f. simp (path-at, e, f) (search thin))

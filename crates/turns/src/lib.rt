@@ -28,6 +28,7 @@ pub fn try_step(pool: &mut [u32], h: Head, reading: u32, l: Link, x: Step) -> St
     match x {
         Step::Vacant => heads::missed(h),
         Step::Insert(k, v) => stores::insert(pool, h, l, k, v),
+        Step::Replace(v) => stores::replace(pool, h, reading, l, v),
         Step::DiagLower(s, purpose) => rotations::diag_lower(pool, h, l, s, purpose),
         Step::DiagRaise(s, purpose) => rotations::diag_raise(pool, h, reading, l, s, purpose),
         Step::ZigLowerA(s, purpose) => rotations::zig_lower_a(pool, h, l, s, purpose),
@@ -35,7 +36,7 @@ pub fn try_step(pool: &mut [u32], h: Head, reading: u32, l: Link, x: Step) -> St
         Step::ZigRaise(s, purpose) => rotations::zig_raise(pool, h, reading, l, s, purpose),
         Step::Unlink => removals::unlink(pool, h, reading, l),
         Step::Adopt => stores::adopt(pool, h, l),
-        Step::Replace => removals::replace(pool, h, reading, l),
+        Step::Promote => removals::promote(pool, h, reading, l),
         Step::Publish(c) => stores::publish(pool, h, reading, l, c),
         Step::Detach(k) => removals::detach(pool, h, reading, l, k),
     }
@@ -64,6 +65,7 @@ fn renames(x: Step) -> bool
     match x {
         Step::Vacant => false,
         Step::Insert(_, _) => false,
+        Step::Replace(_) => false,
         Step::DiagLower(_, _) => false,
         Step::DiagRaise(_, _) => false,
         Step::ZigLowerA(_, _) => false,
@@ -71,7 +73,7 @@ fn renames(x: Step) -> bool
         Step::ZigRaise(_, _) => false,
         Step::Unlink => false,
         Step::Adopt => false,
-        Step::Replace => false,
+        Step::Promote => false,
         Step::Publish(_) => true,
         Step::Detach(_) => false,
     }

@@ -5,7 +5,7 @@ use Rattle.spec.specs.Pool.{word, child, keyWord}
 use Rattle.spec.specs.Register.{writeOf, state}
 use Rattle.paths.specs.Upward.{upward, upward-zero, upward-some}
 use Rattle.datatypes.specs.declared.Side.the-variants.{L, R}
-use Rattle.datatypes.specs.declared.Step.the-variants.{Adopt, Replace, Publish, Detach}
+use Rattle.datatypes.specs.declared.Step.the-variants.{Adopt, Promote, Publish, Detach}
 use mathlib.Core.List.{[], _∷_}
 use mathlib.Core.Path.{_≡_, refl, sym, _∙_}
 use native.Mathlib.Omega.{arith}
@@ -80,7 +80,7 @@ returns-2 c =
     let h = removal-short p (nextNode st path) (child p R (nextNode st path)) path in
     rw (successor-near st (a .l) (a .b) path (upward-some (a .path .now) (a .depth) (c9 .if1 .left)) z) (
       rw (c .plan .ensures .0, i),
-      rw (c .plan .ensures .1, c .before .two-stores .ensures, i) (push-write (store (a .l) Adopt ∷ store (a .l) Replace ∷ []) (endingStores (nextRemoval st path)) (omega arith)),
+      rw (c .plan .ensures .1, c .before .two-stores .ensures, i) (push-write (store (a .l) Adopt ∷ store (a .l) Promote ∷ []) (endingStores (nextRemoval st path)) (omega arith)),
     )
 
 word-requires : tie.Need-word-requires

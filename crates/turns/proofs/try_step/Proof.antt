@@ -10,7 +10,7 @@ use Rattle.turns.proofs.try_step.Reads as reads
 use Rattle.turns.proofs.try_step.Lts as lts
 use Rattle.heads.proofs.missed.Reads as missed-reads
 use Rattle.removals.proofs.detach.Reads as detach-reads
-use Rattle.removals.proofs.replace.Reads as replace-reads
+use Rattle.removals.proofs.promote.Reads as promote-reads
 use Rattle.removals.proofs.unlink.Reads as unlink-reads
 use Rattle.rotations.proofs.diag_lower.Reads as diag-lower-reads
 use Rattle.rotations.proofs.diag_raise.Reads as diag-raise-reads
@@ -78,8 +78,8 @@ adopt-requires c κs = search needs
 enum-told-4 : tie.Need-enum-told-4
 enum-told-4 c = search needs
 
-replace-requires : tie.Need-replace-requires
-replace-requires c κs = search needs
+promote-requires : tie.Need-promote-requires
+promote-requires c κs = search needs
 
 enum-known-x-7 : tie.Need-enum-known-x-7
 enum-known-x-7 c = search needs
@@ -160,7 +160,7 @@ same-length-9 c = search needs
 
 returns-10 : tie.Need-returns-10
 unfolding withWrite
-returns-10 c = rw (c .before .before .before .before .enum-told4 .given .1) (λ q r. c .before .before .replace .ensures q r)
+returns-10 c = rw (c .before .before .before .before .enum-told4 .given .1) (λ q r. c .before .before .promote .ensures q r)
 
 same-length-10 : tie.Need-same-length-10
 same-length-10 c = search needs
@@ -199,7 +199,7 @@ try-step-spec =
     enum-told-3
     adopt-requires
     enum-told-4
-    replace-requires
+    promote-requires
     enum-known-x-7
     publish-requires
     enum-known-x-8

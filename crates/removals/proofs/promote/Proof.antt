@@ -1,16 +1,16 @@
-use Rattle.datatypes.specs.declared.Step.the-variants.{Replace}
+use Rattle.datatypes.specs.declared.Step.the-variants.{Promote}
 use Rattle.spec.specs.Register.{State}
 use Rattle.heads.specs.Head.{at, tells-missed, tells-made}
-use Rattle.spec.specs.Turn.{stepFinds, stepMade, replaceStore}
+use Rattle.spec.specs.Turn.{stepFinds, stepMade, promoteStore}
 use mathlib.Core.Bool.{true, false}
 use mathlib.Core.Path.{_≡_}
 use native.Mathlib.Omega.{arith}
 use borrow.Author.Tests.{not-true, not-false}
 use borrow.Author.Needs.{needs}
-use Rattle.removals.proofs.replace.Statement.{statement}
-use Rattle.removals.proofs.replace.Tie as tie
-use Rattle.removals.proofs.replace.Reads as reads
-use Rattle.removals.proofs.replace.Lts as lts
+use Rattle.removals.proofs.promote.Statement.{statement}
+use Rattle.removals.proofs.promote.Tie as tie
+use Rattle.removals.proofs.promote.Reads as reads
+use Rattle.removals.proofs.promote.Lts as lts
 use Rattle.delete_fixups.proofs.fixup_after_removal.Reads as fixup-after-removal-reads
 use Rattle.paths.proofs.below_right.Reads as below-right-reads
 use Rattle.paths.proofs.path_to.Reads as path-to-reads
@@ -73,7 +73,7 @@ returns c =
     let c19 = c17 .before .before in
     let c22 = c19 .before .before .before in
     let a = c22 .args in λ q r. let st : State = at (a .pool .now) (a .h) q in
-    let f : stepFinds st (a .l) Replace ≡ false =
+    let f : stepFinds st (a .l) Promote ≡ false =
     rw (
       ← (c19 .node-at .ensures),
       ← (c17 .child .ensures),
@@ -84,7 +84,7 @@ returns c =
       ← (c3 .fixup-after-removal .ensures),
       ← (c .before .before .nodes-found .ensures),
     ) (not-true _ (c .before .if1 .taken)) in
-    tells-missed (a .pool .now) (a .h) (a .l) Replace q (c .missed .result) f (c .missed .ensures)
+    tells-missed (a .pool .now) (a .h) (a .l) Promote q (c .missed .result) f (c .missed .ensures)
 
 word-requires-2 : tie.Need-word-requires-2
 word-requires-2 c κs = search needs
@@ -110,7 +110,7 @@ same-length-2 : tie.Need-same-length-2
 same-length-2 c = search needs
 
 returns-2 : tie.Need-returns-2
-unfolding stepFinds stepMade replaceStore
+unfolding stepFinds stepMade promoteStore
 returns-2 c =
     let c7 = c .before .before .before .before .before .before .before in
     let c9 = c7 .before .before in
@@ -125,7 +125,7 @@ returns-2 c =
     let c29 = c27 .before .before in
     let c32 = c29 .before .before .before in
     let a = c32 .args in λ q r. let st : State = at (a .pool .now) (a .h) q in
-    let f : stepFinds st (a .l) Replace ≡ true =
+    let f : stepFinds st (a .l) Promote ≡ true =
     rw (
       ← (c29 .node-at .ensures),
       ← (c27 .child .ensures),
@@ -136,7 +136,7 @@ returns-2 c =
       ← (c13 .fixup-after-removal .ensures),
       ← (c12 .nodes-found .ensures),
     ) (not-false _ (c11 .if1 .left)) in
-    tells-made (a .pool .now) (a .h) (a .l) Replace q _ _ f (not-false _ (c11 .if1 .left))
+    tells-made (a .pool .now) (a .h) (a .l) Promote q _ _ f (not-false _ (c11 .if1 .left))
     (rw (
       c .before .before .colour-and-retire .ensures q r,
       c7 .store-successor .ensures q,
@@ -150,8 +150,8 @@ returns-2 c =
       c29 .node-at .ensures,
     ))
 
-pub replace-spec : {M : Type 1} → statement M
-replace-spec =
+pub promote-spec : {M : Type 1} → statement M
+promote-spec =
     tie.close
     (tie.spec
     node-at-requires
