@@ -57,7 +57,7 @@ module _ (st : State) (G : Tree) (v : ℕ) (fs : List Frame) (B : Node) (l r : L
   top = top-of st fs L B l r h
 
   count : (i : ℕ) → occ i (nodes T) ≡ one i (B .num) + occ i (nodes l) + occ i (nodes r) + occWay i fs
-  count i = simp (occ-plug, occ-at) (omega arith)
+  count i = let a = occ-plug fs (cell B l r) i in let b = occ-at L B l r i in omega arith
 
   abbrev base : State
   base = takeNode st (B .key) v L (child (st .pool) L (B .num)) (child (st .pool) R (B .num)) (colourWordOf st (B .num))

@@ -69,7 +69,7 @@ new-writes c q w = record {
 }
 
 -- a held key's record overwritten
-pub record-writes : (c : Colour) (q v w : ℕ) (l r : Tree) → Writes q (some v) (some w) (node c q v l r) (node c q w l r)
+record-writes : (c : Colour) (q v w : ℕ) (l r : Tree) → Writes q (some v) (some w) (node c q v l r) (node c q w l r)
 record-writes c q v w l r = record {
   below = λ s k o h. h;
   ordered = λ h. h;

@@ -11,9 +11,9 @@ use Rattle.sequential.specs.Tree.{Colour, black, leaf, node, mk}
 use Rattle.tree.specs.Sorted.{mk-there, parts}
 use Rattle.tree.specs.Keeps.{Keeps, keeps-plug, keeps-diag}
 use Rattle.tree.specs.Writes.{Writes, writes-plug}
-use Rattle.tree.specs.Insert.{new-writes, record-writes}
+use Rattle.tree.specs.Insert.{new-writes}
 use Rattle.tree.specs.Delete.{Least, least, least-up, drop-one, swap}
-use Rattle.tree.specs.Linked.{Node, replacement, Linked, nil, cell, at}
+use Rattle.tree.specs.Linked.{Node, Linked, nil, cell, at}
 use Rattle.tree.specs.Zipper.{Frame, hole, plug, Into, Along}
 use Rattle.tree.specs.Erase.{eraseWay, erase-at, erase-plug, erase-into}
 use Rattle.tree.specs.LinkedOrder.{bare}
@@ -40,9 +40,6 @@ diag-keeps s B C n o x r =
 -- The list stores.
 pub insertion-writes : (Z : Node) → Writes (Z .key) none (some (Z .val)) (bare nil) (bare (cell Z nil nil))
 insertion-writes Z = new-writes black (Z .key) (Z .val)
-
-pub replace-writes : (B : Node) (n v : ℕ) (l r : Linked) → Writes (B .key) (some (B .val)) (some v) (bare (cell B l r)) (bare (cell (replacement B n v) l r))
-replace-writes B n v l r = record-writes black (B .key) (B .val) v (bare l) (bare r)
 
 pub unlink-writes : (s : Side) (B : Node) (x : Linked) → Writes (B .key) (some (B .val)) none (bare (at s B x nil)) (bare x)
 unlink-writes s B x = rw (erase-at none-red s B x nil) (drop-one s black (B .key) (B .val) (bare x))

@@ -24,14 +24,8 @@ module _ (Z : Node) where
   pub insert-path : (P : ℕ → Type 0) → Thins P nil (cell Z nil nil)
   insert-path P q = search thin
 
--- replace: a copy of B with the record v takes its place
+-- replace: a copy of B with the record v takes its place; what lookups find is known by the sequential tree, at rest
 module _ (B : Node) (n v : ℕ) (l r : Linked) where
-  pub replace-find : SameBut (B .key) (some v) (cell B l r) (cell (replacement B n v) l r)
-  replace-find = record {
-    there = rw (here-of L (B .key) (B .key) refl);
-    elsewhere = λ q d. tri-case L q (B .key) (λ _ e. rw e) (λ o e. absurd (d o)) (λ _ e. rw e);
-  }
-
   pub replace-path : (P : ℕ → Type 0) → P (B .num) → Thins P (cell B l r) (cell (replacement B n v) l r)
   replace-path P p q = tri-case L q (B .key) (λ _ e. rw e (search thin)) (λ _ e. rw e (search thin)) (λ _ e. rw e (search thin))
 
