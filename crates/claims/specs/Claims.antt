@@ -21,7 +21,7 @@ use Rattle.base.specs.Walk.{all-in}
 use Rattle.sequential.specs.Tree.{leaf}
 use Rattle.sequential.specs.Delete.{changedBy}
 use Rattle.spec.specs.Numbers.{leastNodes, mostNodes, slots}
-use Rattle.spec.specs.Pool.{word, child, nodes, keyWord, standingFree, standingLinked, standingRetired}
+use Rattle.spec.specs.Pool.{word, child, nodes, keyWord, recordAt, standingFree, standingLinked, standingRetired}
 use Rattle.spec.specs.Register.{State, state, noReader, begunReader, nodeAt, hasSlot, isRoot}
 use Rattle.spec.specs.Calls.{Answer, go, absent, found, next, refused, Call, inserting, call, writeInHand}
 use Rattle.spec.specs.PlainList.{recordFor, acceptedWrites}
@@ -115,6 +115,10 @@ all-at-once after l n linked stands one =
 -- One that does nothing: a turn of a write in hand makes a store (`goesOn`), and no store (`oneStore`) leaves the index as it was.
 pub does-nothing : (st : State) (l : Link) (n : ℕ) → ¬ (StoresOne st st l n)
 does-nothing st l n h = h .moved (h .holds)
+
+-- 02, C-13: one that changes a held key's record in place. A store leaves every node of the tree its ticket.
+pub changed-in-place : (st after : State) (l : Link) (n m : ℕ) → standingAt st m ≡ standingLinked → recordAt (after .pool) m ≢ recordAt (st .pool) m → ¬ (StoresOne st after l n)
+changed-in-place st after l n m e d h = d (h .tickets m e .1)
 
 -- An invented free count: with the same pool, no other count than the right one is right.
 pub invented-count : (st : State) (r : Register) → FreeRight st → FreeRight (state (st .pool) r) → r .free ≡ st .register .free
