@@ -20,6 +20,7 @@ pub mod TurnSteps
 pub mod RaiseSteps
 pub mod Inserts
 pub mod InsertStep
+pub mod InPlace
 pub mod ReplaceStep
 pub mod Removals
 pub mod RemovalCore

@@ -9,9 +9,8 @@ use Rattle.datatypes.specs.declared.Side.the-variants.{L, R}
 use Rattle.datatypes.specs.declared.Register.{Register}
 use Rattle.datatypes.specs.declared.Write.{Write}
 use Rattle.datatypes.specs.declared.Step.the-variants.{Publish, Detach}
-use Rattle.spec.specs.Pool.{child}
-use Rattle.spec.specs.Register.{State, state, setLink, linkNode, withAwaited, withWrite, readingSlots}
-use Rattle.spec.specs.Free.{takeNode, retire}
+use Rattle.spec.specs.Register.{State, state, linkNode, withAwaited, withWrite, readingSlots}
+use Rattle.spec.specs.Free.{retire}
 use Rattle.spec.specs.Plan.{store, endingStores}
 use Rattle.spec.specs.Turn.{made, colourOf as colourWordOf, oneLess, movedStore, movedWrite, publishStore, stepFinds}
 use Rattle.sequential.specs.Tree.{Colour, red, black, Tree, colourOf}
@@ -20,17 +19,18 @@ use Rattle.tree.specs.LinkedOrder.{ordered-bare, ordered-within, into-top}
 use Rattle.tree.specs.Zipper.{Frame, hole, plug, plug-append, sameBut-lift}
 use Rattle.tree.specs.Erase.{erase, eraseWay, erase-find}
 use Rattle.tree.specs.Height.{mostHeight}
-use Rattle.tree.specs.Occurs.{one, one-same, occ, occ-at, occWay, occ-plug}
+use Rattle.tree.specs.Occurs.{one, one-same, occ, occWay}
 use Rattle.tree.specs.Successor.{third₀, third-order, publish-find}
 use Rattle.tree.specs.DeleteFixup as DeleteFixup
 use Rattle.tree.specs.DeleteFixup.{framesUp, DeleteFixup}
 use Rattle.heap.specs.Sites.{linkTo}
-use Rattle.heap.specs.Colours.{colours, colours-is, colours-alike, erase-occ, way-occ}
+use Rattle.heap.specs.Colours.{colours, colours-alike, erase-occ, way-occ}
 use Rattle.heap.specs.Fill.{retire-quiet}
 use Rattle.heap.specs.Fixups.{tip, deleteFixupEnding}
 use Rattle.heap.specs.DeleteFixupRun.{deleteFixupOf}
-use Rattle.heap.specs.Moves.{At, Fresh, new-apart, Linked-in, link-in, clear-of, at-quiet, fields-trans, held-fields}
+use Rattle.heap.specs.Moves.{At, Fresh, Linked-in, at-quiet, fields-trans, held-fields}
 use Rattle.heap.specs.Lowers.{is-node, not-empty, Top, top-of, far-down}
+use Rattle.heap.specs.InPlace.{taken, linked, in-place, old-kept, new-as-old}
 use Rattle.heap.specs.ColourWork.{coloursOnly-refl}
 use Rattle.heap.specs.Parts.{filled, queue-trans, held-queue, await-queue, parts-of}
 use Rattle.heap.specs.Tolds.{Told, told-delete}
@@ -129,34 +129,24 @@ module _ (st : State) (G : Tree) (d : Double) (gs : List Frame) (h : At st (d .w
       let b = length-append gs (hole R B l ∷ fs) in
       omega arith
 
-  abbrev base : State
-  base = takeNode st (C .key) (C .val) L (child (st .pool) L (B .num)) (child (st .pool) R (B .num)) (colourWordOf st (B .num))
+  abbrev far : Linked
+  far = plug gs (at L C nil y)
 
   abbrev stored : State
-  stored = setLink base (linkTo fs) n
+  stored = linked st fs B l (plug gs (at L C nil y)) (C .key) (C .val)
 
-  abbrev linked : State
-  linked = oneLess stored
+  abbrev less : State
+  less = oneLess stored
 
   abbrev awaiting : State
-  awaiting = state (linked .pool) (withWrite (withAwaited (linked .register) (readingSlots (linked .register))) (movedWrite (B .num) n (linked .register .write)))
+  awaiting = state (less .pool) (withWrite (withAwaited (less .register) (readingSlots (less .register))) (movedWrite (B .num) n (less .register .write)))
 
   publish-is : publishStore st (linkTo fs) (C .num) ≡ made (retire awaiting (B .num)) (linkTo fs) n
   unfolding publishStore
   publish-is = let w = top-of st (gs ++ (hole R B l ∷ fs)) L C nil y siteC .words in rw (top .is, w .key-is, w .val-is)
 
   in-tree : Linked-in st stored fs (published d gs n) (colourWordOf st (B .num))
-  in-tree =
-      let count = third-count fs gs B C l y in
-      let nn = fresh .new in
-      let cn = count n in
-      let u = occ-plug gs (cell C nil y) n in
-      let e = occ-at L C nil y n in
-      link-in st fs (doubleTop d gs) (C .key) (C .val) L (child p L (B .num)) (child p R (B .num)) (colourWordOf st (B .num)) l (plug gs (at L C nil y)) fresh h (top .near) (top .far)
-      (omega arith) (omega arith)
-      (clear-of fs (doubleTop d gs) (published d gs n) (good .once)
-      (λ i w. let a = each i in let b = count i in let k = new-apart i n (nodes T) (fresh .new) (omega arith) in
-      let u = occ-at L (copy C n) l (plug gs (at L C nil y)) i in let v = occ-plug gs (at L C nil y) i in let z = occ-at L C nil y i in omega arith))
+  in-tree = in-place st fs B l far (C .key) (C .val) h (good .once) fresh
 
   abbrev after : State
   after = retire awaiting (B .num)
@@ -168,13 +158,13 @@ module _ (st : State) (G : Tree) (d : Double) (gs : List Frame) (h : At st (d .w
   quiet-colour i = colours-alike (retire-quiet awaiting (B .num) .words) i
 
   kept : (i : ℕ) → 0 < occ i (nodes T) → g i ≡ f i
-  kept i m = quiet-colour i ∙ in-tree .old-colours i (λ e. let q : occ n (nodes T) ≡ occ i (nodes T) = rw e in let a = fresh .new in omega arith)
+  kept = old-kept st fs B l far (C .key) (C .val) h (good .once) fresh g quiet-colour
 
   b-in : 0 < occ (B .num) (nodes T)
   b-in = let a = third-count fs gs B C l y (B .num) in let b = one-same (B .num) in omega arith
 
   new-colour : g n ≡ f (B .num)
-  new-colour = quiet-colour n ∙ in-tree .new-colour ∙ sym (colours-is p (B .num) (colourWordOf st (B .num)) refl)
+  new-colour = new-as-old st fs B l far (C .key) (C .val) h (good .once) fresh g quiet-colour
 
   in-gs : (i : ℕ) → 0 < occWay i gs → g i ≡ f i
   in-gs i w = kept i (let a = third-count fs gs B C l y i in omega arith)
@@ -230,7 +220,7 @@ module _ (st : State) (G : Tree) (d : Double) (gs : List Frame) (h : At st (d .w
 
   phase : Phase (after .pool) (after .register .root) G (plug fs (published d gs n)) (store (linkTo fs) (Detach (B .key)) ∷ removalStores g C y W)
   phase =
-      let root : awaiting .register .root ≡ stored .register .root = write-root (linked .register) _ _ ∙ held-root (stored .register) _ in
+      let root : awaiting .register .root ≡ stored .register .root = write-root (less .register) _ _ ∙ held-root (stored .register) _ in
       let site : At awaiting fs (published d gs n) = rw root (in-tree .site) in
       detach-0 d gs n (at-quiet {st = awaiting} {after = after} (retire-quiet awaiting (B .num)) fs (published d gs n) site) record {
         along = along;
@@ -252,14 +242,14 @@ module _ (st : State) (G : Tree) (d : Double) (gs : List Frame) (h : At st (d .w
         gone = B .num ∷ [];
         shift = by-publish fs gs B C n l y along (ordered-bare f _ T (good .proper .ordered)) (good .once) (fresh .new);
         phase = phase;
-        parts = parts-of st base awaiting _ (linkTo fs) n (n ∷ []) (B .num ∷ []) (filled (C .key) (C .val) L _ _ (colourWordOf st (B .num))) (coloursOnly-refl _)
-            (queue-trans (held-queue (stored .register) _) (await-queue (linked .register) _ _)) refl;
+        parts = parts-of st (taken st fs B l far (C .key) (C .val)) awaiting _ (linkTo fs) n (n ∷ []) (B .num ∷ []) (filled (C .key) (C .val) L _ _ (colourWordOf st (B .num))) (coloursOnly-refl _)
+            (queue-trans (held-queue (stored .register) _) (await-queue (less .register) _ _)) refl;
         size = q .words .size ∙ in-tree .size;
-        held = q .fields .held ∙ write-held (linked .register) _ _ ∙ held-is (stored .register) _ ∙ rw (in-tree .held);
+        held = q .fields .held ∙ write-held (less .register) _ _ ∙ held-is (stored .register) _ ∙ rw (in-tree .held);
         fields = record {
-          readers = q .fields .readers ∙ write-readers (linked .register) _ _ ∙ a .readers;
-          awaited = q .fields .awaited ∙ write-awaited (linked .register) _ _ ∙ slots-same (st .register) (linked .register) (a .readers);
-          write = q .fields .write ∙ write-write (linked .register) _ _ ∙ rw (top .is, a .write);
+          readers = q .fields .readers ∙ write-readers (less .register) _ _ ∙ a .readers;
+          awaited = q .fields .awaited ∙ write-awaited (less .register) _ _ ∙ slots-same (st .register) (less .register) (a .readers);
+          write = q .fields .write ∙ write-write (less .register) _ _ ∙ rw (top .is, a .write);
         };
       }
 

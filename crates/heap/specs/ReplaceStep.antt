@@ -1,15 +1,14 @@
 -- The store of an insert of a held key, replace, from phase to phase. After it the write is done: the tree is at rest, with another node in B's
 -- place and all else as it was.
-use Prim.Native.Nat.{ℕ, _+_, _<_}
+use Prim.Native.Nat.{ℕ, _<_}
 use mathlib.Core.Path.{_≡_, refl, sym, _∙_}
 use mathlib.Core.Bool.{true}
 use mathlib.Core.List.{List, [], _∷_}
 use native.Mathlib.Omega.{arith}
-use Rattle.datatypes.specs.declared.Side.the-variants.{L, R}
+use Rattle.datatypes.specs.declared.Side.the-variants.{L}
 use Rattle.datatypes.specs.declared.Step.the-variants.{Replace}
-use Rattle.spec.specs.Pool.{child}
-use Rattle.spec.specs.Register.{State, setLink}
-use Rattle.spec.specs.Free.{takeNode, retire}
+use Rattle.spec.specs.Register.{State}
+use Rattle.spec.specs.Free.{retire}
 use Rattle.spec.specs.Plan.{store}
 use Rattle.spec.specs.Turn.{made, colourOf as colourWordOf, replaceStore, stepFinds}
 use Rattle.sequential.specs.Tree.{Colour, Tree}
@@ -20,12 +19,13 @@ use Rattle.tree.specs.Zipper.{Frame, plug}
 use Rattle.tree.specs.Erase.{erase, erase-plug}
 use Rattle.tree.specs.Forms.{replace-linked}
 use Rattle.tree.specs.Changes.{changed-proper}
-use Rattle.tree.specs.Occurs.{one, one-same, occ, occ-at, occWay, occ-plug, turnover-plug, replace-turnover}
+use Rattle.tree.specs.Occurs.{occ, turnover-plug, replace-turnover}
 use Rattle.heap.specs.Sites.{linkTo, site-of, of-site}
-use Rattle.heap.specs.Colours.{colours, colours-is, colours-alike, erase-occ, way-occ}
+use Rattle.heap.specs.Colours.{colours, colours-alike, erase-occ, way-occ}
 use Rattle.heap.specs.Fill.{retire-quiet}
-use Rattle.heap.specs.Moves.{At, Fresh, new-apart, Linked-in, link-in, clear-of, at-quiet, fields-trans, fields-queued}
+use Rattle.heap.specs.Moves.{At, Fresh, Linked-in, at-quiet, fields-trans, fields-queued}
 use Rattle.heap.specs.Lowers.{is-node, not-empty, Top, top-of}
+use Rattle.heap.specs.InPlace.{taken, linked, place-count, in-place, old-kept, new-as-old}
 use Rattle.heap.specs.ColourWork.{coloursOnly-refl}
 use Rattle.heap.specs.Parts.{filled, same-queue, parts-of}
 use Rattle.heap.specs.Phase.{ReplacePlan, Phase, at-rest}
@@ -34,9 +34,6 @@ use Rattle.heap.specs.Shift.{by-replace, Next, once-turnover}
 module _ (st : State) (G : Tree) (v : ℕ) (fs : List Frame) (B : Node) (l r : Linked) (h : At st fs (cell B l r)) (plan : ReplacePlan (colours (st .pool)) G v fs B l r)
     (fresh : Fresh st (plug fs (cell B l r))) where
   open ReplacePlan plan using (sound as good, goal)
-
-  abbrev p : List ℕ
-  p = st .pool
 
   abbrev f : ℕ → Colour
   f = colours (st .pool)
@@ -56,14 +53,8 @@ module _ (st : State) (G : Tree) (v : ℕ) (fs : List Frame) (B : Node) (l r : L
   top : Top st fs L B l r
   top = top-of st fs L B l r h
 
-  count : (i : ℕ) → occ i (nodes T) ≡ one i (B .num) + occ i (nodes l) + occ i (nodes r) + occWay i fs
-  count i = let a = occ-plug fs (cell B l r) i in let b = occ-at L B l r i in omega arith
-
-  abbrev base : State
-  base = takeNode st (B .key) v L (child (st .pool) L (B .num)) (child (st .pool) R (B .num)) (colourWordOf st (B .num))
-
   abbrev stored : State
-  stored = setLink base (linkTo fs) n
+  stored = linked st fs B l r (B .key) v
 
   abbrev after : State
   after = retire stored (B .num)
@@ -73,12 +64,7 @@ module _ (st : State) (G : Tree) (v : ℕ) (fs : List Frame) (B : Node) (l r : L
   replace-is = rw (top .is, top .words .key-is)
 
   in-tree : Linked-in st stored fs (cell N l r) (colourWordOf st (B .num))
-  in-tree =
-      let nn = fresh .new in
-      let cn = count n in
-      link-in st fs (cell B l r) (B .key) v L (child p L (B .num)) (child p R (B .num)) (colourWordOf st (B .num)) l r fresh h (top .near) (top .far) (omega arith) (omega arith)
-      (clear-of fs (cell B l r) (cell N l r) (good .once)
-      (λ i w. let a = good .once i in let b = count i in let k = new-apart i n (nodes T) (fresh .new) (omega arith) in let e = occ-at L N l r i in omega arith))
+  in-tree = in-place st fs B l r (B .key) v h (good .once) fresh
 
   abbrev g : ℕ → Colour
   g = colours (after .pool)
@@ -87,17 +73,16 @@ module _ (st : State) (G : Tree) (v : ℕ) (fs : List Frame) (B : Node) (l r : L
   quiet-colour i = colours-alike (retire-quiet stored (B .num) .words) i
 
   kept : (i : ℕ) → 0 < occ i (nodes T) → g i ≡ f i
-  kept i m = quiet-colour i ∙ in-tree .old-colours i (λ e. let q : occ n (nodes T) ≡ occ i (nodes T) = rw e in let a = fresh .new in omega arith)
-
-  new-colour : g n ≡ f (B .num)
-  new-colour = quiet-colour n ∙ in-tree .new-colour ∙ sym (colours-is p (B .num) (colourWordOf st (B .num)) refl)
+  kept = old-kept st fs B l r (B .key) v h (good .once) fresh g quiet-colour
 
   -- the tree with its colours is the sequential one
   erased : erase g U ≡ G
   erased =
+      let count = place-count st fs B l r (B .key) v in
       let way = way-occ f g fs (λ i w. kept i (let a = count i in omega arith)) in
       let left = erase-occ f g l (λ i w. kept i (let a = count i in omega arith)) in
       let right = erase-occ f g r (λ i w. kept i (let a = count i in omega arith)) in
+      let new-colour = new-as-old st fs B l r (B .key) v h (good .once) fresh g quiet-colour in
       let into = into-top fs L B l r (ordered-bare f _ T (good .proper .ordered)) in
       erase-plug g fs (cell N l r) ∙ rw (way, left, right, new-colour) (sym (goal ∙ replace-linked f fs B l r v into))
 
@@ -117,7 +102,7 @@ module _ (st : State) (G : Tree) (v : ℕ) (fs : List Frame) (B : Node) (l r : L
         gone = B .num ∷ [];
         shift = by-replace fs B n v l r (good .once) (fresh .new);
         phase = phase;
-        parts = parts-of st base stored _ (linkTo fs) n (n ∷ []) (B .num ∷ []) (filled (B .key) v L _ _ (colourWordOf st (B .num))) (coloursOnly-refl _) (same-queue refl) refl;
+        parts = parts-of st (taken st fs B l r (B .key) v) stored _ (linkTo fs) n (n ∷ []) (B .num ∷ []) (filled (B .key) v L _ _ (colourWordOf st (B .num))) (coloursOnly-refl _) (same-queue refl) refl;
         size = q .words .size ∙ in-tree .size;
         held = q .fields .held ∙ in-tree .held;
         fields = record { readers = a .readers; awaited = a .awaited; write = a .write };

@@ -4,7 +4,7 @@ use mathlib.Core.Path.{_≡_, refl, sym, ap, _∙_, subst}
 use mathlib.Core.Logic.{_≢_}
 use mathlib.Core.Bool.{true, false, cond, not, false≢true}
 use mathlib.Core.List.{List, [], _∷_}
-use mathlib.Core.Option.{Option, none, some}
+use mathlib.Core.Option.{some}
 use native.Mathlib.Omega.{arith}
 use native.Mathlib.Decide.{ℕ-discrete}
 use lib.Dec.{eqb}
@@ -44,7 +44,7 @@ use Rattle.heap.specs.Colours.{colours}
 use Rattle.heap.specs.Shift.{isListStore, heldAfter}
 use Rattle.heap.specs.Plans.{Rest, Placed, empty-at, held-at, placed}
 use Rattle.heap.specs.Writes.{InHand}
-use Rattle.heap.specs.Accept.{accepted-in-hand, searched, heldOf, delete-possible}
+use Rattle.heap.specs.Accept.{accepted-in-hand, searched, delete-possible}
 use Rattle.spec.specs.Calls.{deleteTests}
 use Rattle.readers.specs.CallCase.{tests-pass}
 use Rattle.readers.specs.Safe.{Safe}

@@ -1,11 +1,10 @@
 -- Sequential insert keeps a red-black tree of keys in order, puts in its ticket, in place of any with its key, and changes no other.
 -- Used by Changes.
 use Prim.Native.Nat.{ℕ, suc}
-use mathlib.Core.Path.{_≡_, refl, subst}
+use mathlib.Core.Path.{refl, subst}
 use mathlib.Core.Bool.{Bool}
 use mathlib.Core.List.{List, [], _∷_}
 use mathlib.Core.Option.{none, some}
-use native.Mathlib.Omega.{arith}
 use Rattle.datatypes.specs.declared.Side.{Side}
 use Rattle.datatypes.specs.declared.Side.the-variants.{L}
 use Rattle.datatypes.specs.Side.{other}
