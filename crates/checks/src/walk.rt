@@ -46,7 +46,7 @@ pub fn nodes(pool: &[u32]) -> u32 {
 }
 
 // how many nodes have this standing
-fn standing(pool: &[u32], standing: u32) -> u32 {
+fn count_standing(pool: &[u32], standing: u32) -> u32 {
     let capacity = nodes(pool);
     let mut count: u32 = 0;
     let mut n: u32 = 0;
@@ -61,12 +61,12 @@ fn standing(pool: &[u32], standing: u32) -> u32 {
 
 // Answers how many nodes stand free.
 pub fn free_nodes(pool: &[u32]) -> u32 {
-    standing(pool, FREE)
+    count_standing(pool, FREE)
 }
 
 // Answers how many nodes stand linked.
 pub fn linked_nodes(pool: &[u32]) -> u32 {
-    standing(pool, LINKED)
+    count_standing(pool, LINKED)
 }
 
 // a retired node has holders, all of them among the reading slots; any other node has none
