@@ -149,6 +149,11 @@ fn kind_of(c: u32, m: Mood) -> u32 {
     reader_kind(c, bound(m.busy, 38, 52))
 }
 
+// the record of an insert: one in eight is the ticket's number, so that a held key now and then gets the record that it has
+fn record_of(q: u32, ticket: u32) -> u32 {
+    if q / 16_777_216 % 8 == 0 { ticket } else { q }
+}
+
 // Draws a run's call number i, on so many nodes.
 pub fn draw_call(x: u32, i: u64, nodes: u32) -> Call {
     let first = next(x);
@@ -159,6 +164,6 @@ pub fn draw_call(x: u32, i: u64, nodes: u32) -> Call {
         slot: slot_of(high(second, 256)),
         ticket,
         key: key_of(ticket, tickets(nodes)),
-        record: second,
+        record: record_of(second, ticket),
     }
 }

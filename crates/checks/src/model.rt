@@ -3,7 +3,7 @@
 use crate::draws;
 
 // The plain list has three words for each ticket number: whether it is there, its record, and how many changes the list had made once this
-// ticket last changed.
+// ticket last came or went. That a ticket comes is a change, and that it goes; a record that takes another's place is two, one for each record.
 const TICKET_SPAN: usize = 3;
 
 const THERE: u32 = 0;
@@ -20,7 +20,7 @@ const HAND: usize = FIRST_SLOT + numbers::SLOTS * SLOT_SPAN;
 
 const HAND_SPAN: usize = 8;
 
-// The latest changes of the list, in a ring by their numbers: the ticket put in or taken out, and its record.
+// The latest changes of the list, in a ring by their numbers: the ticket, and the record that it had before or has since.
 const LOG: usize = HAND + HAND_SPAN;
 
 const LOG_SPAN: usize = 2;
@@ -77,6 +77,9 @@ pub const NONE: u32 = 0;
 pub const INSERT: u32 = 1;
 
 pub const DELETE: u32 = 2;
+
+// an insert of a held key
+pub const REPLACE: u32 = 3;
 
 // where a count stops
 const MOST: u32 = 4_294_967_295;
@@ -154,24 +157,47 @@ pub fn list_record(model: &[u32], t: u32) -> u32 {
     ticket_word(model, t, ITS_RECORD)
 }
 
-// Notes a change of the list: this ticket, with this record, is put in or taken out.
+// Notes a change of the list: this ticket had this record until now, or has it from now on.
 fn note_change(model: &mut [u32], t: u32, v: u32) {
     let n = hand_word(model, CHANGES);
     if n < MOST {
         set_logged_word(model, n, LOG_TICKET, t);
         set_logged_word(model, n, LOG_RECORD, v);
-        set_ticket_word(model, t, CHANGED, n + 1);
         set_hand_word(model, CHANGES, n + 1);
     }
 }
 
-fn put_in(model: &mut [u32], t: u32, v: u32) {
+// a ticket with this record comes or goes
+fn come_or_go(model: &mut [u32], t: u32, v: u32) {
+    note_change(model, t, v);
+    let n = hand_word(model, CHANGES);
+    set_ticket_word(model, t, CHANGED, n);
+}
+
+fn add(model: &mut [u32], t: u32, v: u32) {
     let n = held(model);
     if n < MOST {
         set_ticket_word(model, t, THERE, 1);
         set_ticket_word(model, t, ITS_RECORD, v);
         set_hand_word(model, HELD, n + 1);
-        note_change(model, t, v);
+        come_or_go(model, t, v);
+    }
+}
+
+// A ticket stays, with a new record.
+fn replace(model: &mut [u32], t: u32, v: u32) {
+    let old = list_record(model, t);
+    note_change(model, t, old);
+    note_change(model, t, v);
+    set_ticket_word(model, t, ITS_RECORD, v);
+}
+
+// puts a ticket in, in place of any there with its key
+fn put_in(model: &mut [u32], t: u32, v: u32) {
+    if listed(model, t) {
+        replace(model, t, v);
+    } else {
+        add(model, t, v);
     }
 }
 
@@ -181,7 +207,7 @@ fn take_out(model: &mut [u32], t: u32) {
         let v = list_record(model, t);
         set_ticket_word(model, t, THERE, 0);
         set_hand_word(model, HELD, n - 1);
-        note_change(model, t, v);
+        come_or_go(model, t, v);
     }
 }
 
@@ -306,6 +332,16 @@ pub fn is_listed(model: &[u32], s: u32, v: u32) -> bool {
     listed(model, t) & (list_record(model, t) == v)
 }
 
+// Answers whether the list has a slot's ticket with another record now.
+pub fn is_outdated(model: &[u32], s: u32, v: u32) -> bool {
+    has_other(model, slot_word(model, s, WANTED), v)
+}
+
+// Answers whether the list has a ticket with another record now.
+pub fn has_other(model: &[u32], t: u32, v: u32) -> bool {
+    listed(model, t) & (list_record(model, t) != v)
+}
+
 // Answers whether the list lacks a slot's ticket now.
 pub fn is_lacking(model: &[u32], s: u32) -> bool {
     let t = slot_word(model, s, WANTED);
@@ -325,8 +361,7 @@ fn was_changed(model: &[u32], s: u32, t: u32, v: u32) -> bool {
     false
 }
 
-// whether the list had this ticket with this record at one of the search's moments: it has it now, or a change since the begin put it in
-// or took it out
+// whether the list had this ticket with this record at one of the search's moments: it has it now, or a change since the begin was of it
 fn was_held(model: &[u32], s: u32, t: u32, v: u32) -> bool {
     let now = listed(model, t) & (list_record(model, t) == v);
     now | was_changed(model, s, t, v)
@@ -377,15 +412,25 @@ pub fn is_none(model: &[u32], s: u32) -> bool {
     first_now(model, s) == draws::TICKETS
 }
 
-// Answers the awaited slots, a bit each.
-pub fn awaited(model: &[u32]) -> u32 {
+// the slots whose word f is 1, a bit each
+fn slots_with(model: &[u32], f: u32) -> u32 {
     let mut bits: u32 = 0;
     let mut s: u32 = 0;
     while s < numbers::SLOT_LIMIT {
-        bits = bits % 128 * 2 + slot_word(model, 7 - s, AWAITED) % 2;
+        bits = bits % 128 * 2 + slot_word(model, 7 - s, f) % 2;
         s += 1;
     }
     bits
+}
+
+// Answers the awaited slots, a bit each.
+pub fn awaited(model: &[u32]) -> u32 {
+    slots_with(model, AWAITED)
+}
+
+// Answers the reading slots, a bit each.
+pub fn reading_slots(model: &[u32]) -> u32 {
+    slots_with(model, READING)
 }
 
 fn await_readers(model: &mut [u32]) {
@@ -397,7 +442,7 @@ fn await_readers(model: &mut [u32]) {
     }
 }
 
-// Answers whether the write in hand is an insert or a delete, or that there is none.
+// Answers the kind of the write in hand: an insert, of a held key or not, or a delete; or that there is none.
 pub fn kind_in_hand(model: &[u32]) -> u32 {
     hand_word(model, KIND)
 }
@@ -438,10 +483,10 @@ fn list_store(model: &[u32]) -> u32 {
 fn change_list(model: &mut [u32]) {
     let t = hand_word(model, TICKET);
     let v = hand_word(model, RECORD);
-    if kind_in_hand(model) == INSERT {
-        put_in(model, t, v);
-    } else {
+    if kind_in_hand(model) == DELETE {
         take_out(model, t);
+    } else {
+        put_in(model, t, v);
     }
 }
 

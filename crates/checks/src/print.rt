@@ -50,8 +50,34 @@ fn refusals(counts: &[u64]) {
 }
 
 fn writer(counts: &[u64]) {
-    line(b"inserts accepted", tally::get(counts, tally::ACCEPTED + 1));
-    line(b"inserts finished", tally::get(counts, tally::FINISHED + 1));
+    line(
+        b"inserts of a new key accepted",
+        tally::get(counts, tally::ACCEPTED + 1),
+    );
+    line(
+        b"inserts of a new key finished",
+        tally::get(counts, tally::FINISHED + 1),
+    );
+    line(
+        b"inserts of a held key accepted",
+        tally::get(counts, tally::ACCEPTED + 3),
+    );
+    line(
+        b"inserts of a held key finished",
+        tally::get(counts, tally::FINISHED + 3),
+    );
+    line(
+        b"inserts of a held key accepted in a full index",
+        tally::get(counts, tally::REPLACED_FULL),
+    );
+    line(
+        b"inserts of a held key accepted with the record that it has",
+        tally::get(counts, tally::REPLACED_SAME),
+    );
+    line(
+        b"inserts of a held key refused by 11",
+        tally::get(counts, tally::REPLACED_FEW),
+    );
     line(b"deletes accepted", tally::get(counts, tally::ACCEPTED + 2));
     line(b"deletes finished", tally::get(counts, tally::FINISHED + 2));
     line(
@@ -80,6 +106,10 @@ fn readers(counts: &[u64]) {
         b"answers that held at an earlier moment than the last",
         tally::get(counts, tally::OLDER),
     );
+    line(
+        b"found with a record that its key no longer has",
+        tally::get(counts, tally::FOUND_OUTDATED),
+    );
     line(b"given up", tally::get(counts, tally::GIVEN_UP));
 }
 
@@ -95,6 +125,10 @@ fn next_searches(counts: &[u64]) {
         tally::get(counts, tally::NEXT_OLDER),
     );
     line(
+        b"next with a record that its key no longer has",
+        tally::get(counts, tally::NEXT_OUTDATED),
+    );
+    line(
         b"searches given up",
         tally::get(counts, tally::NEXT_GIVEN_UP),
     );
@@ -102,11 +136,12 @@ fn next_searches(counts: &[u64]) {
 
 fn steps(counts: &[u64]) {
     line(b"store insert", tally::get(counts, tally::STEPS));
-    line(b"store unlink", tally::get(counts, tally::STEPS + 1));
-    line(b"store adopt", tally::get(counts, tally::STEPS + 2));
-    line(b"store promote", tally::get(counts, tally::STEPS + 3));
-    line(b"store publish", tally::get(counts, tally::STEPS + 4));
-    line(b"store detach", tally::get(counts, tally::STEPS + 5));
+    line(b"store replace", tally::get(counts, tally::STEPS + 1));
+    line(b"store unlink", tally::get(counts, tally::STEPS + 2));
+    line(b"store adopt", tally::get(counts, tally::STEPS + 3));
+    line(b"store promote", tally::get(counts, tally::STEPS + 4));
+    line(b"store publish", tally::get(counts, tally::STEPS + 5));
+    line(b"store detach", tally::get(counts, tally::STEPS + 6));
 }
 
 // Prints the counts of a rotation's step, by purpose (insert, red sibling, black sibling) and side.
@@ -145,7 +180,10 @@ fn comparisons(counts: &[u64]) {
         b"searches compared with their moments",
         tally::get(counts, tally::NEXT_SEARCHES),
     );
-    line(b"trees compared", tally::get(counts, tally::TREES));
+    line(
+        b"trees and standings compared",
+        tally::get(counts, tally::TREES),
+    );
     line(b"nodes compared", tally::get(counts, tally::NODES));
     line(
         b"keys held, free count and awaited slots compared",

@@ -4,7 +4,7 @@ const MOST: u64 = 18_446_744_073_709_551_615;
 pub const ROWS: usize = 128;
 
 // Set up, and then the other calls by the numbers of their kinds; refusals by their numbers; finished deletes by their form, finished and
-// accepted writes by their kind.
+// accepted writes by their kind in the model.
 pub const CALLS: usize = 0;
 
 pub const REFUSALS: usize = 10;
@@ -61,10 +61,22 @@ pub const DIFFERENCES: usize = 55;
 
 pub const NEXT_SEARCHES: usize = 56;
 
+// of inserts of held keys: accepted in a full index, accepted with the record that the key has, refused by 11
+pub const REPLACED_FULL: usize = 57;
+
+pub const REPLACED_SAME: usize = 58;
+
+pub const REPLACED_FEW: usize = 59;
+
 // stores made, by their step
 pub const STEPS: usize = 60;
 
 pub const ROTATIONS: usize = 68;
+
+// answers whose key has another record at the last moment, of lookups and of searches for the next ticket
+pub const FOUND_OUTDATED: usize = 100;
+
+pub const NEXT_OUTDATED: usize = 101;
 
 // Answers the count of a row.
 pub fn get(counts: &[u64], row: usize) -> u64 {

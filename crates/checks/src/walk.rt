@@ -13,6 +13,15 @@ const COLOUR: usize = 4;
 
 const STANDING: usize = 5;
 
+const HOLDERS: usize = 6;
+
+// standings
+const FREE: u32 = 0;
+
+const LINKED: u32 = 1;
+
+const RETIRED: u32 = 2;
+
 const PAIRS: usize = 2048;
 
 // a word of a node, 0 of no node
@@ -36,18 +45,50 @@ pub fn nodes(pool: &[u32]) -> u32 {
     }
 }
 
-// Answers how many nodes stand free.
-pub fn free_nodes(pool: &[u32]) -> u32 {
+// how many nodes have this standing
+fn count_standing(pool: &[u32], standing: u32) -> u32 {
     let capacity = nodes(pool);
-    let mut free: u32 = 0;
+    let mut count: u32 = 0;
     let mut n: u32 = 0;
     while n < capacity {
-        if word(pool, n + 1, STANDING) == 0 {
-            free += 1;
+        if word(pool, n + 1, STANDING) == standing {
+            count += 1;
         }
         n += 1;
     }
-    free
+    count
+}
+
+// Answers how many nodes stand free.
+pub fn free_nodes(pool: &[u32]) -> u32 {
+    count_standing(pool, FREE)
+}
+
+// Answers how many nodes stand linked.
+pub fn linked_nodes(pool: &[u32]) -> u32 {
+    count_standing(pool, LINKED)
+}
+
+// a retired node has holders, all of them among the reading slots; any other node has none
+fn holders_right(pool: &[u32], n: u32, reading: u32) -> bool {
+    let holders = word(pool, n, HOLDERS);
+    if word(pool, n, STANDING) == RETIRED {
+        return (holders != 0) & (holders & reading == holders);
+    }
+    holders == 0
+}
+
+// Answers whether just the retired nodes have holders, and only slots of these, a bit each.
+pub fn all_holders_right(pool: &[u32], reading: u32) -> bool {
+    let capacity = nodes(pool);
+    let mut n: u32 = 0;
+    while n < capacity {
+        if !holders_right(pool, n + 1, reading) {
+            return false;
+        }
+        n += 1;
+    }
+    true
 }
 
 // a node of each tree: the same key, record and colour

@@ -70,6 +70,11 @@ fn found(model: &mut [u32], counts: &mut [u64], s: u32, v: u32) {
     let right = !model::seeks(model, s) & model::was_listed(model, s, v);
     let now = model::is_listed(model, s, v);
     tally::one(counts, tally::FOUND);
+    writing::count_if(
+        counts,
+        tally::FOUND_OUTDATED,
+        model::is_outdated(model, s, v),
+    );
     end_lookup(model, counts, s, right, now);
 }
 
@@ -84,6 +89,7 @@ fn next(model: &mut [u32], counts: &mut [u64], s: u32, t: u32, v: u32) {
     let right = model::seeks(model, s) & model::was_next(model, s, t, v);
     let now = model::is_next(model, s, t, v);
     tally::one(counts, tally::NEXT);
+    writing::count_if(counts, tally::NEXT_OUTDATED, model::has_other(model, t, v));
     end_next(model, counts, s, right, now);
 }
 

@@ -42,14 +42,24 @@ fn delete_stores(form: u32) -> u32
     if form == 1 { 1 } else { 2 }
 }
 
-fn insert_foretold(nodes: u32, tree: &mut [u32], model: &[u32], key: u32, free: u32) -> u32 {
+// the kind of an insert: a held key's replaces its record
+fn insert_kind(tree: &mut [u32], key: u32) -> u32 {
+    if reference::find(tree, key) == reference::NIL {
+        model::INSERT
+    } else {
+        model::REPLACE
+    }
+}
+
+fn full(nodes: u32, tree: &[u32]) -> bool {
+    nodes <= reference::held(tree) % 4096 + 4
+}
+
+fn insert_foretold(nodes: u32, tree: &[u32], model: &[u32], kind: u32, free: u32) -> u32 {
     if model::kind_in_hand(model) != model::NONE {
         return 6;
     }
-    if reference::find(tree, key) != reference::NIL {
-        return 8;
-    }
-    if nodes <= reference::held(tree) % 4096 + 4 {
+    if (kind == model::INSERT) & full(nodes, tree) {
         return 10;
     }
     if free < 3 {
@@ -59,11 +69,27 @@ fn insert_foretold(nodes: u32, tree: &mut [u32], model: &[u32], key: u32, free: 
 }
 
 // takes an accepted insert in hand
-fn begin_insert(tree: &mut [u32], model: &mut [u32], counts: &mut [u64], call: Call) {
+fn begin_insert(tree: &mut [u32], model: &mut [u32], counts: &mut [u64], call: Call, kind: u32) {
     reference::insert(tree, call.key, call.record);
-    model::take_in_hand(model, model::INSERT, call.ticket, call.record);
+    model::take_in_hand(model, kind, call.ticket, call.record);
     model::plan_stores(model, 0, 1 + rotation_stores(tree));
-    tally::one(counts, tally::ACCEPTED + 1);
+    tally::one(counts, tally::ACCEPTED + (kind % 4) as usize);
+}
+
+// Counts in a row what is so.
+pub fn count_if(counts: &mut [u64], row: usize, so: bool) {
+    if so {
+        tally::one(counts, row);
+    }
+}
+
+// counts the answer to an insert of a held key, by what is special about it; `full`: one of a new key would be refused by 10
+fn count_replacement(model: &[u32], counts: &mut [u64], call: Call, full: bool, number: u32) {
+    let accepted = number == calls::ACCEPTED;
+    let same = model::list_record(model, call.ticket) == call.record;
+    count_if(counts, tally::REPLACED_FULL, accepted & full);
+    count_if(counts, tally::REPLACED_SAME, accepted & same);
+    count_if(counts, tally::REPLACED_FEW, number == 11);
 }
 
 // Compares the answer of an insert, and makes an accepted one in the reference tree. `free`: the free nodes before the call.
@@ -76,10 +102,14 @@ pub fn insert(
     free: u32,
     number: u32,
 ) {
-    let foretold = insert_foretold(nodes, tree, model, call.key, free);
+    let kind = insert_kind(tree, call.key);
+    let foretold = insert_foretold(nodes, tree, model, kind, free);
     answered(counts, number, foretold);
+    if kind == model::REPLACE {
+        count_replacement(model, counts, call, full(nodes, tree), number);
+    }
     if foretold == calls::ACCEPTED {
-        begin_insert(tree, model, counts, call);
+        begin_insert(tree, model, counts, call, kind);
     }
 }
 
@@ -163,18 +193,19 @@ fn rotation_row(step: usize, side: Side, purpose: Purpose) -> usize
 // Answers the row of a store.
 pub fn step_row(step: Step) -> usize {
     match step {
-        Step::Vacant => tally::STEPS + 6,
+        Step::Vacant => tally::STEPS + 7,
         Step::Insert(_, _) => tally::STEPS,
+        Step::Replace(_) => tally::STEPS + 1,
         Step::DiagLower(side, purpose) => rotation_row(0, side, purpose),
         Step::DiagRaise(side, purpose) => rotation_row(1, side, purpose),
         Step::ZigLowerA(side, purpose) => rotation_row(2, side, purpose),
         Step::ZigLowerC(side, purpose) => rotation_row(3, side, purpose),
         Step::ZigRaise(side, purpose) => rotation_row(4, side, purpose),
-        Step::Unlink => tally::STEPS + 1,
-        Step::Adopt => tally::STEPS + 2,
-        Step::Promote => tally::STEPS + 3,
-        Step::Publish(_) => tally::STEPS + 4,
-        Step::Detach(_) => tally::STEPS + 5,
+        Step::Unlink => tally::STEPS + 2,
+        Step::Adopt => tally::STEPS + 3,
+        Step::Promote => tally::STEPS + 4,
+        Step::Publish(_) => tally::STEPS + 5,
+        Step::Detach(_) => tally::STEPS + 6,
     }
 }
 
@@ -186,8 +217,15 @@ fn compare_trees(pool: &[u32], root: u32, tree: &[u32], counts: &mut [u64]) {
     tally::one(counts, tally::TREES);
 }
 
+// the standings of all nodes after a finished write: as many are linked as keys are held, and reading slots hold the retired ones
+fn compare_standings(pool: &[u32], tree: &[u32], model: &[u32], counts: &mut [u64]) {
+    let linked = walk::linked_nodes(pool) == reference::held(tree);
+    let holders = walk::all_holders_right(pool, model::reading_slots(model));
+    tally::same(counts, linked & holders);
+}
+
 fn finish_write(pool: &[u32], root: u32, tree: &[u32], model: &mut [u32], counts: &mut [u64]) {
-    let kind = model::kind_in_hand(model) % 3;
+    let kind = model::kind_in_hand(model) % 4;
     tally::one(counts, tally::FINISHED + kind as usize);
     tally::one(
         counts,
@@ -195,6 +233,7 @@ fn finish_write(pool: &[u32], root: u32, tree: &[u32], model: &mut [u32], counts
     );
     model::finish_write(model);
     compare_trees(pool, root, tree, counts);
+    compare_standings(pool, tree, model, counts);
 }
 
 // what a turn's answer brings about

@@ -1,10 +1,10 @@
 // Repeats one call, and puts the pool back before each, so that the instructions of a call can be counted.
 // Arguments: CALL SIZE MODE SLOT. Instructions of a call: those of a run in mode 1 less those in mode 0, by 1,000.
-// CALL: P set up, I insert, D delete, B begin, G C F A a reader's turn that answers go (G loads the root, C compares at a node), found,
-// absent, E give up, W a writer's turn that answers wait. Of a search for the next ticket: S begin, L R a turn that answers go at a greater
-// key (to the left, remembering it) and at a smaller one (to the right), N O a turn that answers next and none.
-// A small letter is a writer's turn, by its store: i insert under a black parent, j with colours above alone, k with a rotation to come;
-// d e diag lower, raise; x y z zig lower A, lower C, raise; u unlink, a adopt, r promote, p publish, t detach.
+// CALL: P set up, I insert of a new key, H of a held key, D delete, B begin, G C F A a reader's turn that answers go (G loads the root, C
+// compares at a node), found, absent, E give up, W a writer's turn that answers wait. Of a search for the next ticket: S begin, L R a turn that
+// answers go at a greater key (to the left, remembering it) and at a smaller one (to the right), N O a turn that answers next and none.
+// A small letter is a writer's turn, by its store: i insert under a black parent, j with colours above alone, k with a rotation to come; r replace;
+// d e diag lower, raise; x y z zig lower A, lower C, raise; u unlink, a adopt, m promote, p publish, t detach.
 // SIZE: s m l: N 8, 128, 1,023, with about N / 2 − 1 keys; v: N 128, a damaged tree with a path of 64 nodes.
 // MODE: 1,000 times, 0: the pool is put back, 1: and the call is made. SLOT: the slot of a reader's call, 0 or 1; in a writer's turn 1: slot 1
 // reads, so that a node let go is retired, 0: none does.
@@ -66,6 +66,7 @@ fn letter_of(step: Step) -> u8 {
     match step {
         Step::Vacant => NONE,
         Step::Insert(_, _) => b'i',
+        Step::Replace(_) => b'r',
         Step::DiagLower(_, _) => b'd',
         Step::DiagRaise(_, _) => b'e',
         Step::ZigLowerA(_, _) => b'x',
@@ -73,7 +74,7 @@ fn letter_of(step: Step) -> u8 {
         Step::ZigRaise(_, _) => b'z',
         Step::Unlink => b'u',
         Step::Adopt => b'a',
-        Step::Promote => b'r',
+        Step::Promote => b'm',
         Step::Publish(_) => b'p',
         Step::Detach(_) => b't',
     }
@@ -101,9 +102,14 @@ fn turn_of(pool: &[u32], store: Store, c: u32) -> u8 {
     if c == 1 { b'j' } else { b'k' }
 }
 
-// whether a call is an insert or its turn
+// whether a call is an insert of a new key or its turn
 fn grows(call: u8) -> bool {
     (call == b'I') | (call == b'i') | (call == b'j') | (call == b'k')
+}
+
+// whether a call is an insert of a held key or its turn
+fn replaces(call: u8) -> bool {
+    (call == b'H') | (call == b'r')
 }
 
 // in the damaged tree: a new key, the key above the lowest node, the root's, the lowest
@@ -111,7 +117,7 @@ fn deep_key(call: u8) -> u32 {
     if grows(call) {
         return 3;
     }
-    if (call == b'a') | (call == b'r') {
+    if (call == b'a') | (call == b'm') {
         return 74;
     }
     if (call == b'p') | (call == b't') | (call == b'W') {
@@ -127,7 +133,7 @@ fn call_key(call: u8, keys: u32, i: u32) -> u32
     if keys == DEEP {
         return deep_key(call);
     }
-    if call == b'D' {
+    if (call == b'D') | (call == b'H') {
         return i % keys % 1024 * 2 + 2;
     }
     i % keys % 1024 * 2 + 1
@@ -183,7 +189,11 @@ fn way_write(call: u8, keys: u32, held: u32, seed: u32) -> u8
     requires { ⌜ 2 ≤ keys ⌝ }
 {
     if keys == DEEP {
-        return if grows(call) { b'I' } else { b'D' };
+        return if grows(call) | replaces(call) {
+            b'I'
+        } else {
+            b'D'
+        };
     }
     if (wanted(call) == NONE) | (held < keys - 2) {
         return b'I';
@@ -247,6 +257,18 @@ fn once(pool: &mut [u32], reg: Register, call: u8, k: u32, s: u32) -> Register {
     reply.register
 }
 
+// The register after a call on the way. An insert of a held key is passed over, unless its turn is wanted: it has left the pool as it was.
+fn passed(before: Register, after: Register, call: u8) -> Register {
+    let hand = after.write;
+    let first = hand.stores[0];
+    let step = first.step;
+    if (letter_of(step) == b'r') & (call != b'r') {
+        before
+    } else {
+        after
+    }
+}
+
 // the begin on the way, or none
 fn way_begin(call: u8, s: u32) -> u8 {
     if seeks_next(call) {
@@ -296,7 +318,8 @@ fn walk(pool: &mut [u32], reg: Register, call: u8, keys: u32, s: u32) -> Registe
             return r;
         }
         let k = way_key(pool, act, r.root, call, keys, r.held, seed);
-        r = once(pool, r, act, k, s);
+        let after = once(pool, r, act, k, s);
+        r = passed(r, after, call);
         seed = seed % 65536 * 25189 + 13849;
         i += 1;
     }
@@ -350,7 +373,7 @@ fn counted(pool: &mut [u32], reg: Register, act: u8, k: u32, s: u32) -> u32 {
     if act == NONE {
         return reg.free;
     }
-    if act == b'I' {
+    if (act == b'I') | (act == b'H') {
         let reply = index::insert(pool, reg, k, k);
         return reply.register.free;
     }

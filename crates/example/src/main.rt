@@ -1,5 +1,5 @@
-// The least program that uses the ticket index: it sets one up, inserts, looks up, searches for the
-// next ticket, deletes, and handles a refusal.
+// The least program that uses the ticket index: it sets one up, inserts, replaces a record, looks up,
+// searches for the next ticket, deletes, and handles a refusal.
 use datatypes::Acceptance;
 use datatypes::ReaderAnswer;
 use datatypes::Register;
@@ -91,7 +91,7 @@ fn carry_out(pool: &mut [u32], asked: Reply) -> Register {
     reg
 }
 
-// Inserts a key with its record.
+// Inserts a key with its record; a held key gets the new record, in one turn.
 fn insert(pool: &mut [u32], reg: Register, key: u32, record: u32) -> Register {
     say(b"insert ", key);
     let asked = index::insert(pool, reg, key, record);
@@ -140,7 +140,7 @@ fn look_next(pool: &mut [u32], reg: Register, slot: u32, key: u32) -> Register {
     search(pool, asked, slot)
 }
 
-// Inserts two tickets, and a third whose key is held already.
+// Inserts two tickets; the third insert is of a held key and replaces its record.
 fn fill(pool: &mut [u32], reg: Register) -> Register {
     let mut r = insert(pool, reg, 1, 10);
     r = insert(pool, r, 2, 20);
@@ -153,10 +153,12 @@ fn read(pool: &mut [u32], reg: Register) -> Register {
     look_next(pool, r, 0, 1)
 }
 
-// Fills the index and reads it, deletes a key and reads it again.
+// Fills the index and reads it, deletes a key, twice, and reads the index again. The second delete
+// is refused: the key is no longer held.
 fn run(pool: &mut [u32], reg: Register) {
     let mut r = fill(pool, reg);
     r = read(pool, r);
+    r = delete(pool, r, 2);
     r = delete(pool, r, 2);
     read(pool, r);
 }

@@ -176,7 +176,7 @@ fn put_below(tree: &mut [u32], above: u32, n: u32, c: u32) {
 }
 
 // Transplant: c takes n's place below n's parent.
-fn replace(tree: &mut [u32], n: u32, c: u32) {
+fn transplant(tree: &mut [u32], n: u32, c: u32) {
     let above = parent(tree, n);
     put_below(tree, above, n, c);
     set_field(tree, PARENT, c, above);
@@ -186,7 +186,7 @@ fn replace(tree: &mut [u32], n: u32, c: u32) {
 fn rotate(tree: &mut [u32], capacity: u32, side: u32) {
     let risen = child(tree, capacity, other(side));
     let inner = child(tree, risen, side);
-    replace(tree, capacity, risen);
+    transplant(tree, capacity, risen);
     link(tree, risen, side, capacity);
     link(tree, capacity, other(side), inner);
 }
@@ -291,7 +291,7 @@ fn attach(tree: &mut [u32], above: u32, node: u32) {
 fn raise_parent(tree: &mut [u32], above: u32, grandparent: u32, side: u32) {
     let sister = child(tree, above, other(side));
     paint(tree, above, grandparent);
-    replace(tree, grandparent, above);
+    transplant(tree, grandparent, above);
     link(tree, above, other(side), grandparent);
     link(tree, grandparent, side, sister);
     count(tree, SINGLES);
@@ -303,7 +303,7 @@ fn raise_node(tree: &mut [u32], node: u32, grandparent: u32, side: u32) {
     let same = child(tree, node, side);
     let opposite = child(tree, node, other(side));
     paint(tree, node, grandparent);
-    replace(tree, grandparent, node);
+    transplant(tree, grandparent, node);
     link(tree, node, side, above);
     link(tree, node, other(side), grandparent);
     link(tree, above, other(side), same);
@@ -357,15 +357,25 @@ fn begin_write(tree: &mut [u32]) {
     set_field(tree, HEAD, DOUBLES, 0);
 }
 
-// Inserts a key that is not held.
-pub fn insert(tree: &mut [u32], k: u32, v: u32) {
-    begin_write(tree);
+// Add, of a key that is not held
+fn add(tree: &mut [u32], k: u32, v: u32) {
     let above = last_on_path(tree, k);
     let node = make_node(tree, k, v);
     attach(tree, above, node);
     add_fixup(tree, node);
     blacken_root(tree);
     count(tree, HELD);
+}
+
+// Inserts a key with its record; a held key's record is overwritten.
+pub fn insert(tree: &mut [u32], k: u32, v: u32) {
+    begin_write(tree);
+    let node = find(tree, k);
+    if node == NIL {
+        add(tree, k, v);
+    } else {
+        set_field(tree, RECORD, node, v);
+    }
 }
 
 // the leftmost node from a node on
@@ -467,7 +477,7 @@ fn delete_fixup(tree: &mut [u32], start: u32) {
 // RB-Delete of a node with at most one child, x
 fn splice_out(tree: &mut [u32], z: u32, x: u32) {
     let lost = colour(tree, z);
-    replace(tree, z, x);
+    transplant(tree, z, x);
     free_node(tree, z);
     if lost == BLACK {
         delete_fixup(tree, x);
@@ -479,7 +489,7 @@ fn leave_place(tree: &mut [u32], y: u32, x: u32, below: u32) {
     if y == below {
         set_field(tree, PARENT, x, y);
     } else {
-        replace(tree, y, x);
+        transplant(tree, y, x);
         link(tree, y, R, below);
     }
 }
@@ -488,7 +498,7 @@ fn leave_place(tree: &mut [u32], y: u32, x: u32, below: u32) {
 fn take_place(tree: &mut [u32], y: u32, z: u32) {
     let below = left(tree, z);
     let c = colour(tree, z);
-    replace(tree, z, y);
+    transplant(tree, z, y);
     link(tree, y, L, below);
     set_field(tree, COLOUR, y, c);
 }

@@ -2,18 +2,18 @@ use native.Mathlib.Omega.{arith}
 use mathlib.Core.Logic.{⊎-elim}
 use borrow.Author.Needs.{needs}
 use Prim.Native.Nat.{_-_, _≤_}
-use Rattle.checks.proofs.walk.free_nodes.Statement.{statement}
-use Rattle.checks.proofs.walk.free_nodes.Tie as tie
-use Rattle.checks.proofs.walk.free_nodes.Reads as reads
-use Rattle.checks.proofs.walk.free_nodes.Lts as lts
+use Rattle.checks.proofs.walk.count_standing.Statement.{statement}
+use Rattle.checks.proofs.walk.count_standing.Tie as tie
+use Rattle.checks.proofs.walk.count_standing.Reads as reads
+use Rattle.checks.proofs.walk.count_standing.Lts as lts
 use Rattle.checks.proofs.walk.nodes.Reads as nodes-reads
 use Rattle.checks.proofs.walk.word.Reads as word-reads
 
 abbrev Inv-loop : tie.InvT-loop
-Inv-loop pool capacity free₀ n₀ free n = free ≤ n
+Inv-loop pool standing capacity count₀ n₀ count n = count ≤ n
 
 abbrev μ-loop : tie.MeasureT-loop
-μ-loop pool capacity free₀ n₀ free n = capacity - n
+μ-loop pool standing capacity count₀ n₀ count n = capacity - n
 
 nodes-requires : tie.Need-nodes-requires Inv-loop μ-loop
 nodes-requires c κs = search needs
@@ -27,8 +27,8 @@ add-word c = search needs
 word-requires : tie.Need-word-requires Inv-loop μ-loop
 word-requires c κs = search needs
 
-add-free : tie.Need-add-free Inv-loop μ-loop
-add-free c = search needs
+add-count : tie.Need-add-count Inv-loop μ-loop
+add-count c = search needs
 
 add-n : tie.Need-add-n Inv-loop μ-loop
 add-n c = search needs
@@ -42,8 +42,8 @@ loop-again c = ⊎-elim (λ w. omega arith) (λ w. omega arith) (c .if1 .came)
 returns : tie.Need-returns Inv-loop μ-loop
 returns c = search needs
 
-pub free-nodes-spec : {M : Type 1} → statement M
-free-nodes-spec =
+pub count-standing-spec : {M : Type 1} → statement M
+count-standing-spec =
     tie.close
     (tie.spec
     Inv-loop
@@ -52,7 +52,7 @@ free-nodes-spec =
     loop-holds
     add-word
     word-requires
-    add-free
+    add-count
     add-n
     loop-less
     loop-again

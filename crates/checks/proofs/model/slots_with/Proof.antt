@@ -1,16 +1,16 @@
 use borrow.Author.Needs.{needs}
 use Prim.Native.Nat.{_-_, _≤_}
-use Rattle.checks.proofs.model.awaited.Statement.{statement}
-use Rattle.checks.proofs.model.awaited.Tie as tie
-use Rattle.checks.proofs.model.awaited.Reads as reads
-use Rattle.checks.proofs.model.awaited.Lts as lts
+use Rattle.checks.proofs.model.slots_with.Statement.{statement}
+use Rattle.checks.proofs.model.slots_with.Tie as tie
+use Rattle.checks.proofs.model.slots_with.Reads as reads
+use Rattle.checks.proofs.model.slots_with.Lts as lts
 use Rattle.checks.proofs.model.slot_word.Reads as slot-word-reads
 
 abbrev Inv-loop : tie.InvT-loop
-Inv-loop model bits₀ s₀ bits s = 0 ≤ 1
+Inv-loop model f bits₀ s₀ bits s = 0 ≤ 1
 
 abbrev μ-loop : tie.MeasureT-loop
-μ-loop model bits₀ s₀ bits s = 8 - s
+μ-loop model f bits₀ s₀ bits s = 8 - s
 
 loop-holds : tie.Need-loop-holds Inv-loop μ-loop
 loop-holds c = search needs
@@ -39,8 +39,8 @@ loop-again c = search needs
 returns : tie.Need-returns Inv-loop μ-loop
 returns c = search needs
 
-pub awaited-spec : {M : Type 1} → statement M
-awaited-spec =
+pub slots-with-spec : {M : Type 1} → statement M
+slots-with-spec =
     tie.close
     (tie.spec
     Inv-loop
