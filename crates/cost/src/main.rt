@@ -373,7 +373,7 @@ fn counted(pool: &mut [u32], reg: Register, act: u8, k: u32, s: u32) -> u32 {
     if act == NONE {
         return reg.free;
     }
-    if (act == b'I') | (act == b'H') {
+    if act == b'I' {
         let reply = index::insert(pool, reg, k, k);
         return reply.register.free;
     }
@@ -403,6 +403,14 @@ fn counted(pool: &mut [u32], reg: Register, act: u8, k: u32, s: u32) -> u32 {
     }
     let reply = index::writer_turn(pool, reg);
     reply.register.free
+}
+
+// the call that a mode makes: of H an insert, its key being a held one
+fn act_of(call: u8, mode: u8) -> u8 {
+    if mode != b'1' {
+        return NONE;
+    }
+    if call == b'H' { b'I' } else { call }
 }
 
 // the repeats, each with the pool as it was kept; act is the call, or NONE
@@ -442,7 +450,7 @@ fn run(pool: &mut [u32], kept: &mut [u32], call: u8, keys: u32, mode: u8, s: u32
         kept,
         r,
         call,
-        if mode == b'1' { call } else { NONE },
+        act_of(call, mode),
         keys,
         s,
     )
