@@ -50,7 +50,9 @@ pub fn replace_at(pool: &[u32], reg: Register, k: u32, v: u32, l: Link) -> Reply
     if free < numbers::FREE_FOR_INSERT {
         return replies::refused(11, reg);
     }
-    accepted(reg, plans::replace_plan(v, l))
+    let plan = plans::replace_plan(v, l);
+    let write = plan.write;
+    accepted(reg, write)
 }
 
 // Tests and plans a delete of node n, which the link l holds, after the tests of the search.

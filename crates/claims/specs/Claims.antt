@@ -25,12 +25,12 @@ use Rattle.spec.specs.Pool.{word, child, nodes, keyWord, recordAt, standingFree
 use Rattle.spec.specs.Register.{State, state, noReader, begunReader, nodeAt, hasSlot, isRoot}
 use Rattle.spec.specs.Calls.{Answer, go, absent, found, next, refused, Call, inserting, call, writeInHand}
 use Rattle.spec.specs.PlainList.{recordFor, acceptedWrites}
-use Rattle.promise.specs.Run.{justSetUp, Reads, callAt, indexAfter, plainAfter, ticketsAfter, Turns, Reading, NextSearch}
+use Rattle.promise.specs.Run.{justSetUp, Reads, callAt, indexAfter, plainAfter, ticketsAfter, Turns, Reading, Lookup, NextSearch}
 use Rattle.promise.specs.Demands.{AtOneMoment, turnOf, Going, ends, goes, answerOf, Leads, arrived, onward, Reaches, Stands, FreeRight}
 use Rattle.promise.specs.Demands.{standingAt, StoresOne, PromiseFrom}
 use Rattle.readers.specs.Reach.{leads-there}
 use Rattle.theorem.specs.Theorem.{promise}
-use Rattle.claims.specs.Computed.{start, lookup, rotation, before, threeKeys, nine, overtaken, tenIsNext, isBegin, computed}
+use Rattle.claims.specs.Computed.{start, lookup, rotation, before, threeKeys, nine, overtaken, replacing, has, tenIsNext, isBegin, computed}
 
 promised : (cs : List Call) → PromiseFrom start cs
 promised = promise 8 (omega arith) (omega arith)
@@ -202,6 +202,10 @@ module _ (N : ℕ) (low : leastNodes ≤ N) (high : N ≤ mostNodes) (cs : List 
   pub size-right : (j : ℕ) → nodes (indexAfter (justSetUp N) cs j .pool) ≡ N
   size-right j = promise N low high cs .demand2 .size j
 
+contradicts : (b : Bool) → b ≡ true → not b ≡ true → ⊥
+contradicts true e f = false≢true f
+contradicts false e f = false≢true e
+
 -- 02, C-11: 'Here a single moment can't be promised.' `whenNext` with one moment for the ticket and for the keys before it: in `overtaken` the search
 -- answers 10, and at no moment of it the plain list has 10 and not 5.
 pub single-moment : ¬ ((cs : List Call) (s g i j k v : ℕ) → NextSearch nine cs s g i j → Turns nine cs s j (next k v)
@@ -216,7 +220,25 @@ single-moment h =
     let late : ¬ (r .2 < 10) = λ e. contradicts (isBegin (callAt overtaken (r .2))) (ap isBegin (r .3 .begins .0)) (all-in _ 0 10 (computed .begins10) (r .2) (omega arith) e) in
     let next-then : tenIsNext (z .0) ≡ true = rw (z .3, z .4 5 (omega arith) (omega arith)) in
     contradicts (tenIsNext (z .0)) next-then (all-in _ 11 20 (computed .never) (z .0) (let a = z .1 in omega (arith, late)) (let a = z .2 in omega arith))
+
+-- 02, C-13: 'a camera may get either record while both were current during its lookup.' `whenFound` with the record of the last moment: in
+-- `replacing` the key is held at every moment of the lookup, which answers the record that it had at first.
+pub latest-record : ¬ ((cs : List Call) (s k i j v : ℕ) → Lookup start cs s k i j → Turns start cs s j (found v)
+    → ((t : ℕ) → i < t → t ≤ j + 1 → recordFor k (ticketsAfter start cs t) ≢ none) → recordFor k (ticketsAfter start cs (j + 1)) ≡ some v)
+latest-record h =
+    let p = promised replacing .demand3 .lookups in
+    let r = p .inLookup 0 6 (omega arith) (computed .readsThen) in
+    let is = p .reads (r .0) 0 (r .1) (r .2) 6 (r .3) in
+    let lookup : Lookup start replacing 0 3 (r .2) 6 =
+    subst (λ k. Lookup start replacing 0 k (r .2) 6) (sym (is .2) ∙ computed .keyThen)
+    (subst (λ κ. Reading start replacing κ 0 (r .1) (r .2) 6) (sym (is .3) ∙ computed .kindThen) (r .3)) in
+    let late : ¬ (r .2 < 2) = λ e. contradicts (isBegin (callAt replacing (r .2))) (ap isBegin (r .3 .begins .0)) (all-in _ 0 2 (computed .begins2) (r .2) (omega arith) e) in
+    let held : (t : ℕ) → r .2 < t → t ≤ 7 → recordFor 3 (ticketsAfter start replacing t) ≢ none =
+    λ t a b e. false≢true (sym (ap has e) ∙ all-in _ 3 8 (computed .listedAll) t (omega (arith, late)) (omega arith)) in
+    let last = h replacing 0 3 (r .2) 6 30 lookup (refl, computed .answersThen) held in
+    let same = ap value (sym last ∙ computed .listedLast) in
+    omega arith
   where
-    contradicts : (b : Bool) → b ≡ true → not b ≡ true → ⊥
-    contradicts true e f = false≢true f
-    contradicts false e f = false≢true e
+    value : Option ℕ → ℕ
+    value none = 0
+    value (some v) = v

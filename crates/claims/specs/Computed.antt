@@ -1,4 +1,4 @@
--- Two runs on a pool of eight nodes just set up, one on a pool of nine, and what they compute to. The exclusions (Claims) go by these facts.
+-- Three runs on a pool of eight nodes just set up, one on a pool of nine, and what they compute to. The exclusions (Claims) go by these facts.
 use Prim.Native.Nat.{ℕ}
 use mathlib.Core.Path.{_≡_, refl}
 use mathlib.Core.Bool.{Bool, true, false, not, _&&_}
@@ -10,7 +10,7 @@ use Rattle.sequential.specs.Tree.{red, black, Tree, leaf, node, rel}
 use Rattle.sequential.specs.Delete.{changedBy}
 use Rattle.base.specs.Walk.{allFrom, allIn, foldFrom, foldIn}
 use Rattle.spec.specs.Numbers.{slots}
-use Rattle.spec.specs.Pool.{child, standingRetired, keyWord}
+use Rattle.spec.specs.Pool.{child, standingRetired, keyWord, recordAt}
 use Rattle.spec.specs.Pool.{word, setWord, nodeInRange, poolInRange, lengthRight, freshNodes, freshPool}
 use Rattle.spec.specs.Register.{State, noReader, begunReader, readerOf, withRoot, withQueue, withHeld, withReader, withAwaited, withWrite, nodeAt, setLink}
 use Rattle.spec.specs.Register.{putSlot, dropSlot, readingSlots, storeInRange, registerInRange, freshRegister, fresh, writeOf, lessFirst}
@@ -18,10 +18,10 @@ use Rattle.spec.specs.Free.{takeFree, fillNode, takeNode, freeNode, retire, rel
 use Rattle.spec.specs.Search.{seek, trail, leftmost}
 use Rattle.spec.specs.Plan.{insertFixup, fixupAfterInsert, paintInsertFixup, deleteFixup, fixupAfterRemoval, paintDeleteLevels, paintDeleteFixup}
 use Rattle.spec.specs.Plan.{insertPlan, unlinkPlan, deletePlan}
-use Rattle.spec.specs.Turn.{insertStore, unlinkStore, adoptStore, promoteStore, stepFinds, stepMade}
+use Rattle.spec.specs.Turn.{insertStore, replaceStore, unlinkStore, adoptStore, promoteStore, stepFinds, stepMade}
 use Rattle.spec.specs.Calls.{insert, delete, stored, writerTurn, begin, readerStep, readerTurn}
 use Rattle.datatypes.specs.declared.Kind.the-variants as kind
-use Rattle.spec.specs.Calls.{ok, absent, next, Call, inserting, deleting, writing, beginning, turning, givingUp, call, reading}
+use Rattle.spec.specs.Calls.{ok, absent, found, next, Call, inserting, deleting, writing, beginning, turning, givingUp, call, reading}
 use Rattle.spec.specs.PlainList.{recordFor, acceptedWrites}
 use Rattle.promise.specs.Run.{Start, justSetUp, callAt, after, indexAfter, plainAfter, ticketsAfter}
 use Rattle.promise.specs.Demands.{turnOf, origin, standingAt}
@@ -55,10 +55,15 @@ overtaken =
     ∷ beginning kind.Next 0 3 ∷ turning 0 ∷ turning 0
     ∷ deleting 10 ∷ writing ∷ writing ∷ deleting 5 ∷ writing ∷ turning 0 ∷ []
 
--- at moment t the plain list has 10 and not 5: 10 is the next ticket after 3
-abbrev has : Option ℕ → Bool
+-- 3 is put in; slot 0 looks it up and comes to its node; 3 gets another record; slot 0's last turn, call 6, answers the old one
+abbrev pub replacing : List Call
+replacing = inserting 3 30 ∷ writing ∷ beginning kind.Lookup 0 3 ∷ turning 0 ∷ inserting 3 31 ∷ writing ∷ turning 0 ∷ []
+
+abbrev pub has : Option ℕ → Bool
 has none = false
 has (some v) = true
+
+-- at moment t the plain list has 10 and not 5: 10 is the next ticket after 3
 
 abbrev pub tenIsNext : ℕ → Bool
 tenIsNext t = has (recordFor 10 (ticketsAfter nine overtaken t)) && not (has (recordFor 5 (ticketsAfter nine overtaken t)))
@@ -104,12 +109,24 @@ pub record Computed : Type 0 where
   pub answers18 : call (indexAfter nine overtaken 18) (turning 0) .answer ≡ next 10 100
   pub begins10 : allIn (λ i. not (isBegin (callAt overtaken i))) 0 10 ≡ true
   pub never : allIn (λ t. not (tenIsNext t)) 11 20 ≡ true
+  -- after the replacement one key is held; the old node is retired and keeps its record
+  pub heldThen : indexAfter start replacing 6 .register .held ≡ 1
+  pub standsThen : standingAt (indexAfter start replacing 6) 1 ≡ standingRetired
+  pub recordThen : recordAt (indexAfter start replacing 6 .pool) 1 ≡ 30
+  -- slot 0 looks 3 up when call 6 comes, begun by no call before call 2; it answers 30; 3 is held at every moment from then on, in the end with 31
+  pub readsThen : reading (indexAfter start replacing 6) 0 ≡ true
+  pub kindThen : readerOf (indexAfter start replacing 6 .register) 0 .kind ≡ kind.Lookup
+  pub keyThen : readerOf (indexAfter start replacing 6 .register) 0 .key ≡ 3
+  pub answersThen : call (indexAfter start replacing 6) (turning 0) .answer ≡ found 30
+  pub begins2 : allIn (λ i. not (isBegin (callAt replacing i))) 0 2 ≡ true
+  pub listedAll : allIn (λ t. has (recordFor 3 (ticketsAfter start replacing t))) 3 8 ≡ true
+  pub listedLast : recordFor 3 (ticketsAfter start replacing 7) ≡ some 31
 
 pub computed : Computed
 unfolding after rel allFrom allIn foldFrom foldIn word setWord nodeInRange poolInRange lengthRight freshNodes freshPool withRoot withQueue withHeld
     withReader withAwaited withWrite nodeAt setLink putSlot dropSlot readingSlots storeInRange registerInRange freshRegister fresh writeOf lessFirst takeFree fillNode
     takeNode freeNode retire release endReading seek trail insertFixup fixupAfterInsert paintInsertFixup deleteFixup fixupAfterRemoval paintDeleteLevels paintDeleteFixup
-    insertPlan unlinkPlan deletePlan leftmost unlinkStore adoptStore promoteStore insertStore stepFinds stepMade insert delete stored writerTurn begin readerStep readerTurn
+    insertPlan unlinkPlan deletePlan leftmost unlinkStore adoptStore promoteStore insertStore replaceStore stepFinds stepMade insert delete stored writerTurn begin readerStep readerTurn
 computed = record {
   accepted = refl;
   readers1 = refl;
@@ -137,4 +154,14 @@ computed = record {
   answers18 = refl;
   begins10 = refl;
   never = refl;
+  heldThen = refl;
+  standsThen = refl;
+  recordThen = refl;
+  readsThen = refl;
+  kindThen = refl;
+  keyThen = refl;
+  answersThen = refl;
+  begins2 = refl;
+  listedAll = refl;
+  listedLast = refl;
 }

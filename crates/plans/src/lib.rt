@@ -130,10 +130,11 @@ pub fn insert_plan(pool: &[u32], reg: Register, k: u32, v: u32, l: Link) -> Plan
 }
 
 // Plans the insert of a held key, whose node the link l holds, with its record v.
-pub fn replace_plan(v: u32, l: Link) -> Write
-    ensures { λ r. ⌜ r ≡ writeOf (replacePlan v l .stores) ⌝ }
+pub fn replace_plan(v: u32, l: Link) -> Planned
+    ensures { λ r. ⌜ r .possible ≡ replacePlan v l .possible ⌝ }
+    ensures { λ r. ⌜ r .write ≡ writeOf (replacePlan v l .stores) ⌝ }
 {
-    one_store(l, Step::Replace(v))
+    plan(one_store(l, Step::Replace(v)), Ending::Balanced)
 }
 
 // Plans the delete of node b, which has at most one child, at the end of a path of that depth.

@@ -31,11 +31,11 @@ accepted-requires c κs = search needs
 
 returns-2 : tie.Need-returns-2
 returns-2 c =
-    let c4 = c .before .before .before .before in
-    let a = c4 .args in
+    let c5 = c .before .before .before .before .before in
+    let a = c5 .args in
     let st = state (a .pool .now) (a .reg) in
-    let e = replace-goes st (a .k) (a .v) (c4 .pre .0) (c4 .pre .1) (a .l) (c4 .pre .2 .0) (c4 .pre .2 .1) (le-ltb _ _ (c .before .before .if1 .left)) in
-    (c .accepted .ensures .0 ∙ sym (ap (λ (o : Outcome). o .answer) e), rw (c .accepted .ensures .1, c .before .replace-plan .ensures) (sym (ap (λ (o : Outcome). o .after) e)))
+    let e = replace-goes st (a .k) (a .v) (c5 .pre .0) (c5 .pre .1) (a .l) (c5 .pre .2 .0) (c5 .pre .2 .1) (le-ltb _ _ (c .before .before .before .if1 .left)) in
+    (c .accepted .ensures .0 ∙ sym (ap (λ (o : Outcome). o .answer) e), rw (c .accepted .ensures .1, c .before .before .replace-plan .ensures .1) (sym (ap (λ (o : Outcome). o .after) e)))
 
 pub replace-at-spec : {M : Type 1} → statement M
 replace-at-spec =
