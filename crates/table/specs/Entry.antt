@@ -13,8 +13,8 @@ use Rattle.datatypes.specs.declared.Link.the-variants.{Root, Left, Right}
 use Rattle.datatypes.specs.declared.Purpose.{Purpose}
 use Rattle.datatypes.specs.declared.Purpose.the-variants.{ForInsert, RedSibling, BlackSibling}
 use Rattle.datatypes.specs.declared.Step.{Step}
-use Rattle.datatypes.specs.declared.Step.the-variants.{Vacant, Insert, DiagLower, DiagRaise, ZigLowerA, ZigLowerC, ZigRaise, Unlink, Adopt, Promote}
-use Rattle.datatypes.specs.declared.Step.the-variants.{Publish, Detach}
+use Rattle.datatypes.specs.declared.Step.the-variants.{Vacant, Insert, Replace, DiagLower, DiagRaise, ZigLowerA, ZigLowerC, ZigRaise, Unlink, Adopt}
+use Rattle.datatypes.specs.declared.Step.the-variants.{Promote, Publish, Detach}
 use Rattle.datatypes.specs.declared.Store.{Store}
 use Rattle.datatypes.specs.declared.Kind.{Kind}
 use Rattle.datatypes.specs.declared.Kind.the-variants as kind
@@ -116,6 +116,7 @@ stepNumbers Adopt = 8 ∷ 0 ∷ 0 ∷ []
 stepNumbers Promote = 9 ∷ 0 ∷ 0 ∷ []
 stepNumbers (Publish n) = 10 ∷ n ∷ 0 ∷ []
 stepNumbers (Detach k) = 11 ∷ k ∷ 0 ∷ []
+stepNumbers (Replace v) = 12 ∷ v ∷ 0 ∷ []
 
 abbrev storesNumbers : List Store → List ℕ
 storesNumbers [] = []

@@ -117,9 +117,13 @@ plainLists =
     ∷ writing gave done Root 1
     ∷ lists (3 is 30 ∷ 4 is 40 ∷ [])
     ∷ writing gave refused 7
-    ∷ inserting 4 41 gave refused 8
+    ∷ inserting 4 41 gave refused 11
     ∷ writing gave refused 7
     ∷ lists (3 is 30 ∷ 4 is 40 ∷ [])
+    ∷ inserting 4 41 gave ok
+    ∷ lists (3 is 30 ∷ 4 is 40 ∷ [])
+    ∷ writing gave done Root 1
+    ∷ lists (3 is 30 ∷ 4 is 41 ∷ [])
     ∷ [])
     ∷ entry "plain list: what is neither wait nor a refusal is heard as carried out, the next ticket too"
     (inserting 3 30 gave ok ∷ writing gave next 1 10 ∷ lists (3 is 30 ∷ []) ∷ [])
