@@ -145,6 +145,46 @@ plainLists =
     ∷ writing gave done Root 1
     ∷ lists (1 is 10 ∷ 2 is 20 ∷ 3 is 30 ∷ 5 is 50 ∷ [])
     ∷ [])
+    ∷ entry "plain list: an insert of a held key replaces its record at its first store and not before"
+    (insertOf 2 20
+    ++ insertOf 1 10
+    ++ insertOf 3 30
+    ++ inserting 2 21 gave ok
+    ∷ lists (1 is 10 ∷ 2 is 20 ∷ 3 is 30 ∷ [])
+    ∷ writing gave wait
+    ∷ writing gave refused 12
+    ∷ inserting 2 22 gave refused 6
+    ∷ lists (1 is 10 ∷ 2 is 20 ∷ 3 is 30 ∷ [])
+    ∷ writing gave done Root 1
+    ∷ lists (1 is 10 ∷ 2 is 21 ∷ 3 is 30 ∷ [])
+    ∷ inserting 3 30 gave ok
+    ∷ writing gave done Root 1
+    ∷ lists (1 is 10 ∷ 2 is 21 ∷ 3 is 30 ∷ [])
+    ∷ [])
+    ∷ entry "plain list: after it a delete's list store is where it would have been: the second"
+    (insertOf 2 20
+    ++ insertOf 1 10
+    ++ insertOf 3 30
+    ++ insertOf 2 21
+    ++ insertOf 3 31
+    ++ deleting 2 gave ok
+    ∷ writing gave stored
+    ∷ lists (1 is 10 ∷ 2 is 21 ∷ 3 is 31 ∷ [])
+    ∷ writing gave done Root 1
+    ∷ lists (1 is 10 ∷ 3 is 31 ∷ [])
+    ∷ [])
+    ∷ entry "plain list: after it a delete's list store is where it would have been: the first"
+    (insertOf 3 30
+    ++ insertOf 1 10
+    ++ insertOf 2 20
+    ++ insertOf 4 40
+    ++ insertOf 5 50
+    ++ insertOf 3 31
+    ++ insertOf 4 41
+    ++ deleting 2 gave ok
+    ∷ writing gave stored
+    ∷ lists (1 is 10 ∷ 3 is 31 ∷ 4 is 41 ∷ 5 is 50 ∷ [])
+    ∷ [])
     ∷ []
 
 pub lists-pass : allListed plainLists ≡ true

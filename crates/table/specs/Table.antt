@@ -19,6 +19,8 @@ use Rattle.table.specs.NextTickets.{nextTickets}
 use Rattle.table.specs.Turns.{turns}
 use Rattle.table.specs.Inserts.{inserts}
 use Rattle.table.specs.Deletes.{deletes}
+use Rattle.table.specs.Replacements.{replacements}
+use Rattle.table.specs.Overwrites.{Overwrites, overwrites}
 use Rattle.table.specs.Refusals.{refusals}
 use Rattle.table.specs.Paths.{paths}
 use Rattle.table.specs.Damaged.{damaged}
@@ -32,6 +34,8 @@ pub record TablesPass : Type 0 where
   pub turns : allPass turns ≡ true
   pub inserts : allPass inserts ≡ true
   pub deletes : allPass deletes ≡ true
+  pub replacements : allPass replacements ≡ true
+  pub overwrites : Overwrites
   pub refusals : allPass refusals ≡ true
   pub paths : allPass paths ≡ true
   pub damaged : allPass damaged ≡ true
@@ -53,6 +57,8 @@ tables-pass =
       turns = refl;
       inserts = refl;
       deletes = refl;
+      replacements = refl;
+      overwrites = overwrites;
       refusals = refl;
       paths = refl;
       damaged = refl;
