@@ -250,6 +250,9 @@ replacements =
     (I 20 201 ⇒ refused 11 ∷ [])
     ∷ entry "replace: keys held N − 4 and two free nodes: 11 for a held key, 10 for another" (full but (free:= 2 ∷ []))
     (I 20 201 ⇒ refused 11 ∷ I 25 250 ⇒ refused 10 ∷ [])
+    ∷ entry "replace: keys held N − 4 and just three free nodes" (full but (free:= 3 ∷ []))
+    (I 25 250 ⇒ refused 10 ∷ D 20 ⇒ refused 11 ∷ I 20 201 ⇒ ok
+    ∷ leaves (hand (Replace 201 on Left 3) ∷ []) ∷ [])
     ∷ entry "replace: beside a reader until 11; its end frees the old nodes" three
     (B 0 5 ⇒ ok ∷ I 10 101 ⇒ ok ∷ W ⇒ done (Left 2) 4 ∷ I 20 201 ⇒ ok ∷ W ⇒ done Root 5 ∷ I 30 301 ⇒ ok ∷ W ⇒ done (Right 5) 6 ∷ I 10 102 ⇒ refused 11
     ∷ stands (picture (root 5 held 3 awaited 0 stores 0)
@@ -281,6 +284,9 @@ replacements =
     ∷ entry "replace: below a red root: no colour changes, and no grandparent is asked for" (five but (colour of 2 := 1 ∷ []))
     (I 60 600 ⇒ refused 12 ∷ I 50 501 ⇒ ok ∷ W ⇒ done (Right 4) 6
     ∷ leaves (right of 4 := 6 ∷ standing of 5 := 0 ∷ fills (row 6 50 501 1 0 0) ∷ nextFree of 12 := 5 ∷ first:= 7 ∷ last:= 5 ∷ []) ∷ [])
+    ∷ entry "replace: directly below a red root, where an insert gives 12" (tree 8 (black redLeaf nil) but (colour of 2 := 1 ∷ []))
+    (I 25 250 ⇒ refused 12 ∷ I 10 101 ⇒ ok ∷ W ⇒ done (Left 2) 3
+    ∷ leaves (standing of 1 := 0 ∷ left of 2 := 3 ∷ fills (row 3 10 101 1 0 0) ∷ nextFree of 8 := 1 ∷ first:= 4 ∷ last:= 1 ∷ []) ∷ [])
     ∷ entry "replace: a red node below a red node: no fix-up" (five but (colour of 4 := 1 ∷ []))
     (I 30 301 ⇒ ok ∷ W ⇒ done (Left 4) 6
     ∷ leaves (standing of 3 := 0 ∷ left of 4 := 6 ∷ fills (row 6 30 301 1 0 0) ∷ nextFree of 12 := 3 ∷ first:= 7 ∷ last:= 3 ∷ []) ∷ [])
@@ -328,6 +334,9 @@ replacements =
     ∷ entry "replace: the last free node is taken, and the old node begins the queue" (three but (nextFree of 4 := 0 ∷ []))
     (I 20 201 ⇒ ok ∷ W ⇒ done Root 4
     ∷ leaves (standing of 2 := 0 ∷ fills (row 4 20 201 0 1 3) ∷ root:= 4 ∷ first:= 2 ∷ last:= 2 ∷ []) ∷ [])
+    ∷ entry "replace: the queue's last 0: the node is taken, and the old node is the last" (three but (last:= 0 ∷ []))
+    (I 20 201 ⇒ ok ∷ W ⇒ done Root 4
+    ∷ leaves (standing of 2 := 0 ∷ fills (row 4 20 201 0 1 3) ∷ root:= 4 ∷ first:= 5 ∷ last:= 2 ∷ []) ∷ [])
     ∷ entry "replace: the free count at 0: taken, then freed" (three but (hand (Replace 201 on Root) ∷ free:= 0 ∷ []))
     (W ⇒ done Root 4
     ∷ leaves (standing of 2 := 0 ∷ fills (row 4 20 201 0 1 3) ∷ nextFree of 8 := 2 ∷ root:= 4 ∷ first:= 5 ∷ last:= 2 ∷ free:= 1 ∷ atRest ∷ []) ∷ [])
