@@ -13,8 +13,8 @@ use Rattle.datatypes.specs.declared.Link.the-variants.{Root, Left, Right}
 use Rattle.datatypes.specs.declared.Purpose.{Purpose}
 use Rattle.datatypes.specs.declared.Purpose.the-variants.{ForInsert, RedSibling, BlackSibling}
 use Rattle.datatypes.specs.declared.Step.{Step}
-use Rattle.datatypes.specs.declared.Step.the-variants.{Vacant, Insert, DiagLower, DiagRaise, ZigLowerA, ZigLowerC, ZigRaise, Unlink, Adopt, Promote}
-use Rattle.datatypes.specs.declared.Step.the-variants.{Publish, Detach}
+use Rattle.datatypes.specs.declared.Step.the-variants.{Vacant, Insert, Replace, DiagLower, DiagRaise, ZigLowerA, ZigLowerC, ZigRaise, Unlink, Adopt}
+use Rattle.datatypes.specs.declared.Step.the-variants.{Promote, Publish, Detach}
 use Rattle.datatypes.specs.declared.Store.{Store}
 use Rattle.datatypes.specs.declared.Kind.{Kind}
 use Rattle.datatypes.specs.declared.Kind.the-variants as kind
@@ -24,7 +24,7 @@ use Rattle.spec.specs.Register.{State}
 use Rattle.spec.specs.Turn.{Profile, profile, countedBy}
 use Rattle.spec.specs.Calls.{Answer, ok, go, absent, wait, found, next, more, done, refused, Outcome, Call, inserting, deleting, writing}
 use Rattle.spec.specs.Calls.{beginning, turning, givingUp, call, setUp}
-use Rattle.table.specs.Picture.{Row, Picture, Change, rowWords, nodeIn, drawn, none, standing, _but_}
+use Rattle.table.specs.Picture.{Row, Picture, Change, rowWords, nodeIn, drawn, none, _on_, left, right, standing, _but_}
 
 -- The calls by the letters of trace: P set up, I insert, D delete, W writer's turn, B begin, S begin a search for the next ticket, R reader's
 -- turn, E give up.
@@ -116,6 +116,7 @@ stepNumbers Adopt = 8 ∷ 0 ∷ 0 ∷ []
 stepNumbers Promote = 9 ∷ 0 ∷ 0 ∷ []
 stepNumbers (Publish n) = 10 ∷ n ∷ 0 ∷ []
 stepNumbers (Detach k) = 11 ∷ k ∷ 0 ∷ []
+stepNumbers (Replace v) = 12 ∷ v ∷ 0 ∷ []
 
 abbrev storesNumbers : List Store → List ℕ
 storesNumbers [] = []
@@ -170,17 +171,34 @@ abbrev anyReads : List Reader → Bool
 anyReads [] = false
 anyReads (x ∷ xs) = x .reading || anyReads xs
 
+-- The node that a link holds; the stores to come with B's right link as the copy's.
+abbrev nodeOn : State → Link → ℕ
+nodeOn st Root = st .register .root
+nodeOn st (Left n) = getD (st .pool) (n * 8 - 8 + left) 0
+nodeOn st (Right n) = getD (st .pool) (n * 8 - 8 + right) 0
+
+abbrev onCopy : ℕ → ℕ → Link → Link
+onCopy b copy Root = Root
+onCopy b copy (Left n) = Left n
+onCopy b copy (Right n) = Right (cond (eqb n b) copy n)
+
+abbrev renamed : ℕ → ℕ → List Store → List Store
+renamed b copy [] = []
+renamed b copy (x ∷ xs) = (x .step on onCopy b copy (x .link)) ∷ renamed b copy xs
+
 -- What a turn that made a store did is what its step's profile says (spec, Turn). It takes a node just if the queue's first moves on; keys held
--- are counted by its listing; slots are awaited after it just if it awaits and some read; the stores to come are those that followed, unless
--- it renames them.
+-- are counted by its listing; slots are awaited after it just if it awaits and some read; the stores to come are those that followed, renamed
+-- just if it renames them.
 abbrev asProfiled : Profile → State → State → Bool
 asProfiled x before after =
     let r = before .register in
     let q = after .register in
+    let later = drop 1 (r .write .stores) ++ none ∷ [] in
+    let b = nodeOn before (getD (r .write .stores) 0 none .link) in
     (eqb (r .first) 0 || sameBool (x .takes) (not (eqb (r .first) (q .first))))
     && eqb (q .held) (countedBy (x .listing) (length (before .pool) / 8) (r .held))
     && sameBool (not (eqb (q .awaited) 0)) (x .awaits && anyReads (r .readers))
-    && (x .renames || sameNumbers (storesNumbers (q .write .stores)) (storesNumbers (drop 1 (r .write .stores) ++ none ∷ [])))
+    && sameNumbers (storesNumbers (q .write .stores)) (storesNumbers (cond (x .renames) (renamed b (r .first) later) later))
 
 abbrev firstStep : State → Step
 firstStep st = getD (st .register .write .stores) 0 none .step

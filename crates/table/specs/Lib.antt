@@ -7,6 +7,8 @@ pub mod NextTickets
 pub mod Turns
 pub mod Inserts
 pub mod Deletes
+pub mod Replacements
+pub mod Overwrites
 pub mod Refusals
 pub mod Paths
 pub mod Damaged

@@ -117,9 +117,13 @@ plainLists =
     ∷ writing gave done Root 1
     ∷ lists (3 is 30 ∷ 4 is 40 ∷ [])
     ∷ writing gave refused 7
-    ∷ inserting 4 41 gave refused 8
+    ∷ inserting 4 41 gave refused 11
     ∷ writing gave refused 7
     ∷ lists (3 is 30 ∷ 4 is 40 ∷ [])
+    ∷ inserting 4 41 gave ok
+    ∷ lists (3 is 30 ∷ 4 is 40 ∷ [])
+    ∷ writing gave done Root 1
+    ∷ lists (3 is 30 ∷ 4 is 41 ∷ [])
     ∷ [])
     ∷ entry "plain list: what is neither wait nor a refusal is heard as carried out, the next ticket too"
     (inserting 3 30 gave ok ∷ writing gave next 1 10 ∷ lists (3 is 30 ∷ []) ∷ [])
@@ -140,6 +144,46 @@ plainLists =
     ∷ lists (1 is 10 ∷ 2 is 20 ∷ 3 is 30 ∷ 4 is 40 ∷ 5 is 50 ∷ [])
     ∷ writing gave done Root 1
     ∷ lists (1 is 10 ∷ 2 is 20 ∷ 3 is 30 ∷ 5 is 50 ∷ [])
+    ∷ [])
+    ∷ entry "plain list: an insert of a held key replaces its record at its first store and not before"
+    (insertOf 2 20
+    ++ insertOf 1 10
+    ++ insertOf 3 30
+    ++ inserting 2 21 gave ok
+    ∷ lists (1 is 10 ∷ 2 is 20 ∷ 3 is 30 ∷ [])
+    ∷ writing gave wait
+    ∷ writing gave refused 12
+    ∷ inserting 2 22 gave refused 6
+    ∷ lists (1 is 10 ∷ 2 is 20 ∷ 3 is 30 ∷ [])
+    ∷ writing gave done Root 1
+    ∷ lists (1 is 10 ∷ 2 is 21 ∷ 3 is 30 ∷ [])
+    ∷ inserting 3 30 gave ok
+    ∷ writing gave done Root 1
+    ∷ lists (1 is 10 ∷ 2 is 21 ∷ 3 is 30 ∷ [])
+    ∷ [])
+    ∷ entry "plain list: after it a delete's list store is where it would have been: the second"
+    (insertOf 2 20
+    ++ insertOf 1 10
+    ++ insertOf 3 30
+    ++ insertOf 2 21
+    ++ insertOf 3 31
+    ++ deleting 2 gave ok
+    ∷ writing gave stored
+    ∷ lists (1 is 10 ∷ 2 is 21 ∷ 3 is 31 ∷ [])
+    ∷ writing gave done Root 1
+    ∷ lists (1 is 10 ∷ 3 is 31 ∷ [])
+    ∷ [])
+    ∷ entry "plain list: after it a delete's list store is where it would have been: the first"
+    (insertOf 3 30
+    ++ insertOf 1 10
+    ++ insertOf 2 20
+    ++ insertOf 4 40
+    ++ insertOf 5 50
+    ++ insertOf 3 31
+    ++ insertOf 4 41
+    ++ deleting 2 gave ok
+    ∷ writing gave stored
+    ∷ lists (1 is 10 ∷ 3 is 31 ∷ 4 is 41 ∷ 5 is 50 ∷ [])
     ∷ [])
     ∷ []
 

@@ -5,8 +5,8 @@ use mathlib.Core.List.{List, [], _∷_}
 use Rattle.datatypes.specs.declared.Side.the-variants as side
 use Rattle.datatypes.specs.declared.Link.the-variants.{Root, Left, Right}
 use Rattle.datatypes.specs.declared.Purpose.the-variants.{ForInsert}
-use Rattle.datatypes.specs.declared.Step.the-variants.{Vacant, Insert, DiagLower, DiagRaise, ZigLowerA, ZigLowerC, ZigRaise, Unlink, Adopt, Promote}
-use Rattle.datatypes.specs.declared.Step.the-variants.{Publish, Detach}
+use Rattle.datatypes.specs.declared.Step.the-variants.{Vacant, Insert, Replace, DiagLower, DiagRaise, ZigLowerA, ZigLowerC, ZigRaise, Unlink, Adopt}
+use Rattle.datatypes.specs.declared.Step.the-variants.{Promote, Publish, Detach}
 use Rattle.spec.specs.Register.{State}
 use Rattle.spec.specs.Calls.{ok, go, absent, found, done, refused}
 use Rattle.table.specs.Picture.{row, slot_wants_at_, root_held_awaited_stores_, picture, none, _on_, key, value, left, right, colour, standing}
@@ -96,12 +96,12 @@ refusals =
     ∷ E 0 ⇒ refused 5 ∷ B 0 5 ⇒ ok ∷ E 0 ⇒ ok ∷ E 0 ⇒ refused 5
     ∷ stands (picture (root 2 held 3 awaited 0 stores 0)
     [] (row 1 10 100 1 0 0 ∷ row 2 20 200 0 1 3 ∷ row 3 30 300 1 0 0 ∷ []) [] (4 ∷ 5 ∷ 6 ∷ 7 ∷ 8 ∷ [])) ∷ [])
-    ∷ entry "7: none in hand; 9 and 8 before 10 and 11" (three but (free:= 2 ∷ held:= 8 ∷ []))
-    (W ⇒ refused 7 ∷ D 25 ⇒ refused 9 ∷ I 20 5 ⇒ refused 8 ∷ [])
-    ∷ entry "6 before 8, 9, 10, 11" (three but (hand (Unlink on Root) ∷ free:= 2 ∷ held:= 8 ∷ []))
+    ∷ entry "7: none in hand; 9 before 11; 10 for a key not held alone" (three but (free:= 2 ∷ held:= 8 ∷ []))
+    (W ⇒ refused 7 ∷ D 25 ⇒ refused 9 ∷ I 20 5 ⇒ refused 11 ∷ I 25 5 ⇒ refused 10 ∷ [])
+    ∷ entry "6 before 9, 10, 11" (three but (hand (Unlink on Root) ∷ free:= 2 ∷ held:= 8 ∷ []))
     (I 20 5 ⇒ refused 6 ∷ I 25 5 ⇒ refused 6 ∷ D 25 ⇒ refused 6 ∷ D 20 ⇒ refused 6 ∷ [])
-    ∷ entry "8 before 10 and 11; 10 before 11; 9 before 11" (three but (held:= 4 ∷ free:= 2 ∷ []))
-    (I 20 5 ⇒ refused 8 ∷ I 25 5 ⇒ refused 10 ∷ D 25 ⇒ refused 9 ∷ D 20 ⇒ refused 11 ∷ [])
+    ∷ entry "10 before 11; 9 before 11; a held key gives 11 alone" (three but (held:= 4 ∷ free:= 2 ∷ []))
+    (I 20 5 ⇒ refused 11 ∷ I 25 5 ⇒ refused 10 ∷ D 25 ⇒ refused 9 ∷ D 20 ⇒ refused 11 ∷ [])
     ∷ entry "10: keys held N − 4; a delete is accepted" (three but (held:= 4 ∷ []))
     (I 25 5 ⇒ refused 10 ∷ D 20 ⇒ ok ∷ [])
     ∷ entry "keys held N − 5" (three but (held:= 3 ∷ []))
@@ -117,9 +117,12 @@ refusals =
     ∷ stands (picture (root 1 held 2 awaited 0 stores 0)
     [] (row 1 0 4294967295 0 0 2 ∷ row 2 4294967295 0 1 0 0 ∷ []) [] (3 ∷ 4 ∷ 5 ∷ 6 ∷ 7 ∷ 8 ∷ []))
     ∷ B 7 4294967295 ⇒ ok ∷ R 7 ⇒ go ∷ R 7 ⇒ go ∷ R 7 ⇒ found 0 ∷ B 0 0 ⇒ ok ∷ R 0 ⇒ go ∷ R 0 ⇒ found 4294967295 ∷ B 1 4294967294 ⇒ ok ∷ R 1 ⇒ go
-    ∷ R 1 ⇒ go ∷ R 1 ⇒ absent ∷ B 2 1 ⇒ ok ∷ R 2 ⇒ go ∷ R 2 ⇒ go ∷ R 2 ⇒ absent ∷ I 0 1 ⇒ refused 8 ∷ I 4294967295 1 ⇒ refused 8 ∷ D 1 ⇒ refused 9
-    ∷ D 0 ⇒ ok ∷ W ⇒ done Root 2
-    ∷ stands (picture (root 2 held 1 awaited 0 stores 0) [] (row 2 4294967295 0 0 0 0 ∷ []) [] (3 ∷ 4 ∷ 5 ∷ 6 ∷ 7 ∷ 8 ∷ 1 ∷ [])) ∷ [])
+    ∷ R 1 ⇒ go ∷ R 1 ⇒ absent ∷ B 2 1 ⇒ ok ∷ R 2 ⇒ go ∷ R 2 ⇒ go ∷ R 2 ⇒ absent ∷ I 0 1 ⇒ ok ∷ W ⇒ done Root 3 ∷ I 4294967295 1 ⇒ ok
+    ∷ W ⇒ done (Right 3) 4
+    ∷ stands (picture (root 3 held 2 awaited 0 stores 0)
+    [] (row 3 0 1 0 0 4 ∷ row 4 4294967295 1 1 0 0 ∷ []) [] (5 ∷ 6 ∷ 7 ∷ 8 ∷ 1 ∷ 2 ∷ []))
+    ∷ D 1 ⇒ refused 9 ∷ D 0 ⇒ ok ∷ W ⇒ done Root 4
+    ∷ stands (picture (root 4 held 1 awaited 0 stores 0) [] (row 4 4294967295 1 0 0 0 ∷ []) [] (5 ∷ 6 ∷ 7 ∷ 8 ∷ 1 ∷ 2 ∷ 3 ∷ [])) ∷ [])
     ∷ gives1 "1 in all eight calls, before 2 and 3: 68 words" 68
     ∷ gives2 "2: left one past its range, a node between" three (left of 5 := 9 ∷ [])
     ∷ entry "2: the node of slot 4 one past its range" (three but (reader 4 := (idle 0 9) ∷ []))
@@ -135,6 +138,7 @@ refusals =
     ∷ gives2 "2: Unlink where no store is to come" three (store 0 := (Unlink on Root) ∷ [])
     ∷ gives2 "2: Adopt where no store is to come" three (store 0 := (Adopt on Root) ∷ [])
     ∷ gives2 "2: Promote where no store is to come" three (store 0 := (Promote on Root) ∷ [])
+    ∷ gives2 "2: Replace where no store is to come" three (store 0 := (Replace 5 on Root) ∷ [])
     ∷ gives2 "2: Publish where no store is to come" three (store 0 := (Publish 1 on Root) ∷ [])
     ∷ entry "10: keys held N − 3" (three but (held:= 5 ∷ []))
     (I 25 5 ⇒ refused 10 ∷ [])

@@ -9,8 +9,8 @@ use Rattle.spec.specs.Free.{takeFree, fillNode, takeNode, freeNode, retire, ret
 use Rattle.spec.specs.Search.{seek, trail, leftmost}
 use Rattle.spec.specs.Plan.{insertFixup, fixupAfterInsert, paintInsertFixup, redSibling, deleteFixup, fixupAfterRemoval, paintDeleteLevels}
 use Rattle.spec.specs.Plan.{paintDeleteFixup, insertPlan, unlinkPlan, deletePlan}
-use Rattle.spec.specs.Turn.{insertStore, diagLower, diagRaise, zigLowerA, zigLowerC, zigRaise, unlinkStore, adoptStore, promoteStore, movedWrite}
-use Rattle.spec.specs.Turn.{publishStore, detachStore, stepFinds, stepMade}
+use Rattle.spec.specs.Turn.{insertStore, replaceStore, diagLower, diagRaise, zigLowerA, zigLowerC, zigRaise, unlinkStore, adoptStore, promoteStore}
+use Rattle.spec.specs.Turn.{movedWrite, publishStore, detachStore, stepFinds, stepMade}
 use Rattle.spec.specs.Calls.{setUp, insert, delete, stored, writerTurn, begin, readerStep, readerTurn, giveUp}
 use Rattle.table.specs.Entry.{allPass}
 use Rattle.table.specs.Starred.{starred}
@@ -19,6 +19,8 @@ use Rattle.table.specs.NextTickets.{nextTickets}
 use Rattle.table.specs.Turns.{turns}
 use Rattle.table.specs.Inserts.{inserts}
 use Rattle.table.specs.Deletes.{deletes}
+use Rattle.table.specs.Replacements.{replacements}
+use Rattle.table.specs.Overwrites.{Overwrites, overwrites}
 use Rattle.table.specs.Refusals.{refusals}
 use Rattle.table.specs.Paths.{paths}
 use Rattle.table.specs.Damaged.{damaged}
@@ -32,6 +34,8 @@ pub record TablesPass : Type 0 where
   pub turns : allPass turns ≡ true
   pub inserts : allPass inserts ≡ true
   pub deletes : allPass deletes ≡ true
+  pub replacements : allPass replacements ≡ true
+  pub overwrites : Overwrites
   pub refusals : allPass refusals ≡ true
   pub paths : allPass paths ≡ true
   pub damaged : allPass damaged ≡ true
@@ -42,8 +46,8 @@ pub tables-pass : TablesPass
 unfolding allFrom allIn foldFrom foldIn word setWord nodeInRange poolInRange lengthRight freshNodes freshPool withRoot withQueue withHeld withReader
     withAwaited withWrite nodeAt setLink putSlot dropSlot readingSlots storeInRange registerInRange freshRegister fresh writeOf lessFirst takeFree
     fillNode takeNode freeNode retire retireTwo release endReading seek trail leftmost insertFixup fixupAfterInsert paintInsertFixup redSibling
-    deleteFixup fixupAfterRemoval paintDeleteLevels paintDeleteFixup insertPlan unlinkPlan deletePlan insertStore diagLower diagRaise zigLowerA
-    zigLowerC zigRaise unlinkStore adoptStore promoteStore movedWrite publishStore detachStore stepFinds stepMade setUp insert delete stored
+    deleteFixup fixupAfterRemoval paintDeleteLevels paintDeleteFixup insertPlan unlinkPlan deletePlan insertStore replaceStore diagLower diagRaise
+    zigLowerA zigLowerC zigRaise unlinkStore adoptStore promoteStore movedWrite publishStore detachStore stepFinds stepMade setUp insert delete stored
     writerTurn begin readerStep readerTurn giveUp
 tables-pass =
     record {
@@ -53,6 +57,8 @@ tables-pass =
       turns = refl;
       inserts = refl;
       deletes = refl;
+      replacements = refl;
+      overwrites = overwrites;
       refusals = refl;
       paths = refl;
       damaged = refl;

@@ -1,0 +1,46 @@
+-- 02, C-13: a replacing store is the list store; and the sequential tree overwrites the record, with shape, keys and colours as they were.
+use Prim.Native.Nat.{ℕ}
+use mathlib.Core.Path.{_≡_, refl}
+use mathlib.Core.Bool.{true}
+use Rattle.datatypes.specs.declared.Step.the-variants.{Replace}
+use Rattle.sequential.specs.Tree.{Colour, red, black, Tree, leaf, node, rel}
+use Rattle.sequential.specs.Insert.{insert}
+use Rattle.spec.specs.Turn.{profile, isListed}
+
+-- a node without children; keys 2 over 1 and 3; keys 2 over 1 and 4, which is red, over 3 and 5
+abbrev one : Colour → ℕ → ℕ → Tree
+one c k v = node c k v leaf leaf
+
+abbrev three : ℕ → ℕ → ℕ → Tree
+three u v w = node black 2 v (one red 1 u) (one red 3 w)
+
+abbrev five : ℕ → ℕ → Tree
+five v w = node black 2 20 (one black 1 10) (node red 4 v (one black 3 30) (one black 5 w))
+
+pub record Overwrites : Type 0 where
+  pub listed : isListed (profile (Replace 5) .listing) ≡ true
+  pub onlyKey : insert (one black 2 20) 2 21 ≡ one black 2 21
+  pub root : insert (three 10 20 30) 2 21 ≡ three 10 21 30
+  pub leftLeaf : insert (three 10 20 30) 1 11 ≡ three 11 20 30
+  pub rightLeaf : insert (three 10 20 30) 3 31 ≡ three 10 20 31
+  pub redInside : insert (five 40 50) 4 41 ≡ five 41 50
+  pub thirdLevel : insert (five 40 50) 5 51 ≡ five 40 51
+  pub sameRecord : insert (three 10 20 30) 1 10 ≡ three 10 20 30
+  pub redRoot : insert (node red 2 20 (one red 1 10) leaf) 2 21 ≡ node red 2 21 (one red 1 10) leaf
+  pub belowRedRoot : insert (node red 2 20 (one red 1 10) leaf) 1 11 ≡ node red 2 20 (one red 1 11) leaf
+
+pub overwrites : Overwrites
+unfolding rel
+overwrites =
+    record {
+      listed = refl;
+      onlyKey = refl;
+      root = refl;
+      leftLeaf = refl;
+      rightLeaf = refl;
+      redInside = refl;
+      thirdLevel = refl;
+      sameRecord = refl;
+      redRoot = refl;
+      belowRedRoot = refl;
+    }
