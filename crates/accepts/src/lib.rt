@@ -46,7 +46,8 @@ pub fn replace_at(pool: &[u32], reg: Register, k: u32, v: u32, l: Link) -> Reply
     ensures { λ r. ⌜ accepts (r .answer) ≡ insert (state (now (pool .entry)) reg) k v .answer ⌝ }
     ensures { λ r. ⌜ state (now (pool .entry)) (r .register) ≡ insert (state (now (pool .entry)) reg) k v .after ⌝ }
 {
-    if reg.free < numbers::FREE_FOR_INSERT {
+    let free = reg.free;
+    if free < numbers::FREE_FOR_INSERT {
         return replies::refused(11, reg);
     }
     accepted(reg, plans::replace_plan(v, l))

@@ -132,8 +132,8 @@ pub fn replace(pool: &mut [u32], h: Head, reading: u32, l: Link, v: u32) -> Step
     let x = pool::child(pool, Side::L, b);
     let y = pool::child(pool, Side::R, b);
     let colour = pool::word(pool, b, pool::COLOUR);
-    let taken = queue::take_node(pool, h, k, v, Side::L, x, y, colour);
-    let linked = heads::set_link(pool, taken, l, first);
+    let copied = queue::take_node(pool, h, k, v, Side::L, x, y, colour);
+    let linked = heads::set_link(pool, copied, l, first);
     let head = queue::retire(pool, linked, reading, b);
     StepResult {
         found: true,

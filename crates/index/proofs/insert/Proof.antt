@@ -1,6 +1,6 @@
 use Rattle.spec.specs.Calls.{Outcome, writeInHand}
 use Rattle.spec.specs.Register.{state}
-use Rattle.laws.specs.Inserts.{insert-lent, insert-writing, insert-held, insert-deep}
+use Rattle.laws.specs.Inserts.{insert-lent, insert-writing, insert-deep}
 use mathlib.Core.Bool.{true, false}
 use mathlib.Core.Path.{_≡_, sym, ap, _∙_}
 use borrow.Author.Tests.{eq-eqb, ne-eqb}
@@ -10,6 +10,7 @@ use Rattle.index.proofs.insert.Tie as tie
 use Rattle.index.proofs.insert.Reads as reads
 use Rattle.index.proofs.insert.Lts as lts
 use Rattle.accepts.proofs.insert_at.Reads as insert-at-reads
+use Rattle.accepts.proofs.replace_at.Reads as replace-at-reads
 use Rattle.refusals.proofs.lent_refusal.Reads as lent-refusal-reads
 use Rattle.replies.proofs.refused.Reads as refused-reads
 use Rattle.search.proofs.seek.Reads as seek-reads
@@ -45,14 +46,23 @@ returns-2 c =
 seek-requires : tie.Need-seek-requires
 seek-requires c κs = search needs
 
-enum-told : tie.Need-enum-told
-enum-told c = search needs
-
-refused-requires-3 : tie.Need-refused-requires-3
-refused-requires-3 c κs = search needs
-
 enum-known-place : tie.Need-enum-known-place
 enum-known-place c = search needs
+
+replace-at-requires : tie.Need-replace-at-requires
+replace-at-requires c κs =
+    let c3 = c .before .before .before in
+    let c4 = c3 .before in
+    let c7 = c4 .before .before .before in
+    let c8 = c7 .before in
+    let c10 = c8 .before .before in
+    let a = c10 .args in
+    let st = state (a .pool .now) (a .reg) in
+    let w : writeInHand st ≡ false = rw (eq-eqb _ _ (c4 .if2 .left)) in
+    (sym (c8 .lent-refusal .ensures) ∙ c7 .if1 .left, w, (c .before .place .given .0 .1 .0, sym (c3 .seek .ensures) ∙ c .before .place .given .1))
+
+enum-known-place-2 : tie.Need-enum-known-place-2
+enum-known-place-2 c = search needs
 
 insert-at-requires : tie.Need-insert-at-requires
 insert-at-requires c κs =
@@ -63,27 +73,16 @@ insert-at-requires c κs =
     let c10 = c8 .before .before in
     let a = c10 .args in
     let st = state (a .pool .now) (a .reg) in
-    let w : writeInHand st ≡ false = rw (eq-eqb _ _ (c4 .if2 .left)) in (sym (c8 .lent-refusal .ensures) ∙ c7 .if1 .left, w, sym (c3 .seek .ensures) ∙ c .before .place .given .1)
+    let w : writeInHand st ≡ false = rw (eq-eqb _ _ (c4 .if2 .left)) in (sym (c8 .lent-refusal .ensures) ∙ c7 .if1 .left, w, sym (c3 .seek .ensures) ∙ c .before .place2 .given .1)
 
-enum-told-2 : tie.Need-enum-told-2
-enum-told-2 c = search needs
+enum-told : tie.Need-enum-told
+enum-told c = search needs
 
-refused-requires-4 : tie.Need-refused-requires-4
-refused-requires-4 c κs = search needs
+refused-requires-3 : tie.Need-refused-requires-3
+refused-requires-3 c κs = search needs
 
 returns-3 : tie.Need-returns-3
-returns-3 c =
-    let c3 = c .before .before .before in
-    let c4 = c3 .before in
-    let c7 = c4 .before .before .before in
-    let c8 = c7 .before in
-    let c10 = c8 .before .before in
-    let a = c10 .args in
-    let st = state (a .pool .now) (a .reg) in
-    let w : writeInHand st ≡ false = rw (eq-eqb _ _ (c4 .if2 .left)) in
-    let e = insert-held st (a .k) (a .v) (sym (c8 .lent-refusal .ensures) ∙ c7 .if1 .left) w (c .before .enum-told .given .0 .0) (c .before .enum-told .given .0 .1 .0)
-    (sym (c3 .seek .ensures) ∙ c .before .enum-told .given .1) in
-    (c .refused3 .ensures .0 ∙ sym (ap (λ (o : Outcome). o .answer) e), rw (c .refused3 .ensures .1) (sym (ap (λ (o : Outcome). o .after) e)))
+returns-3 c = c .replace-at .ensures
 
 returns-4 : tie.Need-returns-4
 returns-4 c = c .insert-at .ensures
@@ -98,8 +97,8 @@ returns-5 c =
     let a = c10 .args in
     let st = state (a .pool .now) (a .reg) in
     let w : writeInHand st ≡ false = rw (eq-eqb _ _ (c4 .if2 .left)) in
-    let e = insert-deep st (a .k) (a .v) (sym (c8 .lent-refusal .ensures) ∙ c7 .if1 .left) w (sym (c3 .seek .ensures) ∙ c .before .enum-told2 .given .1) in
-    (c .refused4 .ensures .0 ∙ sym (ap (λ (o : Outcome). o .answer) e), rw (c .refused4 .ensures .1) (sym (ap (λ (o : Outcome). o .after) e)))
+    let e = insert-deep st (a .k) (a .v) (sym (c8 .lent-refusal .ensures) ∙ c7 .if1 .left) w (sym (c3 .seek .ensures) ∙ c .before .enum-told .given .1) in
+    (c .refused3 .ensures .0 ∙ sym (ap (λ (o : Outcome). o .answer) e), rw (c .refused3 .ensures .1) (sym (ap (λ (o : Outcome). o .after) e)))
 
 pub insert-spec : {M : Type 1} → statement M
 insert-spec =
@@ -111,12 +110,12 @@ insert-spec =
     refused-requires-2
     returns-2
     seek-requires
+    enum-known-place
+    replace-at-requires
+    enum-known-place-2
+    insert-at-requires
     enum-told
     refused-requires-3
-    enum-known-place
-    insert-at-requires
-    enum-told-2
-    refused-requires-4
     returns-3
     returns-4
     returns-5)

@@ -35,14 +35,17 @@ enum-told-9 c = search needs
 enum-told-10 : tie.Need-enum-told-10
 enum-told-10 c = search needs
 
+enum-told-11 : tie.Need-enum-told-11
+enum-told-11 c = search needs
+
 enum-known-s : tie.Need-enum-known-s
 enum-known-s c = search needs
 
 node-number-requires : tie.Need-node-number-requires
 node-number-requires c κs = search needs
 
-enum-told-11 : tie.Need-enum-told-11
-enum-told-11 c = search needs
+enum-told-12 : tie.Need-enum-told-12
+enum-told-12 c = search needs
 
 returns : tie.Need-returns
 returns c = search needs
@@ -75,10 +78,13 @@ returns-10 : tie.Need-returns-10
 returns-10 c = search needs
 
 returns-11 : tie.Need-returns-11
-returns-11 c = rw (c .before .before .s .given .1) (c .node-number .ensures)
+returns-11 c = search needs
 
 returns-12 : tie.Need-returns-12
-returns-12 c = search needs
+returns-12 c = rw (c .before .before .s .given .1) (c .node-number .ensures)
+
+returns-13 : tie.Need-returns-13
+returns-13 c = search needs
 
 pub step-in-range-spec : {M : Type 1} → statement M
 step-in-range-spec =
@@ -94,9 +100,10 @@ step-in-range-spec =
     enum-told-8
     enum-told-9
     enum-told-10
+    enum-told-11
     enum-known-s
     node-number-requires
-    enum-told-11
+    enum-told-12
     returns
     returns-2
     returns-3
@@ -108,4 +115,5 @@ step-in-range-spec =
     returns-9
     returns-10
     returns-11
-    returns-12)
+    returns-12
+    returns-13)

@@ -20,6 +20,7 @@ use Rattle.rotations.proofs.zig_raise.Reads as zig-raise-reads
 use Rattle.stores.proofs.adopt.Reads as adopt-reads
 use Rattle.stores.proofs.insert.Reads as insert-reads
 use Rattle.stores.proofs.publish.Reads as publish-reads
+use Rattle.stores.proofs.replace.Reads as replace-reads
 
 enum-told : tie.Need-enum-told
 enum-told c = search needs
@@ -36,29 +37,35 @@ insert-requires c κs = search needs
 enum-known-x-2 : tie.Need-enum-known-x-2
 enum-known-x-2 c = search needs
 
-diag-lower-requires : tie.Need-diag-lower-requires
-diag-lower-requires c κs = search needs
+replace-requires : tie.Need-replace-requires
+replace-requires c κs = search needs
 
 enum-known-x-3 : tie.Need-enum-known-x-3
 enum-known-x-3 c = search needs
 
-diag-raise-requires : tie.Need-diag-raise-requires
-diag-raise-requires c κs = search needs
+diag-lower-requires : tie.Need-diag-lower-requires
+diag-lower-requires c κs = search needs
 
 enum-known-x-4 : tie.Need-enum-known-x-4
 enum-known-x-4 c = search needs
 
-zig-lower-a-requires : tie.Need-zig-lower-a-requires
-zig-lower-a-requires c κs = search needs
+diag-raise-requires : tie.Need-diag-raise-requires
+diag-raise-requires c κs = search needs
 
 enum-known-x-5 : tie.Need-enum-known-x-5
 enum-known-x-5 c = search needs
 
-zig-lower-c-requires : tie.Need-zig-lower-c-requires
-zig-lower-c-requires c κs = search needs
+zig-lower-a-requires : tie.Need-zig-lower-a-requires
+zig-lower-a-requires c κs = search needs
 
 enum-known-x-6 : tie.Need-enum-known-x-6
 enum-known-x-6 c = search needs
+
+zig-lower-c-requires : tie.Need-zig-lower-c-requires
+zig-lower-c-requires c κs = search needs
+
+enum-known-x-7 : tie.Need-enum-known-x-7
+enum-known-x-7 c = search needs
 
 zig-raise-requires : tie.Need-zig-raise-requires
 zig-raise-requires c κs = search needs
@@ -81,14 +88,14 @@ enum-told-4 c = search needs
 promote-requires : tie.Need-promote-requires
 promote-requires c κs = search needs
 
-enum-known-x-7 : tie.Need-enum-known-x-7
-enum-known-x-7 c = search needs
+enum-known-x-8 : tie.Need-enum-known-x-8
+enum-known-x-8 c = search needs
 
 publish-requires : tie.Need-publish-requires
 publish-requires c κs = search needs
 
-enum-known-x-8 : tie.Need-enum-known-x-8
-enum-known-x-8 c = search needs
+enum-known-x-9 : tie.Need-enum-known-x-9
+enum-known-x-9 c = search needs
 
 detach-requires : tie.Need-detach-requires
 detach-requires c κs = search needs
@@ -111,70 +118,77 @@ same-length-2 c = search needs
 
 returns-3 : tie.Need-returns-3
 unfolding withWrite
-returns-3 c = rw (c .before .before .before .before .before .x2 .given .1) (λ q r. c .before .before .diag-lower .ensures q)
+returns-3 c = rw (c .before .before .before .before .before .x2 .given .1) (λ q r. c .before .before .replace .ensures q r)
 
 same-length-3 : tie.Need-same-length-3
 same-length-3 c = search needs
 
 returns-4 : tie.Need-returns-4
 unfolding withWrite
-returns-4 c = rw (c .before .before .before .before .before .x3 .given .1) (λ q r. c .before .before .diag-raise .ensures q r)
+returns-4 c = rw (c .before .before .before .before .before .x3 .given .1) (λ q r. c .before .before .diag-lower .ensures q)
 
 same-length-4 : tie.Need-same-length-4
 same-length-4 c = search needs
 
 returns-5 : tie.Need-returns-5
 unfolding withWrite
-returns-5 c = rw (c .before .before .before .before .before .x4 .given .1) (λ q r. c .before .before .zig-lower-a .ensures q)
+returns-5 c = rw (c .before .before .before .before .before .x4 .given .1) (λ q r. c .before .before .diag-raise .ensures q r)
 
 same-length-5 : tie.Need-same-length-5
 same-length-5 c = search needs
 
 returns-6 : tie.Need-returns-6
 unfolding withWrite
-returns-6 c = rw (c .before .before .before .before .before .x5 .given .1) (λ q r. c .before .before .zig-lower-c .ensures q)
+returns-6 c = rw (c .before .before .before .before .before .x5 .given .1) (λ q r. c .before .before .zig-lower-a .ensures q)
 
 same-length-6 : tie.Need-same-length-6
 same-length-6 c = search needs
 
 returns-7 : tie.Need-returns-7
 unfolding withWrite
-returns-7 c = rw (c .before .before .before .before .before .x6 .given .1) (λ q r. c .before .before .zig-raise .ensures q r)
+returns-7 c = rw (c .before .before .before .before .before .x6 .given .1) (λ q r. c .before .before .zig-lower-c .ensures q)
 
 same-length-7 : tie.Need-same-length-7
 same-length-7 c = search needs
 
 returns-8 : tie.Need-returns-8
 unfolding withWrite
-returns-8 c = rw (c .before .before .before .before .enum-told2 .given .1) (λ q r. c .before .before .unlink .ensures q r)
+returns-8 c = rw (c .before .before .before .before .before .x7 .given .1) (λ q r. c .before .before .zig-raise .ensures q r)
 
 same-length-8 : tie.Need-same-length-8
 same-length-8 c = search needs
 
 returns-9 : tie.Need-returns-9
 unfolding withWrite
-returns-9 c = rw (c .before .before .before .before .enum-told3 .given .1) (λ q r. c .before .before .adopt .ensures q)
+returns-9 c = rw (c .before .before .before .before .enum-told2 .given .1) (λ q r. c .before .before .unlink .ensures q r)
 
 same-length-9 : tie.Need-same-length-9
 same-length-9 c = search needs
 
 returns-10 : tie.Need-returns-10
 unfolding withWrite
-returns-10 c = rw (c .before .before .before .before .enum-told4 .given .1) (λ q r. c .before .before .promote .ensures q r)
+returns-10 c = rw (c .before .before .before .before .enum-told3 .given .1) (λ q r. c .before .before .adopt .ensures q)
 
 same-length-10 : tie.Need-same-length-10
 same-length-10 c = search needs
 
 returns-11 : tie.Need-returns-11
 unfolding withWrite
-returns-11 c = rw (c .before .before .before .before .before .x7 .given .1) (c .before .before .publish .ensures)
+returns-11 c = rw (c .before .before .before .before .enum-told4 .given .1) (λ q r. c .before .before .promote .ensures q r)
 
 same-length-11 : tie.Need-same-length-11
 same-length-11 c = search needs
 
 returns-12 : tie.Need-returns-12
 unfolding withWrite
-returns-12 c = rw (c .before .before .before .before .before .x8 .given .1) (λ q r. c .before .before .detach .ensures q r)
+returns-12 c = rw (c .before .before .before .before .before .x8 .given .1) (c .before .before .publish .ensures)
+
+same-length-12 : tie.Need-same-length-12
+same-length-12 c = search needs
+
+returns-13 : tie.Need-returns-13
+unfolding withWrite
+returns-13 c = rw (c .before .before .before .before .before .x9 .given .1) (λ q r. c .before .before .detach .ensures q r)
 
 pub try-step-spec : {M : Type 1} → statement M
 try-step-spec =
@@ -185,14 +199,16 @@ try-step-spec =
     enum-known-x
     insert-requires
     enum-known-x-2
-    diag-lower-requires
+    replace-requires
     enum-known-x-3
-    diag-raise-requires
+    diag-lower-requires
     enum-known-x-4
-    zig-lower-a-requires
+    diag-raise-requires
     enum-known-x-5
-    zig-lower-c-requires
+    zig-lower-a-requires
     enum-known-x-6
+    zig-lower-c-requires
+    enum-known-x-7
     zig-raise-requires
     enum-told-2
     unlink-requires
@@ -200,9 +216,9 @@ try-step-spec =
     adopt-requires
     enum-told-4
     promote-requires
-    enum-known-x-7
-    publish-requires
     enum-known-x-8
+    publish-requires
+    enum-known-x-9
     detach-requires
     returns
     same-length
@@ -226,4 +242,6 @@ try-step-spec =
     same-length-10
     returns-11
     same-length-11
-    returns-12)
+    returns-12
+    same-length-12
+    returns-13)
