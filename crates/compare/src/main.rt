@@ -46,6 +46,18 @@ fn compare_reading(nodes: u32, model: &mut [u32], counts: &mut [u64], call: Call
     reading::give_up(model, counts, call.slot, said.number);
 }
 
+// A replacement takes a node for its copy, and the old node is free at once if no slot reads.
+fn compare_copy(model: &[u32], counts: &mut [u64], said: Said) {
+    if (said.number == calls::DONE) & (said.row == writing::REPLACE_ROW) {
+        let kept = if model::reading_slots(model) == 0 {
+            0
+        } else {
+            1
+        };
+        tally::same(counts, said.free_before == said.free % 4096 + kept);
+    }
+}
+
 fn compare_answer(
     pool: &[u32],
     tree: &mut [u32],
@@ -72,6 +84,7 @@ fn compare_answer(
         return;
     }
     if call.kind == draws::WRITER_TURN {
+        compare_copy(model, counts, said);
         writing::writer_turn(pool, said.root, tree, model, counts, said.row, said.number);
         return;
     }

@@ -190,12 +190,15 @@ fn rotation_row(step: usize, side: Side, purpose: Purpose) -> usize
     tally::ROTATIONS + step * 6 + purpose_column(purpose) + side_column(side)
 }
 
+// the row of a record's replacement
+pub const REPLACE_ROW: usize = tally::STEPS + 1;
+
 // Answers the row of a store.
 pub fn step_row(step: Step) -> usize {
     match step {
         Step::Vacant => tally::STEPS + 7,
         Step::Insert(_, _) => tally::STEPS,
-        Step::Replace(_) => tally::STEPS + 1,
+        Step::Replace(_) => REPLACE_ROW,
         Step::DiagLower(side, purpose) => rotation_row(0, side, purpose),
         Step::DiagRaise(side, purpose) => rotation_row(1, side, purpose),
         Step::ZigLowerA(side, purpose) => rotation_row(2, side, purpose),

@@ -153,13 +153,17 @@ fn read(pool: &mut [u32], reg: Register) -> Register {
     look_next(pool, r, 0, 1)
 }
 
-// Fills the index and reads it, deletes a key, twice, and reads the index again. The second delete
-// is refused: the key is no longer held.
+// Deletes the key 2, and once more: then it is no longer held, and the delete is refused.
+fn remove(pool: &mut [u32], reg: Register) -> Register {
+    let r = delete(pool, reg, 2);
+    delete(pool, r, 2)
+}
+
+// Fills the index and reads it, deletes a key and reads it again.
 fn run(pool: &mut [u32], reg: Register) {
     let mut r = fill(pool, reg);
     r = read(pool, r);
-    r = delete(pool, r, 2);
-    r = delete(pool, r, 2);
+    r = remove(pool, r);
     read(pool, r);
 }
 

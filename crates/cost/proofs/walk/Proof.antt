@@ -7,6 +7,7 @@ use Rattle.cost.proofs.walk.Tie as tie
 use Rattle.cost.proofs.walk.Reads as reads
 use Rattle.cost.proofs.walk.Lts as lts
 use Rattle.cost.proofs.once.Reads as once-reads
+use Rattle.cost.proofs.passed.Reads as passed-reads
 use Rattle.cost.proofs.way_call.Reads as way-call-reads
 use Rattle.cost.proofs.way_key.Reads as way-key-reads
 use Rattle.fresh.proofs.fresh_register.Reads as fresh-register-reads
@@ -34,6 +35,9 @@ way-key-requires c κs = search needs
 
 once-requires : tie.Need-once-requires Inv-loop μ-loop
 once-requires c κs = search needs
+
+passed-requires : tie.Need-passed-requires Inv-loop μ-loop
+passed-requires c κs = search needs
 
 mul-seed : tie.Need-mul-seed Inv-loop μ-loop
 mul-seed c = search needs
@@ -71,6 +75,7 @@ walk-spec =
     returns
     way-key-requires
     once-requires
+    passed-requires
     mul-seed
     add-seed
     add-i
