@@ -129,7 +129,7 @@ pub fn insert_plan(pool: &[u32], reg: Register, k: u32, v: u32, l: Link) -> Plan
     plan(one_store(l, Step::Insert(k, v)), ending)
 }
 
-// Plans the insert of a held key, whose node the link l holds, with its record v.
+// Plans the insert of a held key, whose node the link l holds, with its record v. Why by `plan`: docs/DECISIONS.md, 87.
 pub fn replace_plan(v: u32, l: Link) -> Planned
     ensures { λ r. ⌜ r .possible ≡ replacePlan v l .possible ⌝ }
     ensures { λ r. ⌜ r .write ≡ writeOf (replacePlan v l .stores) ⌝ }
