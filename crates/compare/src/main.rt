@@ -46,15 +46,19 @@ fn compare_reading(nodes: u32, model: &mut [u32], counts: &mut [u64], call: Call
     reading::give_up(model, counts, call.slot, said.number);
 }
 
-// A replacement takes a node for its copy, and the old node is free at once if no slot reads.
+// the free nodes before and after a replacement: its copy takes one, and the old node is free at once if no slot reads
+fn copy_taken(before: u32, after: u32, reading: bool) -> bool {
+    if reading {
+        before == after % 4096 + 1
+    } else {
+        before == after
+    }
+}
+
 fn compare_copy(model: &[u32], counts: &mut [u64], said: Said) {
     if (said.number == calls::DONE) & (said.row == writing::REPLACE_ROW) {
-        let kept = if model::reading_slots(model) == 0 {
-            0
-        } else {
-            1
-        };
-        tally::same(counts, said.free_before == said.free % 4096 + kept);
+        let reading = model::reading_slots(model) != 0;
+        tally::same(counts, copy_taken(said.free_before, said.free, reading));
     }
 }
 

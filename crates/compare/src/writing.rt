@@ -92,6 +92,12 @@ fn count_replacement(model: &[u32], counts: &mut [u64], call: Call, full: bool, 
     count_if(counts, tally::REPLACED_FEW, number == 11);
 }
 
+fn count_insert(model: &[u32], counts: &mut [u64], call: Call, kind: u32, full: bool, number: u32) {
+    if kind == model::REPLACE {
+        count_replacement(model, counts, call, full, number);
+    }
+}
+
 // Compares the answer of an insert, and makes an accepted one in the reference tree. `free`: the free nodes before the call.
 pub fn insert(
     nodes: u32,
@@ -105,9 +111,7 @@ pub fn insert(
     let kind = insert_kind(tree, call.key);
     let foretold = insert_foretold(nodes, tree, model, kind, free);
     answered(counts, number, foretold);
-    if kind == model::REPLACE {
-        count_replacement(model, counts, call, full(nodes, tree), number);
-    }
+    count_insert(model, counts, call, kind, full(nodes, tree), number);
     if foretold == calls::ACCEPTED {
         begin_insert(tree, model, counts, call, kind);
     }
