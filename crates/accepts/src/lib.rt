@@ -39,8 +39,8 @@ pub fn insert_at(pool: &[u32], reg: Register, k: u32, v: u32, l: Link) -> Reply
     accepted(reg, write)
 }
 
-// Tests and plans an insert of a held key, whose node the link l holds, after the tests of the search (document 02, C-13). Keys held don't grow: a
-// full index is no refusal.
+// Tests and plans an insert of a held key, whose node the link l holds, after the tests of the search (document 02, C-13). Keys held doesn't change,
+// so 10 isn't tested.
 pub fn replace_at(pool: &[u32], reg: Register, k: u32, v: u32, l: Link) -> Reply
     requires { ⌜ (lentNumber (state (now pool) reg) ≡ 0) × (writeInHand (state (now pool) reg) ≡ false) × ((n : ℕ) × (placeOf (state (now pool) reg) k ≡ Held l n)) ⌝ }
     ensures { λ r. ⌜ accepts (r .answer) ≡ insert (state (now (pool .entry)) reg) k v .answer ⌝ }

@@ -17,12 +17,12 @@ use Rattle.datatypes.specs.declared.Kind.the-variants as kind
 use Rattle.datatypes.specs.declared.Reader.{Reader}
 use Rattle.datatypes.specs.declared.Register.{Register}
 use Rattle.base.specs.Lists.{_∈_, Distinct, length-within, numbersFrom, numbers-in, numbers-distinct, getD-same}
-use Rattle.base.specs.Walk.{all-in}
+use Rattle.base.specs.Walk.{allIn, all-in}
 use Rattle.sequential.specs.Tree.{leaf}
 use Rattle.sequential.specs.Delete.{changedBy}
 use Rattle.spec.specs.Numbers.{leastNodes, mostNodes, slots}
 use Rattle.spec.specs.Pool.{word, child, nodes, keyWord, recordAt, standingFree, standingLinked, standingRetired}
-use Rattle.spec.specs.Register.{State, state, noReader, begunReader, nodeAt, hasSlot, isRoot}
+use Rattle.spec.specs.Register.{State, state, noReader, begunReader, readerOf, nodeAt, hasSlot, isRoot}
 use Rattle.spec.specs.Calls.{Answer, go, absent, found, next, refused, Call, inserting, call, writeInHand}
 use Rattle.spec.specs.PlainList.{recordFor, acceptedWrites}
 use Rattle.promise.specs.Run.{justSetUp, Reads, callAt, indexAfter, plainAfter, ticketsAfter, Turns, Reading, Lookup, NextSearch}
@@ -206,36 +206,39 @@ contradicts : (b : Bool) → b ≡ true → not b ≡ true → ⊥
 contradicts true e f = false≢true f
 contradicts false e f = false≢true e
 
+-- the reading of slot 0 when call j comes: of the kind and with the key of its record, and begun by no call before call b
+reading-then : (N : ℕ) (cs : List Call) → PromiseFrom (justSetUp N) cs → (κ : Kind) (k j b : ℕ) → Reads (indexAfter (justSetUp N) cs j) 0
+    → readerOf (indexAfter (justSetUp N) cs j .register) 0 .kind ≡ κ → readerOf (indexAfter (justSetUp N) cs j .register) 0 .key ≡ k
+    → allIn (λ i. not (isBegin (callAt cs i))) 0 b ≡ true → (i : ℕ) × (b ≤ i) × Reading (justSetUp N) cs κ 0 k i j
+reading-then N cs p κ k j b e kind key none-begins =
+    let l = p .demand3 .lookups in
+    let r = l .inLookup 0 j (omega arith) e in
+    let i = r .2 in
+    let is = l .reads (r .0) 0 (r .1) i j (r .3) in
+    let late : ¬ (i < b) = λ u. contradicts (isBegin (callAt cs i)) (ap isBegin (r .3 .begins .0)) (all-in _ 0 b none-begins i (omega arith) u) in
+    (i, omega (arith, late), subst (λ q. Reading (justSetUp N) cs κ 0 q i j) (sym (is .2) ∙ key) (subst (λ z. Reading (justSetUp N) cs z 0 (r .1) i j) (sym (is .3) ∙ kind) (r .3)))
+
 -- 02, C-11: 'Here a single moment can't be promised.' `whenNext` with one moment for the ticket and for the keys before it: in `overtaken` the search
 -- answers 10, and at no moment of it the plain list has 10 and not 5.
 pub single-moment : ¬ ((cs : List Call) (s g i j k v : ℕ) → NextSearch nine cs s g i j → Turns nine cs s j (next k v)
     → (t : ℕ) × (i < t) × (t ≤ j + 1) × (recordFor k (ticketsAfter nine cs t) ≡ some v) × ((q : ℕ) → g < q → q < k → recordFor q (ticketsAfter nine cs t) ≡ none))
 single-moment h =
-    let p = promise 9 (omega arith) (omega arith) overtaken .demand3 .lookups in
-    let r = p .inLookup 0 18 (omega arith) (computed .reads18) in
-    let is = p .reads (r .0) 0 (r .1) (r .2) 18 (r .3) in
-    let three : r .1 ≡ 3 = sym (is .2) ∙ computed .key18 in
-    let search : NextSearch nine overtaken 0 (r .1) (r .2) 18 = subst (λ κ. Reading nine overtaken κ 0 (r .1) (r .2) 18) (sym (is .3) ∙ computed .kind18) (r .3) in
-    let z = h overtaken 0 (r .1) (r .2) 18 10 100 search (refl, computed .answers18) in
-    let late : ¬ (r .2 < 10) = λ e. contradicts (isBegin (callAt overtaken (r .2))) (ap isBegin (r .3 .begins .0)) (all-in _ 0 10 (computed .begins10) (r .2) (omega arith) e) in
+    let r = reading-then 9 overtaken (promise 9 (omega arith) (omega arith) overtaken) kind.Next 3 18 10 (computed .reads18) (computed .kind18) (computed .key18) (computed .begins10) in
+    let late = r .1 in
+    let z = h overtaken 0 3 (r .0) 18 10 100 (r .2) (refl, computed .answers18) in
     let next-then : tenIsNext (z .0) ≡ true = rw (z .3, z .4 5 (omega arith) (omega arith)) in
-    contradicts (tenIsNext (z .0)) next-then (all-in _ 11 20 (computed .never) (z .0) (let a = z .1 in omega (arith, late)) (let a = z .2 in omega arith))
+    contradicts (tenIsNext (z .0)) next-then (all-in _ 11 20 (computed .never) (z .0) (let a = z .1 in omega arith) (let a = z .2 in omega arith))
 
 -- 02, C-13: 'a camera may get either record while both were current during its lookup.' `whenFound` with the record of the last moment: in
 -- `replacing` the key is held at every moment of the lookup, which answers the record that it had at first.
 pub latest-record : ¬ ((cs : List Call) (s k i j v : ℕ) → Lookup start cs s k i j → Turns start cs s j (found v)
     → ((t : ℕ) → i < t → t ≤ j + 1 → recordFor k (ticketsAfter start cs t) ≢ none) → recordFor k (ticketsAfter start cs (j + 1)) ≡ some v)
 latest-record h =
-    let p = promised replacing .demand3 .lookups in
-    let r = p .inLookup 0 6 (omega arith) (computed .readsThen) in
-    let is = p .reads (r .0) 0 (r .1) (r .2) 6 (r .3) in
-    let lookup : Lookup start replacing 0 3 (r .2) 6 =
-    subst (λ k. Lookup start replacing 0 k (r .2) 6) (sym (is .2) ∙ computed .keyThen)
-    (subst (λ κ. Reading start replacing κ 0 (r .1) (r .2) 6) (sym (is .3) ∙ computed .kindThen) (r .3)) in
-    let late : ¬ (r .2 < 2) = λ e. contradicts (isBegin (callAt replacing (r .2))) (ap isBegin (r .3 .begins .0)) (all-in _ 0 2 (computed .begins2) (r .2) (omega arith) e) in
-    let held : (t : ℕ) → r .2 < t → t ≤ 7 → recordFor 3 (ticketsAfter start replacing t) ≢ none =
-    λ t a b e. false≢true (sym (ap has e) ∙ all-in _ 3 8 (computed .listedAll) t (omega (arith, late)) (omega arith)) in
-    let last = h replacing 0 3 (r .2) 6 30 lookup (refl, computed .answersThen) held in
+    let r = reading-then 8 replacing (promised replacing) kind.Lookup 3 6 2 (computed .readsThen) (computed .kindThen) (computed .keyThen) (computed .begins2) in
+    let late = r .1 in
+    let held : (t : ℕ) → r .0 < t → t ≤ 7 → recordFor 3 (ticketsAfter start replacing t) ≢ none =
+    λ t a b e. false≢true (sym (ap has e) ∙ all-in _ 3 8 (computed .listedAll) t (omega arith) (omega arith)) in
+    let last = h replacing 0 3 (r .0) 6 30 (r .2) (refl, computed .answersThen) held in
     let same = ap value (sym last ∙ computed .listedLast) in
     omega arith
   where

@@ -59,12 +59,12 @@ overtaken =
 abbrev pub replacing : List Call
 replacing = inserting 3 30 ∷ writing ∷ beginning kind.Lookup 0 3 ∷ turning 0 ∷ inserting 3 31 ∷ writing ∷ turning 0 ∷ []
 
+-- whether there is a record
 abbrev pub has : Option ℕ → Bool
 has none = false
 has (some v) = true
 
 -- at moment t the plain list has 10 and not 5: 10 is the next ticket after 3
-
 abbrev pub tenIsNext : ℕ → Bool
 tenIsNext t = has (recordFor 10 (ticketsAfter nine overtaken t)) && not (has (recordFor 5 (ticketsAfter nine overtaken t)))
 

@@ -445,15 +445,7 @@ fn run(pool: &mut [u32], kept: &mut [u32], call: u8, keys: u32, mode: u8, s: u32
         return 0;
     }
     copy(pool, kept);
-    repeat(
-        pool,
-        kept,
-        r,
-        call,
-        act_of(call, mode),
-        keys,
-        s,
-    )
+    repeat(pool, kept, r, call, act_of(call, mode), keys, s)
 }
 
 // the same on the first n words

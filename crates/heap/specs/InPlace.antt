@@ -18,6 +18,9 @@ use Rattle.heap.specs.Colours.{colours, colours-is}
 use Rattle.heap.specs.Moves.{At, Fresh, Once, new-apart, Linked-in, link-in, clear-of}
 use Rattle.heap.specs.Lowers.{top-of}
 
+pub place-count : (fs : List Frame) (B : Node) (l r : Linked) (i : ℕ) → occ i (nodes (plug fs (cell B l r))) ≡ one i (B .num) + occ i (nodes l) + occ i (nodes r) + occWay i fs
+place-count fs B l r i = let a = occ-plug fs (cell B l r) i in let b = occ-at L B l r i in omega arith
+
 module _ (st : State) (fs : List Frame) (B : Node) (l r : Linked) (k v : ℕ) where
   abbrev p : List ℕ
   p = st .pool
@@ -33,10 +36,7 @@ module _ (st : State) (fs : List Frame) (B : Node) (l r : Linked) (k v : ℕ) wh
   taken = takeNode st k v L (child (st .pool) L (B .num)) (child (st .pool) R (B .num)) (colourWordOf st (B .num))
 
   abbrev pub linked : State
-  linked = setLink (takeNode st k v L (child (st .pool) L (B .num)) (child (st .pool) R (B .num)) (colourWordOf st (B .num))) (linkTo fs) (st .register .first)
-
-  pub place-count : (i : ℕ) → occ i (nodes (plug fs (cell B l r))) ≡ one i (B .num) + occ i (nodes l) + occ i (nodes r) + occWay i fs
-  place-count i = let a = occ-plug fs (cell B l r) i in let b = occ-at L B l r i in omega arith
+  linked = setLink taken (linkTo fs) (st .register .first)
 
   module _ (h : At st fs (cell B l r)) (once : Once (plug fs (cell B l r))) (fresh : Fresh st (plug fs (cell B l r))) where
     pub in-place : Linked-in st linked fs (cell (record { num = st .register .first; key = k; val = v }) l r) (colourWordOf st (B .num))
@@ -44,10 +44,10 @@ module _ (st : State) (fs : List Frame) (B : Node) (l r : Linked) (k v : ℕ) wh
         let N : Node = record { num = n; key = k; val = v } in
         let top = top-of st fs L B l r h in
         let z = fresh .new in
-        let c = place-count n in
+        let c = place-count fs B l r n in
         link-in st fs (cell B l r) k v L (child p L (B .num)) (child p R (B .num)) (colourWordOf st (B .num)) l r fresh h (top .near) (top .far) (omega arith) (omega arith)
         (clear-of fs (cell B l r) (cell N l r) once
-        (λ i w. let a = once i in let b = place-count i in let d = new-apart i n (nodes T) (fresh .new) (omega arith) in let e = occ-at L N l r i in omega arith))
+        (λ i w. let a = once i in let b = place-count fs B l r i in let d = new-apart i n (nodes T) (fresh .new) (omega arith) in let e = occ-at L N l r i in omega arith))
 
     -- The colours, after work that leaves them: the old nodes keep theirs, the new one has B's.
     module _ (g : ℕ → Colour) (same : (i : ℕ) → g i ≡ colours (linked .pool) i) where

@@ -133,7 +133,7 @@ module _ (st : State) (G : Tree) (d : Double) (gs : List Frame) (h : At st (d .w
   far = plug gs (at L C nil y)
 
   abbrev stored : State
-  stored = linked st fs B l (plug gs (at L C nil y)) (C .key) (C .val)
+  stored = linked st fs B l far (C .key) (C .val)
 
   abbrev less : State
   less = oneLess stored

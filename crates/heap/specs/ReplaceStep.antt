@@ -78,7 +78,7 @@ module _ (st : State) (G : Tree) (v : ℕ) (fs : List Frame) (B : Node) (l r : L
   -- the tree with its colours is the sequential one
   erased : erase g U ≡ G
   erased =
-      let count = place-count st fs B l r (B .key) v in
+      let count = place-count fs B l r in
       let way = way-occ f g fs (λ i w. kept i (let a = count i in omega arith)) in
       let left = erase-occ f g l (λ i w. kept i (let a = count i in omega arith)) in
       let right = erase-occ f g r (λ i w. kept i (let a = count i in omega arith)) in
@@ -102,7 +102,8 @@ module _ (st : State) (G : Tree) (v : ℕ) (fs : List Frame) (B : Node) (l r : L
         gone = B .num ∷ [];
         shift = by-replace fs B n v l r (good .once) (fresh .new);
         phase = phase;
-        parts = parts-of st (taken st fs B l r (B .key) v) stored _ (linkTo fs) n (n ∷ []) (B .num ∷ []) (filled (B .key) v L _ _ (colourWordOf st (B .num))) (coloursOnly-refl _) (same-queue refl) refl;
+        parts = parts-of st (taken st fs B l r (B .key) v) stored _ (linkTo fs) n (n ∷ []) (B .num ∷ [])
+            (filled (B .key) v L _ _ (colourWordOf st (B .num))) (coloursOnly-refl _) (same-queue refl) refl;
         size = q .words .size ∙ in-tree .size;
         held = q .fields .held ∙ in-tree .held;
         fields = record { readers = a .readers; awaited = a .awaited; write = a .write };

@@ -36,7 +36,8 @@ use Rattle.promise.specs.Run.{Start, justSetUp, Reads, callAt, indexAfte
 abbrev pub AtOneMoment : Start → List Call → ℕ → ℕ → ℕ → Option ℕ → Type 0
 AtOneMoment S cs k i j o = (t : ℕ) × (i < t) × (t ≤ j + 1) × (recordFor k (ticketsAfter S cs t) ≡ o)
 
--- slot s, wanted key k, begun by call i, ended by call j; a lookup doesn't answer the next ticket
+-- slot s, wanted key k, begun by call i, ended by call j; a lookup doesn't answer the next ticket. 02, C-13: of two records current during the
+-- lookup either may be answered, for each has its moment; of a search for the next ticket likewise.
 pub record LookupsRight (S : Start) (cs : List Call) : Type 0 where
   pub whenFound : (s k i j v : ℕ) → Lookup S cs s k i j → Turns S cs s j (found v) → AtOneMoment S cs k i j (some v)
   pub whenAbsent : (s k i j : ℕ) → Lookup S cs s k i j → Turns S cs s j absent → AtOneMoment S cs k i j none
@@ -204,12 +205,15 @@ pub record Demand2 (S : Start) (cs : List Call) : Type 0 where
   pub size : (j : ℕ) → nodes (indexAfter S cs j .pool) ≡ S .size
 
 -- 'When a call is turned down': no run from a fresh index meets 2 or 12; and the pool keeps its length, so none meets 1. From any other
--- sound start likewise. 02, C-13: refusal 8 no longer occurs.
+-- sound start likewise.
 pub record NeverMet (S : Start) (cs : List Call) : Type 0 where
   pub two : (j : ℕ) (c : Call) → ¬ (Gives S cs j c (refused 2))
   pub twelve : (j : ℕ) (c : Call) → ¬ (Gives S cs j c (refused 12))
-  pub eight : (j : ℕ) (c : Call) → ¬ (Gives S cs j c (refused 8))
   pub one : (j : ℕ) (c : Call) → ¬ (Gives S cs j c (refused 1))
+
+-- 02, C-13: refusal 8 no longer occurs, whatever pool and register are lent.
+abbrev pub NoEight : Type 0
+NoEight = (st : State) (c : Call) → ¬ (call st c .answer ≡ refused 8)
 
 -- 02, C-12: 'For pools reached from a fresh index no answer differs.' The reader's turn as 01 has it: test 2 looks at every word of the pool and
 -- at the register. After every call of a run it is the reader's turn: the same answer, pool and register, for every slot.

@@ -162,7 +162,7 @@ not-two st (beginning κ s k) r m = avoided 2 (beginTests st s) (omega arith) (i
 not-two st (turning s) r m = avoided 2 (readerTests st s) (omega arith) (inl (omega arith), λ _. (inr (m s), λ _. others-avoid 2 (drop 2 (readerTests st s)) (omega arith)))
 not-two st (givingUp s) r m = avoided 2 (giveUpTests st s) (omega arith) (inl (omega arith), λ _. (inr r, λ _. others-avoid 2 (drop 2 (giveUpTests st s)) (omega arith)))
 
--- 02, C-13: no cause has the number 8, whatever pool and register are lent
+-- 02, C-13: no cause has the number 8
 pub not-eight : (st : State) (c : Call) → firstOf (testsOf st c) ≢ 8
 not-eight st (inserting k v) = avoided 8 (insertTests st k v) (omega arith) (others-avoid 8 (insertTests st k v) (omega arith))
 not-eight st (deleting k) = avoided 8 (deleteTests st k) (omega arith) (others-avoid 8 (deleteTests st k) (omega arith))

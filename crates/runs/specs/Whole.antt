@@ -28,7 +28,7 @@ use Rattle.runs.specs.Writer.{Writer}
 use Rattle.runs.specs.Sound.{Sound, Starts}
 use Rattle.runs.specs.Starts.{exact-right}
 use Rattle.runs.specs.Theorem.{sound-at, demand3}
-use Rattle.runs.specs.Rest.{Completes, wait-right, refused-by, not-one, not-two, not-eight, not-twelve, length-right, none-awaited, turn-clear, turn-goes}
+use Rattle.runs.specs.Rest.{Completes, wait-right, refused-by, not-one, not-two, not-twelve, length-right, none-awaited, turn-clear, turn-goes}
 use Rattle.runs.specs.Standings.{stands-one, retired-held, all-counted}
 use Rattle.runs.specs.OneStore.{more-left, done-left, Tells, store-one}
 
@@ -155,7 +155,6 @@ module _ (W : State → Plain → Linked → Type 0) (writer : Writer W) (comple
     two = λ j c g. not-two (at j) c (ranged-in (S .size) (at j) (ranged j)) (λ s. named-in (S .size) (at j) s (ranged j)) (refused-by (at j) c (call (at j) c) 2 (omega arith) (call-case (at j) c) (g .1));
     twelve = λ j c g. (let h = sound j in
         not-twelve W completes (at j) (plainAfter S cs j) (h .tree) (h .safe) (h .holds) c (refused-by (at j) c (call (at j) c) 12 (omega arith) (call-case (at j) c) (g .1)));
-    eight = λ j c g. not-eight (at j) c (refused-by (at j) c (call (at j) c) 8 (omega arith) (call-case (at j) c) (g .1));
     one = λ j c g. not-one (at j) c (lent j) (refused-by (at j) c (call (at j) c) 1 (omega arith) (call-case (at j) c) (g .1));
   }
 

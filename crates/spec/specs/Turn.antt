@@ -312,7 +312,7 @@ pub record Profile : Type 0 where
 abbrev pub profiled : Bool → Listing → Bool → Bool → Profile
 profiled takes listing awaits renames = record { takes = takes; listing = listing; awaits = awaits; renames = renames }
 
--- 01, 'The writer's stores', a line for each: takes, listing, awaits, renames
+-- 01, 'The writer's stores', a line for each (Replace: 02, C-13): takes, listing, awaits, renames
 abbrev pub profile : Step → Profile
 profile Vacant = profiled false unlisted false false
 profile (Insert k v) = profiled true keyComes false false

@@ -111,7 +111,7 @@ pub fn insert(pool: &mut [u32], h: Head, l: Link, k: u32, v: u32) -> StepResult
 }
 
 // Insert of a held key, B's (document 02, C-13): takes B', a copy of B with the record v, and stores it in B's link from above. B is retired.
-// This is the write's list store; keys held don't change.
+// This is the write's list store; keys held doesn't change.
 //
 //        B               B'           B retired: its children are l and r
 //       / \             / \

@@ -25,6 +25,8 @@ pub record Overwrites : Type 0 where
   pub rightLeaf : insert (three 10 20 30) 3 31 ≡ three 10 20 31
   pub redInside : insert (five 40 50) 4 41 ≡ five 41 50
   pub thirdLevel : insert (five 40 50) 5 51 ≡ five 40 51
+  pub smallerRecord : insert (three 10 20 30) 2 19 ≡ three 10 19 30
+  pub rightChildOnly : insert (node black 1 10 leaf (one red 2 20)) 1 11 ≡ node black 1 11 leaf (one red 2 20)
   pub sameRecord : insert (three 10 20 30) 1 10 ≡ three 10 20 30
   pub redRoot : insert (node red 2 20 (one red 1 10) leaf) 2 21 ≡ node red 2 21 (one red 1 10) leaf
   pub belowRedRoot : insert (node red 2 20 (one red 1 10) leaf) 1 11 ≡ node red 2 20 (one red 1 11) leaf
@@ -40,6 +42,8 @@ overwrites =
       rightLeaf = refl;
       redInside = refl;
       thirdLevel = refl;
+      smallerRecord = refl;
+      rightChildOnly = refl;
       sameRecord = refl;
       redRoot = refl;
       belowRedRoot = refl;

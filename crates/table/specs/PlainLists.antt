@@ -161,6 +161,8 @@ plainLists =
     ∷ writing gave done Root 1
     ∷ lists (1 is 10 ∷ 2 is 21 ∷ 3 is 30 ∷ [])
     ∷ [])
+    ∷ entry "plain list: a smaller record too, and of a key with a left child only"
+    (insertOf 2 20 ++ insertOf 1 10 ++ insertOf 2 19 ++ lists (1 is 10 ∷ 2 is 19 ∷ []) ∷ [])
     ∷ entry "plain list: after it a delete's list store is where it would have been: the second"
     (insertOf 2 20
     ++ insertOf 1 10

@@ -139,6 +139,8 @@ refusals =
     ∷ gives2 "2: Adopt where no store is to come" three (store 0 := (Adopt on Root) ∷ [])
     ∷ gives2 "2: Promote where no store is to come" three (store 0 := (Promote on Root) ∷ [])
     ∷ gives2 "2: Replace where no store is to come" three (store 0 := (Replace 5 on Root) ∷ [])
+    ∷ gives2 "2: Replace of the record 0 where no store is to come" three (store 0 := (Replace 0 on Root) ∷ [])
+    ∷ gives2 "2: Replace of the record 4,294,967,295 where no store is to come" three (store 0 := (Replace 4294967295 on Root) ∷ [])
     ∷ gives2 "2: Publish where no store is to come" three (store 0 := (Publish 1 on Root) ∷ [])
     ∷ entry "10: keys held N − 3" (three but (held:= 5 ∷ []))
     (I 25 5 ⇒ refused 10 ∷ [])

@@ -343,4 +343,19 @@ replacements =
     ∷ entry "replace: the free count at N" (three but (free:= 8 ∷ []))
     (I 20 201 ⇒ ok ∷ W ⇒ done Root 4
     ∷ leaves (standing of 2 := 0 ∷ fills (row 4 20 201 0 1 3) ∷ nextFree of 8 := 2 ∷ root:= 4 ∷ first:= 5 ∷ last:= 2 ∷ []) ∷ [])
+    ∷ entry "replace: keys held N − 4, leaves, red and black, beside a reader" (full but (reader 0 := (reads 5 0) ∷ []))
+    (I 10 101 ⇒ ok
+    ∷ leaves (hand (Replace 101 on Left 2) ∷ [])
+    ∷ W ⇒ done (Left 2) 5 ∷ I 40 401 ⇒ ok ∷ W ⇒ done (Right 3) 6 ∷ I 40 402 ⇒ refused 11 ∷ I 25 250 ⇒ refused 10 ∷ [])
+    ∷ entry "replace: 2 of its link, right" (three but (hand (Replace 201 on Right 9) ∷ []))
+    (W ⇒ refused 2 ∷ [])
+    ∷ entry "replace: the node taken is the old node's left child: the copy is over itself" (three but (standing of 1 := 0 ∷ first:= 1 ∷ nextFree of 1 := 4 ∷ []))
+    (I 20 201 ⇒ ok ∷ W ⇒ done Root 1
+    ∷ leaves (standing of 2 := 0 ∷ fills (row 1 20 201 0 1 3) ∷ nextFree of 8 := 2 ∷ root:= 1 ∷ first:= 4 ∷ last:= 2 ∷ []) ∷ [])
+    ∷ entry "replace: a node that is its own right child, and whose links are equal" (three but (left of 3 := 3 ∷ right of 3 := 3 ∷ []))
+    (I 30 301 ⇒ ok ∷ W ⇒ done (Right 2) 4
+    ∷ leaves (standing of 3 := 0 ∷ right of 2 := 4 ∷ fills (row 4 30 301 1 3 3) ∷ nextFree of 8 := 3 ∷ first:= 5 ∷ last:= 3 ∷ []) ∷ [])
+    ∷ entry "replace: the node taken is the old node itself, below the root" (three but (standing of 3 := 0 ∷ first:= 3 ∷ nextFree of 3 := 4 ∷ []))
+    (I 30 301 ⇒ ok ∷ W ⇒ done (Right 2) 3
+    ∷ leaves (value of 3 := 301 ∷ nextFree of 3 := 0 ∷ nextFree of 8 := 3 ∷ first:= 4 ∷ last:= 3 ∷ []) ∷ [])
     ∷ []

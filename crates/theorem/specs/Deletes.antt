@@ -83,10 +83,10 @@ unfolding fixupAfterRemoval
 few-removal p n x path = cond-both {A = Fixup} Few (isRed p n) {x = fixupResult 0 Balanced} {y = deleteFixup p 0 x path} (omega arith) (few-deleteFixup p 0 x path)
 
 -- The form of a delete: its list store is the first or the second.
-data Shape (w : Plan) : ℕ → Type 0 where
-  at-once : (s : Store) (l : List Store) → w .stores ≡ s ∷ l → isListStore (s .step) ≡ true → ((capacity h : ℕ) → heldAfter (s .step) capacity h ≡ h - 1) → takesAll (s ∷ l) ≤ 4 → Shape w 1
+data DeleteShape (w : Plan) : ℕ → Type 0 where
+  at-once : (s : Store) (l : List Store) → w .stores ≡ s ∷ l → isListStore (s .step) ≡ true → ((capacity h : ℕ) → heldAfter (s .step) capacity h ≡ h - 1) → takesAll (s ∷ l) ≤ 4 → DeleteShape w 1
   second : (s t : Store) (l : List Store) → w .stores ≡ s ∷ t ∷ l → isListStore (s .step) ≡ false → isListStore (t .step) ≡ true → ((capacity h : ℕ) → heldAfter (t .step) capacity h ≡ h - 1)
-      → takesAll (s ∷ t ∷ l) ≤ 4 → Shape w 2
+      → takesAll (s ∷ t ∷ l) ≤ 4 → DeleteShape w 2
 
 cell-there : (p : List ℕ) (i : ℕ) (K : Node) (u w : Linked) → Rep p i (cell K u w) → i ≢ 0
 cell-there p i K u w h = let a = h .0 .is in let b = h .0 .within .low in omega arith
@@ -98,27 +98,27 @@ module _ (st : State) (l : Link) (b : ℕ) where
   abbrev way : List Link
   way = pathTo p (st .register .root) (word p b keyWord) l
 
-  first-form : twoChildren p b ≡ false → Shape (deletePlan st l b) 1
+  first-form : twoChildren p b ≡ false → DeleteShape (deletePlan st l b) 1
   unfolding deletePlan unlinkPlan
   first-form e =
       rw e (at-once (store l Unlink) (endingStores (fixupAfterRemoval p b (onlyChild p b) way .ending)) refl refl (λ capacity h. refl) (let a = few-removal p b (onlyChild p b) way in omega arith))
 
-  second-form : twoChildren p b ≡ true → child p L (child p R b) ≡ 0 → deletePlan st l b .possible ≡ true → Shape (deletePlan st l b) 2
+  second-form : twoChildren p b ≡ true → child p L (child p R b) ≡ 0 → deletePlan st l b .possible ≡ true → DeleteShape (deletePlan st l b) 2
   unfolding deletePlan
   second-form e z ok = rw e (go (successorPath p b way) (rw e at ok))
     where
-      go : (q : List Link) → successorPlan st l b q .possible ≡ true → Shape (successorPlan st l b q) 2
+      go : (q : List Link) → successorPlan st l b q .possible ≡ true → DeleteShape (successorPlan st l b q) 2
       go [] y = absurd (false≢true y)
       go (a ∷ up) y =
           let c = linkNode st a in
           rw (eq-eqb (child p L (child p R b)) 0 z) (second (store l Adopt) (store l Promote) (endingStores (fixupAfterRemoval p c (child p R c) (a ∷ up) .ending)) refl refl refl
           (λ capacity h. refl) (let i = few-removal p c (child p R c) (a ∷ up) in omega arith))
 
-  third-form : twoChildren p b ≡ true → child p L (child p R b) ≢ 0 → deletePlan st l b .possible ≡ true → Shape (deletePlan st l b) 1
+  third-form : twoChildren p b ≡ true → child p L (child p R b) ≢ 0 → deletePlan st l b .possible ≡ true → DeleteShape (deletePlan st l b) 1
   unfolding deletePlan
   third-form e z ok = rw e (go (successorPath p b way) (rw e at ok))
     where
-      go : (q : List Link) → successorPlan st l b q .possible ≡ true → Shape (successorPlan st l b q) 1
+      go : (q : List Link) → successorPlan st l b q .possible ≡ true → DeleteShape (successorPlan st l b q) 1
       go [] y = absurd (false≢true y)
       go (a ∷ up) y =
           let c = linkNode st a in
@@ -128,7 +128,7 @@ module _ (st : State) (l : Link) (b : ℕ) where
 
   -- by the tree at the place
   form-of : (f : ℕ → Colour) (c : Colour) (k v : ℕ) (x y : Linked) → Rep p (child p L b) x → Rep p (child p R b) y → deletePlan st l b .possible ≡ true
-      → Shape (deletePlan st l b) (cond (adopts (node c k v (erase f x) (erase f y))) 2 1)
+      → DeleteShape (deletePlan st l b) (cond (adopts (node c k v (erase f x) (erase f y))) 2 1)
   form-of f c k v nil y hx hy ok = first-form (rw (eq-eqb (child p L b) 0 hx))
   form-of f c k v (cell N a d) nil hx hy ok = first-form (rw (eq-eqb (child p R b) 0 hy) (and-false (not (eqb (child p L b) 0)) false refl))
   form-of f c k v (cell N a d) (cell M nil e) hx hy ok =
@@ -138,7 +138,7 @@ module _ (st : State) (l : Link) (b : ℕ) where
 
 -- the place found, in the pool and in the sequential tree
 place-shape : (st : State) (T : Linked) (k : ℕ) (S : Tree) → Rest st T → erase (colours (st .pool)) T ≡ S → (pl : Place) → Placed T k pl → isHeld pl ≡ true → deleteAt st pl .possible ≡ true
-    → Shape (deleteAt st pl) (cond (adopts (descend S k [] .at)) 2 1)
+    → DeleteShape (deleteAt st pl) (cond (adopts (descend S k [] .at)) 2 1)
 place-shape st T k S r e pl (empty-at fs q i n) held ok = absurd (false≢true held)
 place-shape st T k S r e pl (held-at fs N x y q i j n) held ok =
     let f = colours (st .pool) in
@@ -201,7 +201,8 @@ writerSide-delete st x T k safe h e =
       started = h .started;
     }
 
-    finish : (w : Plan) (i : ℕ) → i ≡ indexOf (begun x (deletion k)) (deletion k) → Shape w i → InHand (planned st (w .stores)) (seqOf (begun x (deletion k))) T (w .stores) → 4 ≤ st .register .free
+    finish : (w : Plan) (i : ℕ) → i ≡ indexOf (begun x (deletion k)) (deletion k) → DeleteShape w i → InHand (planned st (w .stores)) (seqOf (begun x (deletion k))) T (w .stores)
+        → 4 ≤ st .register .free
         → ((s : Store) → ((capacity n : ℕ) → heldAfter (s .step) capacity n ≡ n - 1) → (p : Pending (planned st (w .stores)) (begun x (deletion k)) s) × (p .change ≡ deletion k))
         → WriterSide (planned st (w .stores)) (begun x (deletion k)) T
     finish w i j (at-once s l a b f t) ih free pending =

@@ -146,7 +146,7 @@ unfolding withWrite
 with-free r w = refl
 
 -- an insert's plan, of a key that is held or not: its list store comes first; what it makes of keys held, and how many nodes all its stores take
-record Shape (st : State) (k v : ℕ) (ts : List Ticket) (w : List Store) : Type 0 where
+record InsertShape (st : State) (k v : ℕ) (ts : List Ticket) (w : List Store) : Type 0 where
   first : Store
   others : List Store
   are : w ≡ first ∷ others
@@ -155,7 +155,7 @@ record Shape (st : State) (k v : ℕ) (ts : List Ticket) (w : List Store) : Type
   counts : heldAfter (first .step) (poolNodes (st .pool)) (st .register .held) ≡ length (updated (insertion k v) ts)
 
 insert-shape : (st : State) (k v : ℕ) (ts : List Ticket) → Unique ts → st .register .held ≡ length ts → (pl : Place) → tooDeep pl ≡ false → isHeld pl ≡ heldOf (recordFor k ts)
-    → (not (isHeld pl) && full st) ≡ false → Shape st k v ts (insertAt st k v pl .stores)
+    → (not (isHeld pl) && full st) ≡ false → InsertShape st k v ts (insertAt st k v pl .stores)
 unfolding insertPlan
 insert-shape st k v ts u n (Held l m) d e room =
     let old = some-of (recordFor k ts) (sym e) in

@@ -13,7 +13,8 @@ use Rattle.datatypes.specs.declared.Register.{Register}
 use Rattle.spec.specs.Numbers.{nodeWords, leastNodes, mostNodes}
 use Rattle.spec.specs.Pool.{nodes as poolNodes, word, colourWord, standingWord, redColour, standingLinked}
 use Rattle.spec.specs.Register.{state}
-use Rattle.spec.specs.Calls.{ok, outcome, setUp, Call}
+use Rattle.spec.specs.Calls.{ok, outcome, setUp, Call, call}
+use Rattle.readers.specs.CallCase.{call-case}
 use Rattle.tree.specs.Linked.{Linked, nil, cell, find, nodes}
 use Rattle.tree.specs.Occurs.{occ-distinct, nodes-size}
 use Rattle.tree.specs.Erase.{erase, erase-find}
@@ -23,7 +24,7 @@ use Rattle.heap.specs.Phase.{phase-rep}
 use Rattle.heap.specs.Writes.{write-count}
 use Rattle.heap.specs.Accept.{searched, insert-possible, delete-possible}
 use Rattle.promise.specs.Run.{Start, justSetUp, afterSetUp, indexAfter, Reading}
-use Rattle.promise.specs.Demands.{colourNumber, Stands, PromiseFrom, Promise}
+use Rattle.promise.specs.Demands.{colourNumber, Stands, NoEight, PromiseFrom, Promise}
 use Rattle.readers.specs.Words.{node-high}
 use Rattle.readers.specs.Reach.{Kept}
 use Rattle.runs.specs.Writer.{Writer}
@@ -31,7 +32,7 @@ use Rattle.runs.specs.Sound.{Starts}
 use Rattle.promise.specs.Starts.{SoundStart}
 use Rattle.runs.specs.Starts.{ranged-start, safe-start}
 use Rattle.runs.specs.Begin.{sound-fresh}
-use Rattle.runs.specs.Rest.{length-right, Completes}
+use Rattle.runs.specs.Rest.{length-right, Completes, refused-by, not-eight}
 use Rattle.runs.specs.Facts as Facts
 use Rattle.runs.specs.Facts.{TicketAt}
 use Rattle.runs.specs.Whole as Whole
@@ -117,6 +118,10 @@ promise-from S h cs = Whole.promise WriterSide writer completes S (starts-sound 
 -- and so, as 01's demands have it, on a pool of N nodes just set up
 pub promise : (N : ℕ) → leastNodes ≤ N → N ≤ mostNodes → (cs : List Call) → Promise N cs
 promise N lo hi cs = promise-from (justSetUp N) (sound-fresh N lo hi) cs
+
+-- 02, C-13: no call on any pool and register answers 8.
+pub no-eight : NoEight
+no-eight st c e = not-eight st c (refused-by st c (call st c) 8 (omega arith) (call-case st c) e)
 
 -- Set up on a pool of N nodes, whatever its words and the register are, leaves that start; so the promise holds of every list of calls after it.
 module _ (p : List ℕ) (r : Register) (N : ℕ) (lo : leastNodes ≤ N) (hi : N ≤ mostNodes) (size : length p ≡ N * nodeWords) where

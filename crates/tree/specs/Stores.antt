@@ -24,7 +24,8 @@ module _ (Z : Node) where
   pub insert-path : (P : ℕ → Type 0) → Thins P nil (cell Z nil nil)
   insert-path P q = search thin
 
--- replace: a copy of B with the record v takes its place; what lookups find is known by the sequential tree, at rest
+-- replace: a copy of B with the record v takes its place. S1 isn't needed: after it the write is done, and at rest lookups find what the
+-- sequential tree has.
 module _ (B : Node) (n v : ℕ) (l r : Linked) where
   pub replace-path : (P : ℕ → Type 0) → P (B .num) → Thins P (cell B l r) (cell (replacement B n v) l r)
   replace-path P p q = tri-case L q (B .key) (λ _ e. rw e (search thin)) (λ _ e. rw e (search thin)) (λ _ e. rw e (search thin))
