@@ -49,7 +49,7 @@ fn refusals(counts: &[u64]) {
     }
 }
 
-fn writer(counts: &[u64]) {
+fn inserts(counts: &[u64]) {
     line(
         b"inserts of a new key accepted",
         tally::get(counts, tally::ACCEPTED + 1),
@@ -78,6 +78,9 @@ fn writer(counts: &[u64]) {
         b"inserts of a held key refused by 11",
         tally::get(counts, tally::REPLACED_FEW),
     );
+}
+
+fn deletes(counts: &[u64]) {
     line(b"deletes accepted", tally::get(counts, tally::ACCEPTED + 2));
     line(b"deletes finished", tally::get(counts, tally::FINISHED + 2));
     line(
@@ -92,6 +95,9 @@ fn writer(counts: &[u64]) {
         b"deletes of the other form",
         tally::get(counts, tally::FORMS + 3),
     );
+}
+
+fn turns(counts: &[u64]) {
     line(b"more", tally::get(counts, tally::MORE));
     line(b"done", tally::get(counts, tally::DONE));
     line(b"wait", tally::get(counts, tally::WAIT));
@@ -196,7 +202,9 @@ fn comparisons(counts: &[u64]) {
 pub fn all(counts: &[u64]) {
     calls(counts);
     refusals(counts);
-    writer(counts);
+    inserts(counts);
+    deletes(counts);
+    turns(counts);
     readers(counts);
     next_searches(counts);
     steps(counts);

@@ -109,9 +109,8 @@ pub record Computed : Type 0 where
   pub answers18 : call (indexAfter nine overtaken 18) (turning 0) .answer ≡ next 10 100
   pub begins10 : allIn (λ i. not (isBegin (callAt overtaken i))) 0 10 ≡ true
   pub never : allIn (λ t. not (tenIsNext t)) 11 20 ≡ true
-  -- after the replacement one key is held; the old node is retired and keeps its record
+  -- after the replacement one key is held, and the old node keeps its record
   pub heldThen : indexAfter start replacing 6 .register .held ≡ 1
-  pub standsThen : standingAt (indexAfter start replacing 6) 1 ≡ standingRetired
   pub recordThen : recordAt (indexAfter start replacing 6 .pool) 1 ≡ 30
   -- slot 0 looks 3 up when call 6 comes, begun by no call before call 2; it answers 30; 3 is held at every moment from then on, in the end with 31
   pub readsThen : reading (indexAfter start replacing 6) 0 ≡ true
@@ -155,7 +154,6 @@ computed = record {
   begins10 = refl;
   never = refl;
   heldThen = refl;
-  standsThen = refl;
   recordThen = refl;
   readsThen = refl;
   kindThen = refl;

@@ -1,18 +1,17 @@
 -- An insert by the way that its tests go.
 use mathlib.Core.Path.{_≡_, _∙_}
 use mathlib.Core.List.{List}
-use mathlib.Core.Bool.{true, false}
+use mathlib.Core.Bool.{true, false, not, _&&_}
 use native.Mathlib.Omega.{arith}
 use lib.Dec.{leb}
 use lib.ListN.{drop}
 use borrow.Author.Tests.{le-leb, lt-leb}
 use Prim.Native.Nat.{ℕ, _+_, _-_, _<_, _≤_}
-use Rattle.datatypes.specs.declared.Link.{Link}
-use Rattle.datatypes.specs.declared.Place.the-variants.{Held, Empty, TooDeep}
+use Rattle.datatypes.specs.declared.Place.{Place}
+use Rattle.datatypes.specs.declared.Place.the-variants.{TooDeep}
 use Rattle.spec.specs.Numbers.{reserve, freeForInsert}
 use Rattle.spec.specs.Register.{State, state, withWrite, writeOf}
-use Rattle.spec.specs.Plan.{insertPlan, replacePlan}
-use Rattle.spec.specs.Calls.{Test, outcome, refused, ok, firstOf, writeInHand, placeOf, full, fewerFree, insertAt, acceptedPlan, insertTests, insert}
+use Rattle.spec.specs.Calls.{Test, outcome, refused, ok, firstOf, writeInHand, placeOf, tooDeep, isHeld, full, fewerFree, insertAt, acceptedPlan, insertTests, insert}
 use Rattle.laws.specs.Tests.{lentNumber, lent-refused, lent-passes, unless-refused, unless-done}
 
 -- the test for a full index, as a sum
@@ -44,33 +43,22 @@ module _ (st : State) (k v : ℕ) where
       pub insert-deep : placeOf st k ≡ TooDeep → insert st k v ≡ outcome (refused 12) st
       insert-deep x = stops 12 (rw (idle, x)) (omega arith)
 
-      -- 02, C-13: a held key
-      module _ (l : Link) (n : ℕ) (x : placeOf st k ≡ Held l n) where
-        pub replace-few : fewerFree st freeForInsert ≡ true → insert st k v ≡ outcome (refused 11) st
-        replace-few f = stops 11 (rw (idle, x, f)) (omega arith)
+      -- the place found, of a key that is held or not
+      module _ (p : Place) (x : placeOf st k ≡ p) (reached : tooDeep p ≡ false) where
+        pub insert-full : (not (isHeld p) && full st) ≡ true → insert st k v ≡ outcome (refused 10) st
+        insert-full f = stops 10 (rw (idle, x, reached, f)) (omega arith)
 
-        pub replace-goes : fewerFree st freeForInsert ≡ false
-            → insert st k v ≡ outcome ok (state (st .pool) (withWrite (st .register) (writeOf (replacePlan v l .stores))))
-        unfolding insert
-        replace-goes f =
-            unless-done (insertTests st k v) st (acceptedPlan st (insertAt st k v (placeOf st k))) (lent-passes st later lent ∙ rw (idle, x, f))
-            ∙ rw x
-
-      module _ (l : Link) (x : placeOf st k ≡ Empty l) where
-        pub insert-full : full st ≡ true → insert st k v ≡ outcome (refused 10) st
-        insert-full f = stops 10 (rw (idle, x, f)) (omega arith)
-
-        module _ (room : full st ≡ false) where
+        module _ (room : (not (isHeld p) && full st) ≡ false) where
           pub insert-few : fewerFree st freeForInsert ≡ true → insert st k v ≡ outcome (refused 11) st
-          insert-few f = stops 11 (rw (idle, x, room, f)) (omega arith)
+          insert-few f = stops 11 (rw (idle, x, reached, room, f)) (omega arith)
 
           module _ (enough : fewerFree st freeForInsert ≡ false) where
-            pub insert-missing : insertPlan st k v l .possible ≡ false → insert st k v ≡ outcome (refused 12) st
-            insert-missing p = stops 12 (rw (idle, x, room, enough, p)) (omega arith)
+            pub insert-missing : insertAt st k v p .possible ≡ false → insert st k v ≡ outcome (refused 12) st
+            insert-missing e = stops 12 (rw (idle, x, reached, room, enough, e)) (omega arith)
 
-            pub insert-goes : insertPlan st k v l .possible ≡ true
-                → insert st k v ≡ outcome ok (state (st .pool) (withWrite (st .register) (writeOf (insertPlan st k v l .stores))))
+            pub insert-goes : insertAt st k v p .possible ≡ true
+                → insert st k v ≡ outcome ok (state (st .pool) (withWrite (st .register) (writeOf (insertAt st k v p .stores))))
             unfolding insert
-            insert-goes p =
-                unless-done (insertTests st k v) st (acceptedPlan st (insertAt st k v (placeOf st k))) (lent-passes st later lent ∙ rw (idle, x, room, enough, p))
+            insert-goes e =
+                unless-done (insertTests st k v) st (acceptedPlan st (insertAt st k v (placeOf st k))) (lent-passes st later lent ∙ rw (idle, x, reached, room, enough, e))
                 ∙ rw x

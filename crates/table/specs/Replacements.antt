@@ -5,7 +5,7 @@ use Rattle.datatypes.specs.declared.Link.the-variants.{Root, Left, Right}
 use Rattle.datatypes.specs.declared.Step.the-variants.{Replace, Unlink}
 use Rattle.spec.specs.Register.{State}
 use Rattle.spec.specs.Calls.{ok, go, absent, wait, found, next, more, done, refused}
-use Rattle.table.specs.Picture.{Row, row, _keptBy_, slot_wants_at_, slot_after_at_with_, Nothing, Ticket, root_held_awaited_stores_, picture, none}
+use Rattle.table.specs.Picture.{Row, Change, row, _keptBy_, slot_wants_at_, slot_after_at_with_, Nothing, Ticket, root_held_awaited_stores_, picture, none}
 use Rattle.table.specs.Picture.{nil, red, black, redLeaf, blackLeaf, tree, _on_, key, value, left, right, colour, standing, holders, nextFree}
 use Rattle.table.specs.Picture.{_of_:=_, root:=_, first:=_, last:=_, free:=_, held:=_, awaited:=_, count:=_, reader_:=_, store_:=_, hand}
 use Rattle.table.specs.Picture.{fills, atRest, reads, _but_, unset}
@@ -28,6 +28,10 @@ full = tree 8 (black (black redLeaf nil) blackLeaf)
 abbrev rootReplaced : List Row
 rootReplaced = row 1 10 100 1 0 0 ∷ row 3 30 300 1 0 0 ∷ row 4 20 201 0 1 3 ∷ []
 
+-- what changes in `three` when it is
+abbrev rootStored : List Change
+rootStored = standing of 2 := 0 ∷ fills (row 4 20 201 0 1 3) ∷ nextFree of 8 := 2 ∷ root:= 4 ∷ first:= 5 ∷ last:= 2 ∷ []
+
 -- in `five`, key 40 replaced with the record 401
 abbrev innerReplaced : List Row
 innerReplaced = row 1 10 100 0 0 0 ∷ row 2 20 200 0 1 6 ∷ row 3 30 300 1 0 0 ∷ row 5 50 500 1 0 0 ∷ row 6 40 401 0 3 5 ∷ []
@@ -40,7 +44,7 @@ replacements =
     ∷ leaves (count:= 1 ∷ store 0 := (Replace 201 on Root) ∷ [])
     ∷ W ⇒ done Root 4
     ∷ stands (picture (root 4 held 3 awaited 0 stores 0) [] rootReplaced [] (5 ∷ 6 ∷ 7 ∷ 8 ∷ 2 ∷ []))
-    ∷ leaves (standing of 2 := 0 ∷ fills (row 4 20 201 0 1 3) ∷ nextFree of 8 := 2 ∷ root:= 4 ∷ first:= 5 ∷ last:= 2 ∷ [])
+    ∷ leaves rootStored
     ∷ W ⇒ refused 7 ∷ [])
     ∷ entry "replace: the only key" single
     (I 10 101 ⇒ ok
@@ -234,13 +238,13 @@ replacements =
     ∷ I 25 250 ⇒ refused 10 ∷ [])
     ∷ entry "replace: keys held N − 3" (three but (held:= 5 ∷ []))
     (I 25 250 ⇒ refused 10 ∷ I 20 201 ⇒ ok ∷ W ⇒ done Root 4
-    ∷ leaves (standing of 2 := 0 ∷ fills (row 4 20 201 0 1 3) ∷ nextFree of 8 := 2 ∷ root:= 4 ∷ first:= 5 ∷ last:= 2 ∷ []) ∷ [])
+    ∷ leaves rootStored ∷ [])
     ∷ entry "replace: keys held N" (three but (held:= 8 ∷ []))
     (I 25 250 ⇒ refused 10 ∷ I 20 201 ⇒ ok ∷ W ⇒ done Root 4
-    ∷ leaves (standing of 2 := 0 ∷ fills (row 4 20 201 0 1 3) ∷ nextFree of 8 := 2 ∷ root:= 4 ∷ first:= 5 ∷ last:= 2 ∷ []) ∷ [])
+    ∷ leaves rootStored ∷ [])
     ∷ entry "replace: keys held 0" (three but (held:= 0 ∷ []))
     (I 20 201 ⇒ ok ∷ W ⇒ done Root 4
-    ∷ leaves (standing of 2 := 0 ∷ fills (row 4 20 201 0 1 3) ∷ nextFree of 8 := 2 ∷ root:= 4 ∷ first:= 5 ∷ last:= 2 ∷ []) ∷ [])
+    ∷ leaves rootStored ∷ [])
     ∷ entry "replace: three free nodes are enough" (three but (free:= 3 ∷ []))
     (I 20 201 ⇒ ok
     ∷ leaves (hand (Replace 201 on Root) ∷ []) ∷ [])
@@ -307,7 +311,7 @@ replacements =
     ∷ leaves (right of 2 := 4 ∷ standing of 3 := 0 ∷ fills (row 4 30 301 1 0 0) ∷ nextFree of 8 := 3 ∷ first:= 5 ∷ last:= 3 ∷ []) ∷ [])
     ∷ entry "replace: of two nodes with the key the upper one" (three but (key of 1 := 20 ∷ key of 3 := 20 ∷ []))
     (I 20 201 ⇒ ok ∷ W ⇒ done Root 4
-    ∷ leaves (standing of 2 := 0 ∷ fills (row 4 20 201 0 1 3) ∷ nextFree of 8 := 2 ∷ root:= 4 ∷ first:= 5 ∷ last:= 2 ∷ []) ∷ [])
+    ∷ leaves rootStored ∷ [])
     ∷ entry "replace: a key in a circle is found; one that isn't there gives 12" (three but (left of 1 := 2 ∷ []))
     (I 5 50 ⇒ refused 12 ∷ I 10 101 ⇒ ok ∷ W ⇒ done (Left 2) 4
     ∷ leaves (standing of 1 := 0 ∷ left of 2 := 4 ∷ fills (row 4 10 101 1 2 0) ∷ nextFree of 8 := 1 ∷ first:= 5 ∷ last:= 1 ∷ []) ∷ [])
@@ -342,7 +346,7 @@ replacements =
     ∷ leaves (standing of 2 := 0 ∷ fills (row 4 20 201 0 1 3) ∷ nextFree of 8 := 2 ∷ root:= 4 ∷ first:= 5 ∷ last:= 2 ∷ free:= 1 ∷ atRest ∷ []) ∷ [])
     ∷ entry "replace: the free count at N" (three but (free:= 8 ∷ []))
     (I 20 201 ⇒ ok ∷ W ⇒ done Root 4
-    ∷ leaves (standing of 2 := 0 ∷ fills (row 4 20 201 0 1 3) ∷ nextFree of 8 := 2 ∷ root:= 4 ∷ first:= 5 ∷ last:= 2 ∷ []) ∷ [])
+    ∷ leaves rootStored ∷ [])
     ∷ entry "replace: keys held N − 4, leaves, red and black, beside a reader" (full but (reader 0 := (reads 5 0) ∷ []))
     (I 10 101 ⇒ ok
     ∷ leaves (hand (Replace 101 on Left 2) ∷ [])

@@ -5,7 +5,8 @@ use Rattle.spec.specs.Pool.{nodes}
 use Rattle.laws.specs.Inserts.{insert-full, insert-few, insert-missing, insert-goes, reserve-true, reserve-false}
 use Rattle.laws.specs.Tests.{lent}
 use mathlib.Core.Bool.{true, false}
-use mathlib.Core.Path.{_≡_, sym, ap, _∙_}
+use Rattle.datatypes.specs.declared.Place.the-variants.{Empty}
+use mathlib.Core.Path.{_≡_, refl, sym, ap, _∙_}
 use borrow.Author.Tests.{lt-ltb, le-ltb, not-true, not-false}
 use borrow.Author.Needs.{needs}
 use Rattle.accepts.proofs.insert_at.Statement.{statement}
@@ -39,7 +40,7 @@ returns c =
     let a = c5 .args in
     let st = state (a .pool .now) (a .reg) in
     let f : full st ≡ true = reserve-true (nodes (a .pool .now)) (a .reg .held) (rw (← (c3 .nodes .ensures)) (c .before .if1 .taken)) in
-    let e = insert-full st (a .k) (a .v) (c5 .pre .0) (c5 .pre .1) (a .l) (c5 .pre .2) f in
+    let e = insert-full st (a .k) (a .v) (c5 .pre .0) (c5 .pre .1) (Empty (a .l)) (c5 .pre .2) refl f in
     (c .refused .ensures .0 ∙ sym (ap (λ (o : Outcome). o .answer) e), rw (c .refused .ensures .1) (sym (ap (λ (o : Outcome). o .after) e)))
 
 refused-requires-2 : tie.Need-refused-requires-2
@@ -53,7 +54,7 @@ returns-2 c =
     let a = c7 .args in
     let st = state (a .pool .now) (a .reg) in
     let f : full st ≡ false = reserve-false (nodes (a .pool .now)) (a .reg .held) (rw (← (c5 .nodes .ensures)) (c3 .if1 .left)) in
-    let e = insert-few st (a .k) (a .v) (c7 .pre .0) (c7 .pre .1) (a .l) (c7 .pre .2) f (lt-ltb _ _ (c .before .if2 .taken)) in
+    let e = insert-few st (a .k) (a .v) (c7 .pre .0) (c7 .pre .1) (Empty (a .l)) (c7 .pre .2) refl f (lt-ltb _ _ (c .before .if2 .taken)) in
     (c .refused2 .ensures .0 ∙ sym (ap (λ (o : Outcome). o .answer) e), rw (c .refused2 .ensures .1) (sym (ap (λ (o : Outcome). o .after) e)))
 
 insert-plan-requires : tie.Need-insert-plan-requires
@@ -73,7 +74,7 @@ returns-3 c =
     let st = state (a .pool .now) (a .reg) in
     let f : full st ≡ false = reserve-false (nodes (a .pool .now)) (a .reg .held) (rw (← (c8 .nodes .ensures)) (c6 .if1 .left)) in
     let p : insertPlan st (a .k) (a .v) (a .l) .possible ≡ false = sym (c3 .insert-plan .ensures .0) ∙ not-true _ (c .before .if3 .taken) in
-    let e = insert-missing st (a .k) (a .v) (c10 .pre .0) (c10 .pre .1) (a .l) (c10 .pre .2) f (le-ltb _ _ (c4 .if2 .left)) p in
+    let e = insert-missing st (a .k) (a .v) (c10 .pre .0) (c10 .pre .1) (Empty (a .l)) (c10 .pre .2) refl f (le-ltb _ _ (c4 .if2 .left)) p in
     (c .refused3 .ensures .0 ∙ sym (ap (λ (o : Outcome). o .answer) e), rw (c .refused3 .ensures .1) (sym (ap (λ (o : Outcome). o .after) e)))
 
 accepted-requires : tie.Need-accepted-requires
@@ -90,7 +91,7 @@ returns-4 c =
     let st = state (a .pool .now) (a .reg) in
     let f : full st ≡ false = reserve-false (nodes (a .pool .now)) (a .reg .held) (rw (← (c9 .nodes .ensures)) (c7 .if1 .left)) in
     let p : insertPlan st (a .k) (a .v) (a .l) .possible ≡ true = sym (c4 .insert-plan .ensures .0) ∙ not-false _ (c .before .before .if3 .left) in
-    let e = insert-goes st (a .k) (a .v) (c11 .pre .0) (c11 .pre .1) (a .l) (c11 .pre .2) f (le-ltb _ _ (c5 .if2 .left)) p in
+    let e = insert-goes st (a .k) (a .v) (c11 .pre .0) (c11 .pre .1) (Empty (a .l)) (c11 .pre .2) refl f (le-ltb _ _ (c5 .if2 .left)) p in
     (c .accepted .ensures .0 ∙ sym (ap (λ (o : Outcome). o .answer) e), rw (c .accepted .ensures .1, c4 .insert-plan .ensures .1) (sym (ap (λ (o : Outcome). o .after) e)))
 
 pub insert-at-spec : {M : Type 1} → statement M

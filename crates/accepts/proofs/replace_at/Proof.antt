@@ -1,7 +1,8 @@
 use Rattle.spec.specs.Calls.{Outcome}
 use Rattle.spec.specs.Register.{state}
-use Rattle.laws.specs.Inserts.{replace-few, replace-goes}
-use mathlib.Core.Path.{sym, ap, _∙_}
+use Rattle.laws.specs.Inserts.{insert-few, insert-goes}
+use Rattle.datatypes.specs.declared.Place.the-variants.{Held}
+use mathlib.Core.Path.{refl, sym, ap, _∙_}
 use borrow.Author.Tests.{lt-ltb, le-ltb}
 use borrow.Author.Needs.{needs}
 use Rattle.accepts.proofs.replace_at.Statement.{statement}
@@ -20,7 +21,7 @@ returns c =
     let c3 = c .before .before .before in
     let a = c3 .args in
     let st = state (a .pool .now) (a .reg) in
-    let e = replace-few st (a .k) (a .v) (c3 .pre .0) (c3 .pre .1) (a .l) (c3 .pre .2 .0) (c3 .pre .2 .1) (lt-ltb _ _ (c .before .if1 .taken)) in
+    let e = insert-few st (a .k) (a .v) (c3 .pre .0) (c3 .pre .1) (Held (a .l) (c3 .pre .2 .0)) (c3 .pre .2 .1) refl refl (lt-ltb _ _ (c .before .if1 .taken)) in
     (c .refused .ensures .0 ∙ sym (ap (λ (o : Outcome). o .answer) e), rw (c .refused .ensures .1) (sym (ap (λ (o : Outcome). o .after) e)))
 
 replace-plan-requires : tie.Need-replace-plan-requires
@@ -34,7 +35,7 @@ returns-2 c =
     let c5 = c .before .before .before .before .before in
     let a = c5 .args in
     let st = state (a .pool .now) (a .reg) in
-    let e = replace-goes st (a .k) (a .v) (c5 .pre .0) (c5 .pre .1) (a .l) (c5 .pre .2 .0) (c5 .pre .2 .1) (le-ltb _ _ (c .before .before .before .if1 .left)) in
+    let e = insert-goes st (a .k) (a .v) (c5 .pre .0) (c5 .pre .1) (Held (a .l) (c5 .pre .2 .0)) (c5 .pre .2 .1) refl refl (le-ltb _ _ (c .before .before .before .if1 .left)) refl in
     (c .accepted .ensures .0 ∙ sym (ap (λ (o : Outcome). o .answer) e), rw (c .accepted .ensures .1, c .before .before .replace-plan .ensures .1) (sym (ap (λ (o : Outcome). o .after) e)))
 
 pub replace-at-spec : {M : Type 1} → statement M
