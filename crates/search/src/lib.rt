@@ -25,20 +25,27 @@ pub fn child_towards(pool: &[u32], k: u32, n: u32) -> u32
     pool::child(pool, towards(pool, k, n), n)
 }
 
-// Searches for a key from node n, which the link l holds, with so many nodes still allowed.
+// Searches for a key from node n, which the link l holds, with so many nodes still allowed. Its one loop is left with the place:
+// the link that is empty, the node that has the key, or too deep where a node comes after those allowed.
 pub fn seek(pool: &[u32], k: u32, l: Link, n: u32, allowed: u32) -> Place
     ensures { λ r. ⌜ r ≡ seek (now (pool .entry)) k allowed l n ⌝ }
 {
-    if n == 0 {
-        return Place::Empty(l);
+    let mut link = l;
+    let mut node = n;
+    let mut remaining = allowed;
+    loop {
+        if node == 0 {
+            break Place::Empty(link);
+        }
+        if remaining == 0 {
+            break Place::TooDeep;
+        }
+        if k == pool::word(pool, node, pool::KEY) {
+            break Place::Held(link, node);
+        }
+        let s = towards(pool, k, node);
+        link = links::link_at(s, node);
+        node = pool::child(pool, s, node);
+        remaining -= 1;
     }
-    if allowed == 0 {
-        return Place::TooDeep;
-    }
-    if k == pool::word(pool, n, pool::KEY) {
-        return Place::Held(l, n);
-    }
-    let s = towards(pool, k, n);
-    let next = pool::child(pool, s, n);
-    seek(pool, k, links::link_at(s, n), next, allowed - 1)
 }
