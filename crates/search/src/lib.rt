@@ -25,8 +25,7 @@ pub fn child_towards(pool: &[u32], k: u32, n: u32) -> u32
     pool::child(pool, towards(pool, k, n), n)
 }
 
-// Searches for a key from node n, which the link l holds, with so many nodes still allowed. Its one loop is left with the place:
-// the link that is empty, the node that has the key, or too deep where a node comes after those allowed.
+// Searches for a key from node n, which the link l holds, with so many nodes still allowed: one loop, left with the place where it ends.
 pub fn seek(pool: &[u32], k: u32, l: Link, n: u32, allowed: u32) -> Place
     ensures { λ r. ⌜ r ≡ seek (now (pool .entry)) k allowed l n ⌝ }
 {
