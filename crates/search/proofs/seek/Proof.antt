@@ -54,17 +54,10 @@ loop-again c =
     rw (c .child .ensures, c .before .link-at .ensures, c .before .before .towards .ensures) (sym deeper ∙ l .inv)
 
 returns : tie.Need-returns Inv-loop μ-loop
-returns c =
-    let a = c .before .before .before .args in
-    let l = c .before .loop in
-    sym (seek-empty (a .pool .now) (a .k) (l .remaining) (l .link) (l .node) (c .if1 .taken)) ∙ l .inv
+returns c = sym (seek-empty _ _ _ _ _ (c .if1 .taken)) ∙ c .before .loop .inv
 
 returns-2 : tie.Need-returns-2 Inv-loop μ-loop
-returns-2 c =
-    let c2 = c .before .before in
-    let a = c2 .before .before .args in
-    let l = c2 .loop in
-    sym (seek-deep (a .pool .now) (a .k) (l .remaining) (l .link) (l .node) (c .before .if1 .left) (c .if2 .taken)) ∙ l .inv
+returns-2 c = sym (seek-deep _ _ _ _ _ (c .before .if1 .left) (c .if2 .taken)) ∙ c .before .before .loop .inv
 
 returns-3 : tie.Need-returns-3 Inv-loop μ-loop
 returns-3 c =
