@@ -70,6 +70,21 @@ module _ {A : Type 0} (f : A → ℕ → A) where
       let x : e - n ≡ 0 = omega arith in
       rw x
 
+-- what each step takes from one number to the next holds at the walk's end
+module _ {A : Type 0} (f : A → ℕ → A) (P : ℕ → A → Type 0) where
+  walk-from : (k n : ℕ) (a : A) → ((i : ℕ) (a : A) → n ≤ i → i < n + k → P i a → P (i + 1) (f a i)) → P n a → P (n + k) (foldFrom f k n a)
+  unfolding foldFrom
+  walk-from zero n a step h = let e : n + 0 ≡ n = omega arith in rw e h
+  walk-from (suc k) n a step h =
+      let e : n + suc k ≡ n + 1 + k = omega arith in
+      rw e (walk-from k (n + 1) (f a n) (λ i b l u. step i b (omega arith) (omega arith)) (step n a (omega arith) (omega arith) h))
+
+  pub walk : (n e : ℕ) (a : A) → n ≤ e → ((i : ℕ) (a : A) → n ≤ i → i < e → P i a → P (i + 1) (f a i)) → P n a → P e (foldIn f n e a)
+  unfolding foldIn
+  walk n e a l step h =
+      let x : n + (e - n) ≡ e = omega arith in
+      rw x at (walk-from (e - n) n a (λ i b u v. step i b u (omega arith)) h)
+
 -- what holds of both cases holds of the choice
 pub cond-both : {A : Type 0} (P : A → Type 0) (b : Bool) {x y : A} → P x → P y → P (cond b x y)
 cond-both P true p q = p

@@ -1,5 +1,6 @@
 pub mod Words
 pub mod Slots
+pub mod Reading
 pub mod Queue
 pub mod Freed
 pub mod Tests

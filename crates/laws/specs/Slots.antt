@@ -1,9 +1,9 @@
--- Bits of slots: put, dropped, another slot; once over the slot, and for any number of slots.
+-- Bits of slots: put, dropped, another slot; once over the slot, and for any number w of slots. A word has room for 32 (`wordBits`).
 use mathlib.Core.Path.{_≡_, refl, ap, sym, _∙_}
-use mathlib.Core.Bool.{true, false}
-use mathlib.Core.Logic.{_≢_}
+use mathlib.Core.Bool.{Bool, true, false}
+use mathlib.Core.Logic.{_≢_, _⊎_, inl, inr}
 use lib.Dec.{lit<}
-use lib.Pow.{shl-exact}
+use lib.Pow.{shl-exact, pow-pos}
 use borrow.Author.Tests.{eq-eqb, ne-eqb, eqb-true, eqb-false}
 use native.Mathlib.Decide.{ℕ-discrete}
 use native.Mathlib.Nat.{pow-succ', div-div-eq-div-mul, div-one, div-eq-of-lt, one-mul}
@@ -123,6 +123,28 @@ no-slot (suc w) m h none =
     let low : m % 2 ≢ 1 = λ e. eqb-false _ _ (none 0 (omega arith)) (bit-low m ∙ e) in
     let half = no-slot w (m / 2) (omega arith) (λ s l. rw (bit-half m s) at (none (suc s) (omega arith))) in
     omega arith
+
+-- 0 has no slot
+pub no-bit : (t : ℕ) → hasSlot 0 t ≡ false
+no-bit t = ne-eqb (0 / 2 ^ t % 2) 1 (let z : 0 / 2 ^ t ≡ 0 = div-eq-of-lt (pow-pos t) in omega arith)
+
+-- a mask that is not 0 has a slot
+find-slot : (w m : ℕ) → ((s : ℕ) × (s < w) × (hasSlot m s ≡ true)) ⊎ ((s : ℕ) → s < w → hasSlot m s ≡ false)
+find-slot zero m = inr (λ s u. absurd (omega arith))
+find-slot (suc w) m = go (hasSlot m w) refl (find-slot w m)
+  where
+    go : (b : Bool) → hasSlot m w ≡ b → ((s : ℕ) × (s < w) × (hasSlot m s ≡ true)) ⊎ ((s : ℕ) → s < w → hasSlot m s ≡ false)
+        → ((s : ℕ) × (s < suc w) × (hasSlot m s ≡ true)) ⊎ ((s : ℕ) → s < suc w → hasSlot m s ≡ false)
+    go true e r = inl (w, omega arith, e)
+    go false e (inl r) = inl (r .0, (let a = r .1 in omega arith), r .2)
+    go false e (inr r) = inr (λ s u. elim (ℕ-discrete s w) [ yes i ↦ rw i e | no d ↦ r s (omega arith) ])
+
+pub some-slot : (w m : ℕ) → m < 2 ^ w → m ≢ 0 → (s : ℕ) × (s < w) × (hasSlot m s ≡ true)
+some-slot w m u d = go (find-slot w m)
+  where
+    go : ((s : ℕ) × (s < w) × (hasSlot m s ≡ true)) ⊎ ((s : ℕ) → s < w → hasSlot m s ≡ false) → (s : ℕ) × (s < w) × (hasSlot m s ≡ true)
+    go (inl r) = r
+    go (inr r) = absurd (d (no-slot w m u r))
 
 -- the bit of a slot as the code shifts it
 pub shifted : (s : ℕ) → s < wordBits → (1 * 2 ^ s) % 4294967296 ≡ 2 ^ s

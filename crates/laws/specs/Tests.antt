@@ -9,7 +9,7 @@ use native.Mathlib.Omega.{arith}
 use Prim.Native.Nat.{ℕ, _<_, _≤_, _*_, _%_}
 use Rattle.base.specs.Walk.{allIn, all-in}
 use Rattle.datatypes.specs.declared.Register.{Register}
-use Rattle.spec.specs.Numbers.{nodeWords, leastNodes, mostNodes, poolLimit, slots, allSlots, mostStores}
+use Rattle.spec.specs.Numbers.{nodeWords, leastNodes, mostNodes, poolLimit, slots, mostStores}
 use Rattle.spec.specs.Pool.{nodes, lengthRight, nodeInRange, poolInRange, leftWord, rightWord, colourWord, standingWord, holdersWord, nextWord}
 use Rattle.spec.specs.Register.{State, readerOf, readerInRange, storeInRange, registerInRange}
 use Rattle.laws.specs.Words.{word-none}
@@ -107,7 +107,6 @@ none-fits p capacity =
       word-none p rightWord,
       word-none p colourWord,
       word-none p standingWord,
-      word-none p holdersWord,
       word-none p nextWord,
       le-leb 0 capacity (omega arith),
     )
@@ -116,7 +115,7 @@ none-fits p capacity =
 pub reader-fits : (capacity : ℕ) (r : Register) (s : ℕ) → registerInRange capacity r ≡ true → s < slots → readerOf r s .node ≤ capacity
 unfolding registerInRange
 reader-fits capacity r s h u =
-    let numbers = leb (r .root) capacity && leb (r .first) capacity && leb (r .last) capacity && (leb (r .free) capacity && leb (r .held) capacity && leb (r .awaited) allSlots) in
+    let numbers = leb (r .root) capacity && leb (r .first) capacity && leb (r .last) capacity && (leb (r .free) capacity && leb (r .held) capacity) in
     let counted = leb (r .write .count) mostStores in
     let readers = allIn (readerInRange capacity r) 0 slots in
     let stores = allIn (storeInRange capacity (r .write)) 0 mostStores in

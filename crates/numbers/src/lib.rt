@@ -10,12 +10,10 @@ pub const MOST_NODES: usize = 1023;
 // the words of a program's array: more than the longest pool has
 pub const POOL_WORDS: usize = (MOST_NODES + 1) * NODE_WORDS;
 
-// reader slots (as a length and as a slot's number), and the largest mask of slots
-pub const SLOTS: usize = 8;
+// reader slots, as a length and as a slot's number
+pub const SLOTS: usize = 32;
 
 pub const SLOT_LIMIT: u32 = SLOTS as u32;
-
-pub const ALL_SLOTS: u32 = ((1u64 << SLOT_LIMIT) - 1) as u32;
 
 // the most nodes of a path, and its most links: one more, and the right link below it
 pub const PATH_BOUND: u32 = 64;

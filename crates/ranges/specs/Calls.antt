@@ -16,7 +16,7 @@ use Rattle.datatypes.specs.declared.Step.{Step}
 use Rattle.datatypes.specs.declared.Step.the-variants.{Vacant, Insert, Replace, DiagLower, DiagRaise, ZigLowerA, ZigLowerC, ZigRaise, Unlink, Adopt, Promote, Publish, Detach}
 use Rattle.datatypes.specs.declared.Write.{Write}
 use Rattle.datatypes.specs.declared.Reader.{Reader}
-use Rattle.spec.specs.Numbers.{slots, allSlots, pathBound, mostStores}
+use Rattle.spec.specs.Numbers.{slots, pathBound, mostStores}
 use Rattle.spec.specs.Pool.{word, leftWord, rightWord, colourWord, standingWord, holdersWord, nextWord, nodeInRange, poolInRange}
 use Rattle.spec.specs.Register.{State, state, vacant, readerOf, storeOf, withReader, withWrite, linkInRange, nodeNumber, stepInRange}
 use Rattle.spec.specs.Register.{storeInRange, readerInRange, registerInRange, writeOf, lessFirst}
@@ -75,7 +75,6 @@ node-true capacity p n h =
       le-leb (word p n rightWord) capacity (h n rightWord (omega arith) .right refl),
       le-leb (word p n colourWord) 1 (h n colourWord (omega arith) .colour refl),
       le-leb (word p n standingWord) 2 (h n standingWord (omega arith) .standing refl),
-      le-leb (word p n holdersWord) allSlots (h n holdersWord (omega arith) .holders refl),
       le-leb (word p n nextWord) capacity (h n nextWord (omega arith) .next refl),
     )
 
@@ -94,7 +93,6 @@ register-true capacity st g =
       le-leb (r .last) capacity (h .last),
       le-leb (r .free) capacity (h .free),
       le-leb (r .held) capacity (h .held),
-      le-leb (r .awaited) allSlots (h .awaited),
       le-leb (r .write .count) mostStores (g .write .few),
       in-all (readerInRange capacity r) 0 slots (λ s a b. le-leb (readerOf r s .node) capacity (h .readers s)),
       in-all (storeInRange capacity (r .write)) 0 mostStores (λ i a b. store-true capacity (r .write) i (g .write)),

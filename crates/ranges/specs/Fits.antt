@@ -19,7 +19,7 @@ use Rattle.datatypes.specs.declared.Link.the-variants.{Root, Left, Right}
 use Rattle.datatypes.specs.declared.Reader.{Reader}
 use Rattle.datatypes.specs.declared.Write.{Write}
 use Rattle.datatypes.specs.Side.{other}
-use Rattle.spec.specs.Numbers.{nodeWords, allSlots}
+use Rattle.spec.specs.Numbers.{nodeWords}
 use Rattle.spec.specs.Pool.{place, word, setWord, child, paint, nodes, keyWord, recordWord, leftWord, rightWord, linkWord, redColour, standingRetired}
 use Rattle.spec.specs.Pool.{colourWord, standingWord, holdersWord, nextWord, standingFree, standingLinked, standingRetired}
 use Rattle.spec.specs.Register.{State, state, noReader, readerOf, withRoot, withQueue, withHeld, withReader, withAwaited, withWrite, countUp}
@@ -27,8 +27,6 @@ use Rattle.spec.specs.Register.{countDown, nodeAt, linkNode, setLink, dropSlot,
 use Rattle.spec.specs.Free.{queueEmpty, takeFree, takeNode, freeNode, retire, retireTwo, release, endReading}
 use Rattle.laws.specs.Words.{length-setWord, set-none, word-at, set-at, word-other}
 use Rattle.laws.specs.Queue.{fill-keeps}
-use Rattle.laws.specs.Slots.{drop-le}
-use Rattle.readers.specs.Marks.{reading-below}
 use Rattle.readers.specs.Words.{fill-length}
 
 -- word f may be v; the capacity is N
@@ -37,7 +35,6 @@ pub record WordOk (capacity f v : ℕ) : Type 0 where
   pub right : f ≡ rightWord → v ≤ capacity
   pub colour : f ≡ colourWord → v ≤ redColour
   pub standing : f ≡ standingWord → v ≤ standingRetired
-  pub holders : f ≡ holdersWord → v ≤ allSlots
   pub next : f ≡ nextWord → v ≤ capacity
 
 abbrev pub PoolOk : ℕ → List ℕ → Type 0
@@ -88,8 +85,8 @@ fit-colour capacity v h = omega arith
 fit-standing : (capacity v : ℕ) → v ≤ 2 → WordOk capacity standingWord v
 fit-standing capacity v h = omega arith
 
-fit-holders : (capacity v : ℕ) → v ≤ allSlots → WordOk capacity holdersWord v
-fit-holders capacity v h = omega arith
+fit-holders : (capacity v : ℕ) → WordOk capacity holdersWord v
+fit-holders capacity v = omega arith
 
 pub fit-next : (capacity v : ℕ) → v ≤ capacity → WordOk capacity nextWord v
 fit-next capacity v h = omega arith
@@ -114,7 +111,6 @@ pub record Within (capacity : ℕ) (st : State) : Type 0 where
   pub last : st .register .last ≤ capacity
   pub free : st .register .free ≤ capacity
   pub held : st .register .held ≤ capacity
-  pub awaited : st .register .awaited ≤ allSlots
   pub readers : (s : ℕ) → readerOf (st .register) s .node ≤ capacity
 
 -- another pool of the same size
@@ -127,7 +123,6 @@ within-pool capacity st q e f h = record {
   last = h .last;
   free = h .free;
   held = h .held;
-  awaited = h .awaited;
   readers = h .readers;
 }
 
@@ -161,8 +156,7 @@ within-take capacity st k v s x y c hx hy hc h =
       last = cond-le (eqb next 0) 0 (st .register .last) capacity (omega arith) (h .last);
       free = let a = h .free in omega arith;
       held = h .held;
-      awaited = h .awaited;
-      readers = h .readers;
+          readers = h .readers;
     }
 
 -- Free, retire, release.
@@ -187,8 +181,7 @@ within-free capacity st n hn h =
       last = hn;
       free = rw (h .size) (count-up capacity (st .register .free) (h .free));
       held = h .held;
-      awaited = h .awaited;
-      readers = h .readers;
+          readers = h .readers;
     }
 
 pub within-retire : (capacity : ℕ) (st : State) (n : ℕ) → n ≤ capacity → Within capacity st → Within capacity (retire st n)
@@ -199,7 +192,7 @@ within-retire capacity st n hn h =
     let a = setWord p n standingWord standingRetired in
     cond-both (λ x. Within capacity x) (eqb m 0) (within-free capacity st n hn h)
     (within-pool capacity st (setWord a n holdersWord m) (length-setWord a n holdersWord m ∙ length-setWord p n standingWord standingRetired)
-    (fits-set capacity a n holdersWord m (omega arith) (fit-holders capacity m (let z = reading-below (st .register) in omega arith))
+    (fits-set capacity a n holdersWord m (omega arith) (fit-holders capacity m)
     (fits-set capacity p n standingWord standingRetired (omega arith) (fit-standing capacity standingRetired (omega arith)) (h .fits))) h)
 
 pub within-retireTwo : (capacity : ℕ) (st : State) (a c : ℕ) → a ≤ capacity → c ≤ capacity → Within capacity st → Within capacity (retireTwo st a c)
@@ -213,10 +206,9 @@ unfolding release
 within-release capacity s st n hn h =
     let p = st .pool in
     let d = dropSlot (word p n holdersWord) s in
-    let small : d ≤ allSlots = (let a = drop-le (word p n holdersWord) s in let b = h .fits n holdersWord (omega arith) .holders refl in omega arith) in
     cond-both (λ x. Within capacity x) (eqb (word p n standingWord) standingRetired)
     (cond-both (λ x. Within capacity x) (eqb d 0) (within-free capacity st n hn h)
-    (within-pool capacity st (setWord p n holdersWord d) (length-setWord p n holdersWord d) (fits-set capacity p n holdersWord d (omega arith) (fit-holders capacity d small) (h .fits)) h))
+    (within-pool capacity st (setWord p n holdersWord d) (length-setWord p n holdersWord d) (fits-set capacity p n holdersWord d (omega arith) (fit-holders capacity d) (h .fits)) h))
     h
 
 past-reader : (l : List Reader) (i : ℕ) → length l ≤ i → getD l i noReader ≡ noReader
@@ -235,7 +227,6 @@ within-reader capacity st s x hx h = record {
   last = h .last;
   free = h .free;
   held = h .held;
-  awaited = h .awaited;
   readers = λ t. elim (ℕ-discrete s t) [
     | no d ↦ subst (λ y. y .node ≤ capacity) (sym (getD-set-other (st .register .readers) s t x noReader (λ e. d (sym e)))) (h .readers t)
     | yes e ↦ elim (decLt s (length (st .register .readers))) [
@@ -246,9 +237,9 @@ within-reader capacity st s x hx h = record {
   ];
 }
 
-within-awaited : (capacity : ℕ) (st : State) (m : ℕ) → m ≤ allSlots → Within capacity st → Within capacity (state (st .pool) (withAwaited (st .register) m))
+pub within-awaited : (capacity : ℕ) (st : State) (m : ℕ) → Within capacity st → Within capacity (state (st .pool) (withAwaited (st .register) m))
 unfolding withAwaited
-within-awaited capacity st m hm h = record { size = h .size; fits = h .fits; root = h .root; first = h .first; last = h .last; free = h .free; held = h .held; awaited = hm; readers = h .readers }
+within-awaited capacity st m h = record { size = h .size; fits = h .fits; root = h .root; first = h .first; last = h .last; free = h .free; held = h .held; readers = h .readers }
 
 -- the end of a reading
 pub within-end : (capacity : ℕ) (st : State) (s : ℕ) → Within capacity st → Within capacity (endReading st s)
@@ -259,20 +250,17 @@ within-end capacity st s h =
     let z = h .size in
     fold-keeps (release s) (λ x. Within capacity x) 1 (nodes (st .pool) + 1) (state (st .pool) (withAwaited r (dropSlot (r .awaited) s)))
     (λ x i u v w. within-release capacity s x i (omega arith) w)
-    (within-awaited capacity (state (st .pool) r) (dropSlot (r .awaited) s) (let b = a .awaited in let c = drop-le (r .awaited) s in omega arith) a)
+    (within-awaited capacity (state (st .pool) r) (dropSlot (r .awaited) s) a)
 
 -- the write in hand is not looked at
 pub within-write : (capacity : ℕ) (st : State) (w : Write) → Within capacity st → Within capacity (state (st .pool) (withWrite (st .register) w))
 unfolding withWrite
-within-write capacity st w h = record { size = h .size; fits = h .fits; root = h .root; first = h .first; last = h .last; free = h .free; held = h .held; awaited = h .awaited; readers = h .readers }
-
-pub within-await : (capacity : ℕ) (st : State) → Within capacity st → Within capacity (state (st .pool) (withAwaited (st .register) (readingSlots (st .register))))
-within-await capacity st h = within-awaited capacity st (readingSlots (st .register)) (let z = reading-below (st .register) in omega arith) h
+within-write capacity st w h = record { size = h .size; fits = h .fits; root = h .root; first = h .first; last = h .last; free = h .free; held = h .held; readers = h .readers }
 
 -- Links, colours, keys held.
 pub within-link : (capacity : ℕ) (st : State) (l : Link) (v : ℕ) → v ≤ capacity → Within capacity st → Within capacity (setLink st l v)
 unfolding setLink withRoot
-within-link capacity st Root v hv h = record { size = h .size; fits = h .fits; root = hv; first = h .first; last = h .last; free = h .free; held = h .held; awaited = h .awaited; readers = h .readers }
+within-link capacity st Root v hv h = record { size = h .size; fits = h .fits; root = hv; first = h .first; last = h .last; free = h .free; held = h .held; readers = h .readers }
 within-link capacity st (Left n) v hv h = within-pool capacity st (setWord (st .pool) n leftWord v) (length-setWord (st .pool) n leftWord v)
     (fits-set capacity (st .pool) n leftWord v (omega arith) (fit-link capacity L v hv) (h .fits)) h
 within-link capacity st (Right n) v hv h = within-pool capacity st (setWord (st .pool) n rightWord v) (length-setWord (st .pool) n rightWord v)
@@ -283,7 +271,7 @@ fits-paint capacity p n c hc h = fits-set capacity p n colourWord c (omega arith
 
 pub within-held : (capacity : ℕ) (st : State) (n : ℕ) → n ≤ capacity → Within capacity st → Within capacity (state (st .pool) (withHeld (st .register) n))
 unfolding withHeld
-within-held capacity st n hn h = record { size = h .size; fits = h .fits; root = h .root; first = h .first; last = h .last; free = h .free; held = hn; awaited = h .awaited; readers = h .readers }
+within-held capacity st n hn h = record { size = h .size; fits = h .fits; root = h .root; first = h .first; last = h .last; free = h .free; held = hn; readers = h .readers }
 
 pub within-more : (capacity : ℕ) (st : State) → Within capacity st → Within capacity (state (st .pool) (withHeld (st .register) (countUp (nodes (st .pool)) (st .register .held))))
 within-more capacity st h = within-held capacity st _ (rw (h .size) (count-up capacity (st .register .held) (h .held))) h

@@ -25,7 +25,7 @@ use Rattle.spec.specs.Turn.{endDiag, diagRaise, zigLowerA, zigLowerC, endZig, z
 use Rattle.spec.specs.Turn.{unlinkPath, unlinkFixup, unlinkStore, adoptStore, replaceStore, promotePath, promoteFixup, promoteStore, publishStore, detachPath, detachFixup, detachStore}
 use Rattle.heap.specs.ColourWork.{coloursOnly-paint, coloursOnly-insertFixup, coloursOnly-deleteFixup}
 use Rattle.ranges.specs.Fits.{PoolOk, child-fits, colour-fits, Within, within-pool, within-take, within-retire, within-retireTwo, within-write}
-use Rattle.ranges.specs.Fits.{within-await, within-link, fits-paint, within-more, within-less, node-fits}
+use Rattle.ranges.specs.Fits.{within-awaited, within-link, fits-paint, within-more, within-less, node-fits}
 
 fits-insertFixup : (capacity m : ℕ) (path : List Link) (p : List ℕ) → PoolOk capacity p → PoolOk capacity (paintInsertFixup m path p)
 unfolding paintInsertFixup
@@ -194,7 +194,7 @@ module _ (capacity : ℕ) (st : State) (h : Within capacity st) where
       let linked = oneLess (setLink (copyNode st c L (kid L b) (kid R b) (colourOf st b)) l (st .register .first)) in
       let a = within-less capacity _ (copied c L (kid L b) (kid R b) (colourOf st b) l (low L b) (low R b) (colour-fits capacity (st .pool) b (h .fits))) in
       within-retire capacity _ b (node-fits capacity st l h)
-      (within-write capacity (state (linked .pool) (withAwaited (linked .register) (readingSlots (linked .register)))) _ (within-await capacity linked a))
+      (within-write capacity (state (linked .pool) (withAwaited (linked .register) (readingSlots (linked .register)))) _ (within-awaited capacity linked (readingSlots (linked .register)) a))
 
   detach-within : (l : Link) (k : ℕ) → Within capacity (detachStore st l k .after)
   unfolding detachStore

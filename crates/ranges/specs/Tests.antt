@@ -10,7 +10,7 @@ use lib.ListN.{length}
 use borrow.Author.Tests.{not-false, leb-true}
 use Rattle.base.specs.Lists.{getD-past}
 use Rattle.base.specs.Walk.{allIn, all-in}
-use Rattle.spec.specs.Numbers.{slots, allSlots, mostStores}
+use Rattle.spec.specs.Numbers.{slots, mostStores}
 use Rattle.spec.specs.Pool.{place, word, nodes, leftWord, rightWord, colourWord, standingWord, holdersWord, nodeInRange, poolInRange}
 use Rattle.spec.specs.Register.{State, noReader, noWrite, readerInRange, registerInRange}
 use Rattle.spec.specs.Calls.{outOfRange}
@@ -32,14 +32,12 @@ node-fits N p n f e =
     let b = both (leb (word p n leftWord) N && leb (word p n rightWord) N) _ (a .0) in
     let c = both (leb (word p n leftWord) N) _ (b .0) in
     let d = both (leb (word p n colourWord) 1) _ (b .1) in
-    let g = both (leb (word p n holdersWord) allSlots) _ (a .1) in
     record {
       left = λ i. rw i (leb-true _ N (c .0));
       right = λ i. rw i (leb-true _ N (c .1));
       colour = λ i. rw i (leb-true _ 1 (d .0));
       standing = λ i. rw i (leb-true _ 2 (d .1));
-      holders = λ i. rw i (leb-true _ allSlots (g .0));
-      next = λ i. rw i (leb-true _ N (g .1));
+      next = λ i. rw i (leb-true _ N (a .1));
     }
 
 -- no node, and nodes past the last, have words 0
@@ -60,12 +58,11 @@ ranged-of N st size whole perSlot idle e =
     let r = st .register in
     let h = both (poolInRange (st .pool)) _ (not-false _ e) in
     let g = rw size at (h .1) in
-    let a = both (leb (r .root) N && leb (r .first) N && leb (r .last) N && (leb (r .free) N && leb (r .held) N && leb (r .awaited) allSlots)) _ g in
+    let a = both (leb (r .root) N && leb (r .first) N && leb (r .last) N && (leb (r .free) N && leb (r .held) N)) _ g in
     let b = both (leb (r .root) N && leb (r .first) N && leb (r .last) N) _ (a .0) in
     let c = both (leb (r .root) N && leb (r .first) N) _ (b .0) in
     let d = both (leb (r .root) N) _ (c .0) in
-    let f = both (leb (r .free) N && leb (r .held) N) _ (b .1) in
-    let k = both (leb (r .free) N) _ (f .0) in
+    let k = both (leb (r .free) N) _ (b .1) in
     let l = both (leb (r .write .count) mostStores && allIn (readerInRange N r) 0 slots) _ (a .1) in
     let m = both (leb (r .write .count) mostStores) _ (l .0) in
     record {
@@ -77,7 +74,6 @@ ranged-of N st size whole perSlot idle e =
         last = leb-true _ N (c .1);
         free = leb-true _ N (k .0);
         held = leb-true _ N (k .1);
-        awaited = leb-true _ allSlots (f .1);
         readers = λ s. elim (decLt s slots) [
           | yes u ↦ leb-true _ N (all-in (readerInRange N r) 0 slots (m .1) s (omega arith) u)
           | no u ↦ rw (getD-past noReader (r .readers) s (omega arith)) (omega arith)

@@ -24,7 +24,7 @@ use Rattle.tree.specs.Thin.{Thin}
 use Rattle.tree.specs.Linked.{Linked, nil, cell, find, path}
 use Rattle.heap.specs.Rep.{Rep}
 use Rattle.promise.specs.Demands.{turnOf, Going, ends, goes, answerOf}
-use Rattle.readers.specs.Marks.{reader-same}
+use Rattle.laws.specs.Reading.{reader-same}
 use Rattle.readers.specs.Lookups.{Unlinked, Finds, OnWay}
 
 -- What a reader's step is: before any node; in a lookup at a node with the key and at another node; in a search for the next ticket at a node.

@@ -1,4 +1,3 @@
-pub mod Marks
 pub mod Words
 pub mod QueueExact
 pub mod Release

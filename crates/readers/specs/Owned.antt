@@ -1,6 +1,6 @@
 -- Who has which node: each stands free, linked or retired; the free ones are the queue's; a retired one has holders, which are reading;
 -- awaited slots are reading. Kept by begin, a reader's step, the end of a reading, retire, take, and a store of a link or a colour.
-use Prim.Native.Nat.{ℕ, _+_, _^_, _<_, _≤_}
+use Prim.Native.Nat.{ℕ, _+_, _<_, _≤_}
 use mathlib.Core.Path.{_≡_, refl, sym, ap, _∙_, subst}
 use mathlib.Core.Bool.{Bool, true, false, cond, _&&_, false≢true}
 use mathlib.Core.List.{List, [], _∷_, _++_, append-nil}
@@ -16,13 +16,12 @@ use Rattle.datatypes.specs.declared.Reader.{Reader}
 use Rattle.datatypes.specs.declared.Register.{Register}
 use Rattle.spec.specs.Numbers.{slots}
 use Rattle.spec.specs.Pool.{word, setWord, nodes, standingWord, holdersWord, standingFree, standingLinked, standingRetired}
-use Rattle.spec.specs.Register.{State, state, noReader, hasSlot, dropSlot, readingSlots, withReader, withAwaited, withQueue}
+use Rattle.spec.specs.Register.{State, state, noReader, dropSlot, readingSlots, withReader, withAwaited, withQueue}
 use Rattle.spec.specs.Free.{fillNode, takeFree, takeNode, freeNode, retire, endReading}
 use Rattle.spec.specs.FreeQueue.{InPool}
 use Rattle.laws.specs.Words.{length-setWord, word-other}
-use Rattle.laws.specs.Slots.{drop-same, drop-other, drop-le}
+use Rattle.laws.specs.Reading.{ReadingOnly, only-reading, only-more, only-drop}
 use Rattle.laws.specs.Freed.{free-length}
-use Rattle.readers.specs.Marks.{reading-bit, reading-below}
 use Rattle.readers.specs.Words.{node-length, node-high, free-other, free-standing, free-holders, retire-none, retire-some, marked}
 use Rattle.readers.specs.Words.{marked-length, marked-other, marked-standing, marked-holders, fill-length, fill-other, fill-standing}
 use Rattle.readers.specs.Words.{fill-holders}
@@ -35,32 +34,23 @@ readingIn xs s = getD xs s noReader .reading
 -- a node's standing and holders, with these reader records
 pub record Good (xs : List Reader) (standing holders : ℕ) : Type 0 where
   pub rank : standing ≤ standingRetired
-  pub mask : holders < 2 ^ slots
   pub holder : standing ≡ standingRetired → holders ≢ 0
-  pub reads : standing ≡ standingRetired → (s : ℕ) → s < slots → hasSlot holders s ≡ true → readingIn xs s ≡ true
-
--- a set of slots that are reading
-pub record Slots (xs : List Reader) (m : ℕ) : Type 0 where
-  pub below : m < 2 ^ slots
-  pub reads : (s : ℕ) → s < slots → hasSlot m s ≡ true → readingIn xs s ≡ true
+  pub held : standing ≡ standingRetired → ReadingOnly slots xs holders
 
 pub record Owned (st : State) (l : List ℕ) : Type 0 where
   pub exact : QueueExact st l
   pub good : (n : ℕ) → InPool (st .pool) n → Good (st .register .readers) (word (st .pool) n standingWord) (word (st .pool) n holdersWord)
-  pub awaited : Slots (st .register .readers) (st .register .awaited)
+  pub awaited : ReadingOnly slots (st .register .readers) (st .register .awaited)
   pub perSlot : length (st .register .readers) ≡ slots
 
 good-free : (xs : List Reader) → Good xs standingFree 0
-good-free xs = record { rank = omega arith; mask = omega arith; holder = λ e. absurd (omega arith); reads = λ e. absurd (omega arith) }
+good-free xs = record { rank = omega arith; holder = λ e. absurd (omega arith); held = λ e. absurd (omega arith) }
 
 good-linked : (xs : List Reader) → Good xs standingLinked 0
-good-linked xs = record { rank = omega arith; mask = omega arith; holder = λ e. absurd (omega arith); reads = λ e. absurd (omega arith) }
-
-pub slots-reading : (r : Register) → Slots (r .readers) (readingSlots r)
-slots-reading r = record { below = reading-below r; reads = λ s u e. sym (reading-bit r s u) ∙ e }
+good-linked xs = record { rank = omega arith; holder = λ e. absurd (omega arith); held = λ e. absurd (omega arith) }
 
 good-retired : (r : Register) → readingSlots r ≢ 0 → Good (r .readers) standingRetired (readingSlots r)
-good-retired r d = record { rank = omega arith; mask = reading-below r; holder = λ e. d; reads = λ e s u i. slots-reading r .reads s u i }
+good-retired r d = record { rank = omega arith; holder = λ e. d; held = λ e. only-reading r }
 
 -- Begin and go: no slot stops reading, and pool, queue and awaited slots stay.
 module _ (p : List ℕ) (r q : Register) (l : List ℕ) where
@@ -69,8 +59,8 @@ module _ (p : List ℕ) (r q : Register) (l : List ℕ) where
   own-readers a b c w e more h = record {
     exact = field-exact p r q l a b c (h .exact);
     good = λ n hn. (let g = h .good n hn in
-        record { rank = g .rank; mask = g .mask; holder = g .holder; reads = λ i s u v. more s u (g .reads i s u v) });
-    awaited = rw w (record { below = h .awaited .below; reads = λ s u v. more s u (h .awaited .reads s u v) });
+        record { rank = g .rank; holder = g .holder; held = λ i. only-more slots (r .readers) (q .readers) _ more (g .held i) });
+    awaited = rw w (only-more slots (r .readers) (q .readers) _ more (h .awaited));
     perSlot = e ∙ h .perSlot;
   }
 
@@ -87,32 +77,19 @@ own-reader st l s x u e h =
     h
 
 -- The end of a reading.
-slots-drop : (xs : List Reader) (s m : ℕ) → Slots xs m → Slots (set xs s noReader) (dropSlot m s)
-slots-drop xs s m h = record {
-  below = let a = drop-le m s in let b = h .below in omega arith;
-  reads = λ t u i. elim (ℕ-discrete s t) [
-    | yes d ↦ absurd (false≢true (sym (drop-same m s) ∙ subst (λ z. hasSlot (dropSlot m s) z ≡ true) (sym d) i))
-    | no d ↦ ap (λ y. y .reading) (getD-set-other xs s t noReader noReader (λ z. d (sym z))) ∙ h .reads t u (sym (drop-other m s t d) ∙ i)
-  ];
-}
-
 good-drop : (xs : List Reader) (s a b : ℕ) → Good xs a b
     → Good (set xs s noReader) (cond (eqb a standingRetired && eqb (dropSlot b s) 0) standingFree a) (cond (eqb a standingRetired) (dropSlot b s) b)
 good-drop xs s a b h = go (eqb a standingRetired) refl (eqb (dropSlot b s) 0) refl
   where
-    both : a ≡ standingRetired → Slots xs b
-    both e = record { below = h .mask; reads = h .reads e }
-
     go : (x : Bool) → eqb a standingRetired ≡ x → (y : Bool) → eqb (dropSlot b s) 0 ≡ y
         → Good (set xs s noReader) (cond (x && y) standingFree a) (cond x (dropSlot b s) b)
     go true e true z = rw (eqb-true (dropSlot b s) 0 z) (good-free (set xs s noReader))
     go true e false z =
         let i = eqb-true a standingRetired e in
-        let k = slots-drop xs s b (both i) in
-        record { rank = h .rank; mask = k .below; holder = λ _. eqb-false (dropSlot b s) 0 z; reads = λ _. k .reads }
+        record { rank = h .rank; holder = λ _. eqb-false (dropSlot b s) 0 z; held = λ _. only-drop slots xs s b (h .held i) }
     go false e y z =
         let d = eqb-false a standingRetired e in
-        record { rank = h .rank; mask = h .mask; holder = λ i. absurd (d i); reads = λ i. absurd (d i) }
+        record { rank = h .rank; holder = λ i. absurd (d i); held = λ i. absurd (d i) }
 
 pub own-end : (st : State) (l : List ℕ) (s : ℕ) → Owned st l → Owned (endReading st s) (l ++ freedBelow (st .pool) s (nodes (st .pool) + 1))
 unfolding withReader withAwaited
@@ -127,7 +104,7 @@ own-end st l s h =
           let u : n < nodes p + 1 = (let a = node-high p n k in omega arith) in
           rw (d .standing n u, d .holders n u, d .else .readers) (good-drop xs s (word p n standingWord) (word p n holdersWord) (h .good n k))
           );
-      awaited = rw (d .else .readers, d .else .awaited) (slots-drop xs s (st .register .awaited) (h .awaited));
+      awaited = rw (d .else .readers, d .else .awaited) (only-drop slots xs s (st .register .awaited) (h .awaited));
       perSlot = ap length (d .else .readers) ∙ length-set xs s noReader ∙ h .perSlot;
     }
 

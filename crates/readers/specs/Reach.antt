@@ -20,7 +20,7 @@ use Rattle.laws.specs.Slots.{drop-same, drop-other}
 use Rattle.tree.specs.Linked.{Linked, nil, cell, nodes as treeNodes}
 use Rattle.heap.specs.Rep.{Rep}
 use Rattle.promise.specs.Demands.{Leads, arrived, onward}
-use Rattle.readers.specs.Marks.{no-bit}
+use Rattle.laws.specs.Slots.{no-bit}
 use Rattle.readers.specs.Words.{node-high, node-length, Whole, whole-kept, stands-node}
 use Rattle.readers.specs.QueueExact.{QueueExact}
 use Rattle.readers.specs.Release.{retired, freedBy, end-released}

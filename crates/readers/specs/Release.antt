@@ -10,6 +10,7 @@ use native.Mathlib.Decide.{ℕ-discrete}
 use lib.Dec.{eqb}
 use lib.ListN.{length}
 use borrow.Author.Tests.{eqb-true}
+use Rattle.base.specs.Walk.{walk}
 use Rattle.datatypes.specs.declared.Register.{Register}
 use Rattle.spec.specs.Numbers.{nodeWords}
 use Rattle.spec.specs.Pool.{word, setWord, nodes, standingWord, holdersWord, standingFree, standingRetired}
@@ -19,7 +20,6 @@ use Rattle.spec.specs.FreeQueue.{InPool}
 use Rattle.laws.specs.Words.{length-setWord, word-none, word-same, word-other}
 use Rattle.laws.specs.Queue.{chain-word}
 use Rattle.laws.specs.Freed.{free-length}
-use Rattle.readers.specs.Marks.{walk}
 use Rattle.readers.specs.Words.{node-length, node-in, free-words, free-other, free-standing, free-holders, free-register}
 use Rattle.readers.specs.QueueExact.{QueueExact, free-exact, pool-exact, field-exact}
 

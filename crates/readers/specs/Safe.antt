@@ -19,7 +19,7 @@ use Rattle.spec.specs.Free.{endReading}
 use Rattle.spec.specs.Calls.{reading}
 use Rattle.promise.specs.Demands.{Leads, Reaches}
 use Rattle.promise.specs.Run.{Reads}
-use Rattle.readers.specs.Marks.{reader-same, reader-other}
+use Rattle.laws.specs.Reading.{reader-same, reader-other}
 use Rattle.readers.specs.Words.{Whole, whole-kept, stands-node}
 use Rattle.readers.specs.Release.{ended, end-released}
 use Rattle.readers.specs.Owned.{readingIn, Owned, own-reader, own-end}
@@ -130,7 +130,7 @@ safe-turn st after came gone l v h t linked root = record {
   owned = t .owned;
   closed = closed-store (st .pool) (after .pool) (Reads st) (t .change) (h .closed) linked
       (λ n s e u i. subst (λ xs. readingIn xs s ≡ true) (t .readers)
-      (t .owned .good n (stands-node (after .pool) n standingWord (whole-kept (st .pool) (after .pool) (t .size) (h .whole)) (omega arith) (omega arith)) .reads e s u i));
+      (t .owned .good n (stands-node (after .pool) n standingWord (whole-kept (st .pool) (after .pool) (t .size) (h .whole)) (omega arith) (omega arith)) .held e .reads s u i));
   root = root;
   at = λ s u i d. (let o : readerOf (after .register) s ≡ readerOf (st .register) s = ap (λ xs. getD xs s noReader) (t .readers) in
       subst (λ y. Kept (after .pool) s (y .node)) (sym o)

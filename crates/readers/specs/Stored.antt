@@ -15,7 +15,7 @@ use Rattle.datatypes.specs.declared.Link.{Link}
 use Rattle.datatypes.specs.declared.Link.the-variants.{Root, Left, Right}
 use Rattle.datatypes.specs.declared.Register.{Register}
 use Rattle.datatypes.specs.Side.{sameSide}
-use Rattle.spec.specs.Numbers.{nodeWords}
+use Rattle.spec.specs.Numbers.{nodeWords, slots}
 use Rattle.spec.specs.Pool.{word, setWord, child, keyWord, recordAt, recordWord, leftWord, rightWord, linkWord, colourWord, standingWord, holdersWord, standingFree, standingLinked}
 use Rattle.spec.specs.Register.{State, state, withRoot, withQueue, setLink}
 use Rattle.spec.specs.Free.{takeFree, takeNode}
@@ -23,10 +23,11 @@ use Rattle.base.specs.Lists.{_∈_}
 use Rattle.spec.specs.FreeQueue.{InPool}
 use Rattle.laws.specs.Words.{length-setWord, word-same, word-other}
 use Rattle.laws.specs.Queue.{link-low, key-link, record-link}
+use Rattle.laws.specs.Reading.{ReadingOnly}
 use Rattle.promise.specs.Demands.{TreeLink}
 use Rattle.readers.specs.Words.{Whole, whole-kept, stands-node, fill-length, fill-other, fill-standing}
 use Rattle.readers.specs.QueueExact.{field-exact}
-use Rattle.readers.specs.Owned.{Slots, Owned, own-word, own-take}
+use Rattle.readers.specs.Owned.{Owned, own-word, own-take}
 use Rattle.readers.specs.Reach.{HasStanding}
 use Rattle.tree.specs.Graft.{hits}
 
@@ -72,7 +73,7 @@ child-set p d s v n z hd = go (eqb d n) refl s z
 
 -- fields of the register that no node's standing goes by
 pub own-fields : (p : List ℕ) (r q : Register) (l : List ℕ) → q .first ≡ r .first → q .last ≡ r .last → q .free ≡ r .free → q .readers ≡ r .readers
-    → Slots (q .readers) (q .awaited) → Owned (state p r) l → Owned (state p q) l
+    → ReadingOnly slots (q .readers) (q .awaited) → Owned (state p r) l → Owned (state p q) l
 own-fields p r q l a b c e w h = record {
   exact = field-exact p r q l a b c (h .exact);
   good = λ n hn. rw e (h .good n hn);

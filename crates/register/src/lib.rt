@@ -265,7 +265,7 @@ pub fn register_in_range(reg: Register, capacity: u32) -> bool
     ensures { λ r. ⌜ r ≡ registerInRange capacity reg ⌝ }
 {
     let a = (reg.root <= capacity) & (reg.first <= capacity) & (reg.last <= capacity);
-    let b = (reg.free <= capacity) & (reg.held <= capacity) & (reg.awaited <= numbers::ALL_SLOTS);
+    let b = (reg.free <= capacity) & (reg.held <= capacity);
     let w = reg.write;
     if !(a & b & (w.count <= numbers::STORE_LIMIT) & readers_in_range(reg, capacity)) {
         return false;

@@ -18,7 +18,7 @@ use Rattle.spec.specs.Calls.{Call, inserting, deleting, writing, beginning, tur
 use Rattle.spec.specs.PlainList.{Plain, recordFor}
 use Rattle.promise.specs.Run.{Reads}
 use Rattle.tree.specs.Linked.{Linked}
-use Rattle.readers.specs.Marks.{reader-same, reader-other}
+use Rattle.laws.specs.Reading.{reader-same, reader-other}
 use Rattle.readers.specs.NextSearches.{Nothing, Ticket, Answered}
 use Rattle.readers.specs.CallCase.{CallCase, refuses, plansInsert, plansDelete, waits, stores, begins, loads, misses, meets, finds, leaves, testsOf}
 use Rattle.readers.specs.Safe.{Safe, end-reader, end-own}

@@ -97,7 +97,7 @@ begun-none st c o κ s k m (stores f g i) safe (e, a) h = let z = ap kindOf e in
 begun-none st c o κ s k m (begins μ t j u f) safe (e, a) h =
     let y = ap slotOf e in
     let r = h .0 in
-    let reads = safe .owned .good m (stands-node (st .pool) m standingWord (safe .whole) (omega arith) (omega arith)) .reads (h .0) s (subst (λ i. i < slots) y u) (h .1) in
+    let reads = safe .owned .good m (stands-node (st .pool) m standingWord (safe .whole) (omega arith) (omega arith)) .held (h .0) .reads s (subst (λ i. i < slots) y u) (h .1) in
     false≢true (sym (subst (λ i. reading st i ≡ false) y f) ∙ reads)
 begun-none st c o κ s k m (loads t r n p l f) safe (e, a) h = let z = ap kindOf e in omega arith
 begun-none st c o κ s k m (misses t r n p l f g) safe (e, a) h = let z = ap kindOf e in omega arith

@@ -19,7 +19,7 @@ use Rattle.spec.specs.PlainList.{Plain, recordFor, noticeOf, feed, storeMade}
 use Rattle.laws.specs.Slots.{drop-other}
 use Rattle.promise.specs.Run.{Reads}
 use Rattle.tree.specs.Linked.{Linked}
-use Rattle.readers.specs.Marks.{reader-same, reader-other}
+use Rattle.laws.specs.Reading.{reader-same, reader-other}
 use Rattle.readers.specs.Release.{ended, end-released}
 use Rattle.readers.specs.Reach.{Kept, kept-end, linked-end, kept-store}
 use Rattle.readers.specs.CallCase.{CallCase, refuses, plansInsert, plansDelete, waits, stores, begins, loads, misses, meets, finds, leaves, Loads}

@@ -20,7 +20,8 @@ use Rattle.tree.specs.Thin.{Thin, thin-weaken}
 use Rattle.tree.specs.Linked.{Linked, find, path, nodes}
 use Rattle.tree.specs.Graft.{All}
 use Rattle.heap.specs.Rep.{Rep, Alike, rep-alike, upToLinks}
-use Rattle.readers.specs.Marks.{no-bit, reading-bit}
+use Rattle.laws.specs.Slots.{no-bit}
+use Rattle.laws.specs.Reading.{reading-bit}
 use Rattle.readers.specs.Reach.{HasStanding, Kept, Closed, kept-stands, kept-store, not-again}
 use Rattle.readers.specs.Lookups.{Unlinked, Finds, OnWay, store-finds, store-way, anew-finds, anew-way, root-way}
 use Rattle.readers.specs.Descends.{turn-finds, turn-way, turn-found, turn-absent}

@@ -22,7 +22,8 @@ use Rattle.tree.specs.Marked.{Mark, met, nums, nums-append, ThinM, thinM-weaken
 use Rattle.tree.specs.NextWay.{way, above}
 use Rattle.tree.specs.Steady.{Sure}
 use Rattle.heap.specs.Rep.{Rep, Alike, rep-alike, upToLinks}
-use Rattle.readers.specs.Marks.{no-bit, reading-bit}
+use Rattle.laws.specs.Slots.{no-bit}
+use Rattle.laws.specs.Reading.{reading-bit}
 use Rattle.readers.specs.Reach.{HasStanding, Kept, Closed, kept-stands, kept-store, not-again}
 use Rattle.readers.specs.Lookups.{Unlinked}
 use Rattle.readers.specs.NextSearches.{Gap, gap-now, Held, held-now, Closes, closes-more, OnTrail, store-closes, store-trail, anew-closes, anew-trail, root-trail, root-closes}

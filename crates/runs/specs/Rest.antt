@@ -20,7 +20,7 @@ use Rattle.spec.specs.Calls.{outOfRange, namedOutOfRange, reading, writeInHand,
 use Rattle.spec.specs.Calls.{deleting, writing, beginning, turning, givingUp}
 use Rattle.spec.specs.PlainList.{Plain, carriedOut, noticeOf, acceptedWrites}
 use Rattle.base.specs.Lists.{Distinct}
-use Rattle.laws.specs.Slots.{no-slot}
+use Rattle.laws.specs.Slots.{no-slot, some-slot}
 use Rattle.laws.specs.Turns.{and-false}
 use Rattle.tree.specs.Linked.{Linked, nodes as treeNodes}
 use Rattle.promise.specs.Run.{Reads, after}
@@ -32,24 +32,6 @@ use Rattle.readers.specs.CallCase.{TestsPass}
 use Rattle.readers.specs.Safe.{Safe}
 use Rattle.runs.specs.Sound.{store-notice}
 use Rattle.runs.specs.Answers.{toldOf}
-
--- a mask that is not 0 has a slot
-find-slot : (w m : ℕ) → ((s : ℕ) × (s < w) × (hasSlot m s ≡ true)) ⊎ ((s : ℕ) → s < w → hasSlot m s ≡ false)
-find-slot zero m = inr (λ s u. absurd (omega arith))
-find-slot (suc w) m = go (hasSlot m w) refl (find-slot w m)
-  where
-    go : (b : Bool) → hasSlot m w ≡ b → ((s : ℕ) × (s < w) × (hasSlot m s ≡ true)) ⊎ ((s : ℕ) → s < w → hasSlot m s ≡ false)
-        → ((s : ℕ) × (s < suc w) × (hasSlot m s ≡ true)) ⊎ ((s : ℕ) → s < suc w → hasSlot m s ≡ false)
-    go true e r = inl (w, omega arith, e)
-    go false e (inl r) = inl (r .0, (let a = r .1 in omega arith), r .2)
-    go false e (inr r) = inr (λ s u. elim (ℕ-discrete s w) [ yes i ↦ rw i e | no d ↦ r s (omega arith) ])
-
-pub some-slot : (m : ℕ) → m < 2 ^ slots → m ≢ 0 → (s : ℕ) × (s < slots) × (hasSlot m s ≡ true)
-some-slot m u d = go (find-slot slots m)
-  where
-    go : ((s : ℕ) × (s < slots) × (hasSlot m s ≡ true)) ⊎ ((s : ℕ) → s < slots → hasSlot m s ≡ false) → (s : ℕ) × (s < slots) × (hasSlot m s ≡ true)
-    go (inl r) = r
-    go (inr r) = absurd (d (no-slot slots m u r))
 
 -- a store answers more while stores are left, else done
 abbrev pub left : State → ℕ
@@ -80,7 +62,7 @@ wait-right st c o (plansInsert j v f) h e = absurd (let z = ap toldOf e in omega
 wait-right st c o (plansDelete j f) h e = absurd (let z = ap toldOf e in omega arith)
 wait-right st c o (waits d) h e =
     let a = h .owned .awaited in
-    let s = some-slot (st .register .awaited) (a .below) d in
+    let s = some-slot slots (st .register .awaited) (a .below) d in
     (s .0, s .1, s .2, a .reads (s .0) (s .1) (s .2))
 wait-right st c o (stores a w f) h e = absurd (stored-not (stepMade st (storeOf (st .register) 0 .link) (storeOf (st .register) 0 .step)) e)
 wait-right st c o (begins κ t j u f) h e = absurd (let z = ap toldOf e in omega arith)

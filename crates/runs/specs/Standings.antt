@@ -20,7 +20,7 @@ use Rattle.readers.specs.Words.{node-in, node-high, stands-node}
 use Rattle.readers.specs.NodeChanges.{ranked, three}
 use Rattle.readers.specs.Once.{distinct-append}
 use Rattle.readers.specs.Safe.{Safe}
-use Rattle.runs.specs.Rest.{some-slot}
+use Rattle.laws.specs.Slots.{some-slot}
 
 module _ (st : State) (h : Safe st) where
   pub stands-one : (n : ℕ) → (standingAt st n ≡ standingLinked) ⊎ ((standingAt st n ≡ standingFree) ⊎ (standingAt st n ≡ standingRetired))
@@ -30,8 +30,8 @@ module _ (st : State) (h : Safe st) where
       → (s : ℕ) × (s < slots) × (hasSlot (word (st .pool) n holdersWord) s ≡ true) × Reads st s
   retired-held n e =
       let g = h .owned .good n (stands-node (st .pool) n standingWord (h .whole) (omega arith) (omega arith)) in
-      let s = some-slot (word (st .pool) n holdersWord) (g .mask) (g .holder e) in
-      (s .0, s .1, s .2, g .reads e (s .0) (s .1) (s .2))
+      let s = some-slot slots (word (st .pool) n holdersWord) (g .held e .below) (g .holder e) in
+      (s .0, s .1, s .2, g .held e .reads (s .0) (s .1) (s .2))
 
   module _ (quiet : (s : ℕ) → s < slots → reading st s ≡ false) where
     pub none-retired : (n : ℕ) → standingAt st n ≢ standingRetired

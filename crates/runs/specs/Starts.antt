@@ -5,17 +5,18 @@ use mathlib.Core.Bool.{false, false≢true}
 use mathlib.Core.List.{List}
 use mathlib.Core.Logic.{_≢_}
 use native.Mathlib.Omega.{arith}
+use Rattle.spec.specs.Numbers.{slots}
 use Rattle.spec.specs.Pool.{nodes, word, child, standingWord, holdersWord}
 use Rattle.spec.specs.Register.{State}
 use Rattle.spec.specs.FreeQueue.{InPool}
 use Rattle.promise.specs.Run.{Start}
 use Rattle.promise.specs.Starts.{SoundStart}
 use Rattle.promise.specs.Demands.{arrived, FreeRight}
-use Rattle.readers.specs.Marks.{no-bit}
+use Rattle.laws.specs.Reading.{ReadingOnly, only-none}
 use Rattle.readers.specs.Words.{Whole, node-in, node-high}
 use Rattle.readers.specs.QueueExact.{QueueExact}
 use Rattle.readers.specs.Reach.{leads-on}
-use Rattle.readers.specs.Owned.{Good, Slots}
+use Rattle.readers.specs.Owned.{Good}
 use Rattle.readers.specs.Safe.{Safe}
 use Rattle.ranges.specs.Calls.{Ranged}
 use Rattle.ranges.specs.Tests.{ranged-of}
@@ -60,11 +61,10 @@ module _ (S : Start) (h : SoundStart S) where
   good : (n : ℕ) → InPool p n → Good (S .index .register .readers) (word p n standingWord) (word p n holdersWord)
   good n hn =
       let a = ranged-start .within .fits n standingWord (omega arith) .standing refl in
-      let b = ranged-start .within .fits n holdersWord (omega arith) .holders refl in
-      record { rank = a; mask = omega arith; holder = λ e. absurd (h .unretired n e); reads = λ e. absurd (h .unretired n e) }
+      record { rank = a; holder = λ e. absurd (h .unretired n e); held = λ e. absurd (h .unretired n e) }
 
-  awaited : Slots (S .index .register .readers) (S .index .register .awaited)
-  awaited = rw (h .unawaited) (record { below = omega arith; reads = λ s u e. absurd (false≢true (sym (no-bit s) ∙ e)) })
+  awaited : ReadingOnly slots (S .index .register .readers) (S .index .register .awaited)
+  awaited = rw (h .unawaited) (only-none slots (S .index .register .readers))
 
   pub safe-start : Safe (S .index)
   safe-start = record {

@@ -15,12 +15,9 @@ mostNodes = 1023
 abbrev pub poolLimit : ℕ
 poolLimit = (mostNodes + 1) * nodeWords
 
--- Reader slots, and the largest mask of slots; a mask is a word, so there is room for 32.
+-- Reader slots (02, C-15: 0 to 31), and the bits of a word. A mask of slots is a word, bit s for slot s, so there is room for 32.
 abbrev pub slots : ℕ
-slots = 8
-
-abbrev pub allSlots : ℕ
-allSlots = 2 ^ slots - 1
+slots = 32
 
 abbrev pub wordBits : ℕ
 wordBits = 32

@@ -8,7 +8,7 @@ use lib.Dec.{eqb, leb}
 use Rattle.base.specs.Walk.{allIn}
 use Rattle.datatypes.specs.declared.Side.{Side}
 use Rattle.datatypes.specs.declared.Side.the-variants.{L, R}
-use Rattle.spec.specs.Numbers.{nodeWords, leastNodes, mostNodes, allSlots}
+use Rattle.spec.specs.Numbers.{nodeWords, leastNodes, mostNodes}
 
 -- A node's words in order, each after the one before: key 0, record 1, left 2, right 3, colour 4, standing 5, holders 6, next free 7.
 abbrev pub keyWord : ℕ
@@ -95,12 +95,13 @@ isRed p n = eqb (word p n colourWord) redColour
 abbrev pub paint : List ℕ → ℕ → ℕ → List ℕ
 paint p n colour = setWord p n colourWord colour
 
--- Key and record are any 32-bit numbers. Links are 0 to N; colour 0 or 1; standing 0 to 2; holders a mask of slots; next free a link.
+-- Key and record are any 32-bit numbers, and so is holders: with 32 slots (02, C-15) each of its bits is a slot's. A pool is lent as 32-bit
+-- words, so a test of these three could not fail, and none is made. Links are 0 to N; colour 0 or 1; standing 0 to 2; next free a link.
 unfoldable pub nodeInRange : List ℕ → ℕ → ℕ → Bool
 nodeInRange p capacity n =
     leb (word p n leftWord) capacity && leb (word p n rightWord) capacity
     && (leb (word p n colourWord) redColour && leb (word p n standingWord) standingRetired)
-    && (leb (word p n holdersWord) allSlots && leb (word p n nextWord) capacity)
+    && leb (word p n nextWord) capacity
 
 unfoldable pub poolInRange : List ℕ → Bool
 poolInRange p = allIn (nodeInRange p (nodes p)) 1 (nodes p + 1)

@@ -15,7 +15,7 @@ use Rattle.datatypes.specs.declared.Kind.{Kind}
 use Rattle.datatypes.specs.declared.Kind.the-variants as kind
 use Rattle.datatypes.specs.declared.Reader.{Reader}
 use Rattle.datatypes.specs.declared.Register.{Register}
-use Rattle.spec.specs.Numbers.{slots, allSlots, mostStores}
+use Rattle.spec.specs.Numbers.{slots, mostStores}
 use Rattle.spec.specs.Pool.{word, setWord, leftWord, rightWord, freshPool}
 
 -- a pool with its register
@@ -169,10 +169,11 @@ storeInRange capacity w i =
 abbrev pub readerInRange : ℕ → Register → ℕ → Bool
 readerInRange capacity r s = leb (readerOf r s .node) capacity
 
+-- The awaited slots are any 32-bit number, as a node's holders are; no test of them could fail.
 unfoldable pub registerInRange : ℕ → Register → Bool
 registerInRange capacity r =
     leb (r .root) capacity && leb (r .first) capacity && leb (r .last) capacity
-    && (leb (r .free) capacity && leb (r .held) capacity && leb (r .awaited) allSlots)
+    && (leb (r .free) capacity && leb (r .held) capacity)
     && (leb (r .write .count) mostStores && allIn (readerInRange capacity r) 0 slots && allIn (storeInRange capacity (r .write)) 0 mostStores)
 
 -- Fresh: root 0, no slot reading, the nodes queued free, every other field 0.

@@ -11,6 +11,7 @@ use Rattle.datatypes.specs.declared.Register.{Register}
 use Rattle.datatypes.specs.Side.{owner}
 use Rattle.spec.specs.Numbers.{slots}
 use Rattle.spec.specs.Pool.{standingLinked}
+use Rattle.laws.specs.Reading.{ReadingOnly}
 use Rattle.spec.specs.Register.{State, state, setLink}
 use Rattle.spec.specs.Turn.{Made}
 use Rattle.base.specs.Lists.{_∈_}
@@ -21,7 +22,7 @@ use Rattle.heap.specs.Fill.{retire-quiet, retireTwo-quiet}
 use Rattle.heap.specs.Parts.{Based, unchanged, filled, SameQueue, retireAll, Parts}
 use Rattle.heap.specs.Shift.{Shift}
 use Rattle.promise.specs.Demands.{TreeLink}
-use Rattle.readers.specs.Owned.{Slots, Owned}
+use Rattle.readers.specs.Owned.{Owned}
 use Rattle.readers.specs.Reach.{HasStanding}
 use Rattle.readers.specs.Stored.{Stored, own-fields, link-stored, taking-stored}
 use Rattle.readers.specs.ColourWork.{recoloured-pool, stored-recoloured}
@@ -39,7 +40,7 @@ base-stored st base came k v safe unchanged q o = link-stored st (safe .queue) k
 base-stored st base came k v safe (filled j w s x y c) q o = taking-stored st (st .register .first) (q .0) j w s x y c k v (safe .whole) o (q .1)
 
 -- other awaited slots, which are reading, and other fields than the queue's
-stored-fields : (st a : State) (r : Register) (came : List ℕ) (k : Link) (v : ℕ) → SameQueue (a .register) r → Slots (r .readers) (r .awaited) → Stored st a came k v
+stored-fields : (st a : State) (r : Register) (came : List ℕ) (k : Link) (v : ℕ) → SameQueue (a .register) r → ReadingOnly slots (r .readers) (r .awaited) → Stored st a came k v
     → Stored st (state (a .pool) r) came k v
 stored-fields st a r came k v e z h = record {
   size = h .size;
@@ -64,7 +65,7 @@ all-awaited mid (a ∷ c ∷ l) = retireTwo-quiet mid a c .fields .awaited
 
 pub parts-turn : (st : State) (T T′ : Linked) (m : Made) (came gone : List ℕ) (b w : Bool) → Safe st → Rep (st .pool) (st .register .root) T
     → ((n : ℕ) → 0 < occ n (nodes T) → HasStanding (st .pool) n standingLinked) → Shift T T′ (m .link) (m .node) came gone b w → Parts st m came gone → QueueHas st came
-    → Slots (st .register .readers) (m .after .register .awaited) → Turn st (m .after) came gone (m .link) (m .node)
+    → ReadingOnly slots (st .register .readers) (m .after .register .awaited) → Turn st (m .after) came gone (m .link) (m .node)
 parts-turn st T T′ m came gone b w safe rep lk sh ps q aw = rw (ps .retired) (go gone (shift-few sh) sh (ps .retired))
   where
     k : Link
@@ -83,11 +84,11 @@ parts-turn st T T′ m came gone b w safe rep lk sh ps q aw = rw (ps .retired) (
     coloured-store = stored-recoloured st (setLink (ps .base) (m .link) (m .node)) _ came (m .link) (m .node)
         (recoloured-pool (setLink (ps .base) (m .link) (m .node)) (ps .mid .pool) (ps .only)) base
 
-    slots : Slots (ps .mid .register .readers) (ps .mid .register .awaited)
-    slots = rw (ps .queue .readers ∙ base .readers, sym (all-awaited (ps .mid) gone) ∙ ap (λ s. s .register .awaited) (sym (ps .retired))) aw
+    reading : ReadingOnly slots (ps .mid .register .readers) (ps .mid .register .awaited)
+    reading = rw (ps .queue .readers ∙ base .readers, sym (all-awaited (ps .mid) gone) ∙ ap (λ s. s .register .awaited) (sym (ps .retired))) aw
 
     mid : Stored st (ps .mid) came (m .link) (m .node)
-    mid = stored-fields st (state (ps .mid .pool) (setLink (ps .base) (m .link) (m .node) .register)) (ps .mid .register) came (m .link) (m .node) (ps .queue) slots coloured-store
+    mid = stored-fields st (state (ps .mid .pool) (setLink (ps .base) (m .link) (m .node) .register)) (ps .mid .register) came (m .link) (m .node) (ps .queue) reading coloured-store
 
     goes : (g : List ℕ) → Shift T T′ (m .link) (m .node) came g b w → (i : ℕ) → i ∈ g → HasStanding (st .pool) i standingLinked × (owner (m .link) ≢ i)
     goes g s i j = let a = shift-gone (st .pool) (st .register .root) s rep i j in (lk i (a .0), a .1)

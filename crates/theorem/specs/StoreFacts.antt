@@ -17,6 +17,7 @@ use Rattle.datatypes.specs.declared.Step.{Step}
 use Rattle.datatypes.specs.declared.Store.{Store}
 use Rattle.datatypes.specs.declared.Register.{Register}
 use Rattle.datatypes.specs.Side.{owner}
+use Rattle.spec.specs.Numbers.{slots}
 use Rattle.spec.specs.Pool.{child, standingLinked}
 use Rattle.spec.specs.Register.{State, state, nodeAt, linkNode, withWrite, readingSlots, lessFirst}
 use Rattle.spec.specs.Turn.{Made, stepMade, profile}
@@ -35,7 +36,7 @@ use Rattle.heap.specs.Phase.{phase-rep}
 use Rattle.heap.specs.Writes.{InHand, turn}
 use Rattle.heap.specs.Writes as Writes
 use Rattle.promise.specs.Demands.{TreeLink}
-use Rattle.readers.specs.Owned.{Slots, slots-reading}
+use Rattle.laws.specs.Reading.{ReadingOnly, only-reading}
 use Rattle.readers.specs.Reach.{HasStanding}
 use Rattle.readers.specs.Lookups.{Unlinked}
 use Rattle.readers.specs.Stored.{hitsLink, rootAfter}
@@ -104,8 +105,8 @@ tree-still st after came gone k v T T′ t h h′ lk e =
     agree n d (suc (suc (suc (suc f)))) u = absurd (omega arith)
 
 -- awaited slots afterwards
-await-slots : (x : Step) (r : Register) → Slots (r .readers) (r .awaited) → Slots (r .readers) (awaitedAfter x r)
-await-slots x r h = cond-both (Slots (r .readers)) (profile x .awaits) (slots-reading r) h
+await-slots : (x : Step) (r : Register) → ReadingOnly slots (r .readers) (r .awaited) → ReadingOnly slots (r .readers) (awaitedAfter x r)
+await-slots x r h = cond-both (ReadingOnly slots (r .readers)) (profile x .awaits) (only-reading r) h
 
 -- the state after a store, the rest of the write in hand aside
 write-awaited : (r : Register) (w : _) → withWrite r w .awaited ≡ r .awaited

@@ -2,7 +2,7 @@ use mathlib.Core.Bool.{true, false, _&&_}
 use lib.Dec.{leb}
 use Rattle.base.specs.Walk.{allIn}
 use Rattle.register.specs.Ranges.{stops, goes}
-use Rattle.spec.specs.Numbers.{slots, allSlots, mostStores}
+use Rattle.spec.specs.Numbers.{slots, mostStores}
 use Rattle.spec.specs.Register.{registerInRange, readerInRange, storeInRange}
 use mathlib.Core.Path.{_≡_, sym, _∙_}
 use borrow.Author.Tests.{not-true, not-false}
@@ -23,7 +23,7 @@ returns c =
     let r = c .before .before .before .before .before .before .before .before .before .before .args .reg in
     let capacity = c .before .before .before .before .before .before .before .before .before .before .args .capacity in
     let x = leb (r .root) capacity && leb (r .first) capacity && leb (r .last) capacity in
-    let y = leb (r .free) capacity && leb (r .held) capacity && leb (r .awaited) allSlots in
+    let y = leb (r .free) capacity && leb (r .held) capacity in
     let z = leb (r .write .count) mostStores in
     let readers = allIn (readerInRange capacity r) 0 slots in
     let stores = allIn (storeInRange capacity (r .write)) 0 mostStores in
@@ -39,7 +39,7 @@ returns-2 c =
     let r = c .before .before .before .before .before .before .before .before .before .before .before .args .reg in
     let capacity = c .before .before .before .before .before .before .before .before .before .before .before .args .capacity in
     let x = leb (r .root) capacity && leb (r .first) capacity && leb (r .last) capacity in
-    let y = leb (r .free) capacity && leb (r .held) capacity && leb (r .awaited) allSlots in
+    let y = leb (r .free) capacity && leb (r .held) capacity in
     let z = leb (r .write .count) mostStores in
     let readers = allIn (readerInRange capacity r) 0 slots in
     let stores = allIn (storeInRange capacity (r .write)) 0 mostStores in
