@@ -2,11 +2,11 @@ use Rattle.laws.specs.Slots.{shifted, bit-in, bit-le}
 use Rattle.spec.specs.Register.{dropSlot}
 use mathlib.Core.Path.{sym, _∙_}
 use borrow.Author.Needs.{needs}
-use Rattle.register.proofs.drop_slot.Statement.{statement}
-use Rattle.register.proofs.drop_slot.Tie as tie
-use Rattle.register.proofs.drop_slot.Reads as reads
-use Rattle.register.proofs.drop_slot.Lts as lts
-use Rattle.register.proofs.has_slot.Reads as has-slot-reads
+use Rattle.masks.proofs.drop_slot.Statement.{statement}
+use Rattle.masks.proofs.drop_slot.Tie as tie
+use Rattle.masks.proofs.drop_slot.Reads as reads
+use Rattle.masks.proofs.drop_slot.Lts as lts
+use Rattle.masks.proofs.has_slot.Reads as has-slot-reads
 
 has-slot-requires : tie.Need-has-slot-requires
 has-slot-requires c κs = search needs
