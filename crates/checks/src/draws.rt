@@ -104,9 +104,12 @@ pub fn ticket_of(key: u32, nodes: u32) -> u32 {
     }
 }
 
+// one slot drawn in so many is the first that is too high, one is a very high one
+const SLOT_DRAWS: u32 = 32;
+
 // a slot, now and then one too high
 fn slot_of(q: u32) -> u32 {
-    let spread = q / numbers::SLOT_LIMIT % 32;
+    let spread = q / numbers::SLOT_LIMIT % SLOT_DRAWS;
     if spread == 0 {
         return numbers::SLOT_LIMIT;
     }
@@ -161,7 +164,7 @@ pub fn draw_call(x: u32, i: u64, nodes: u32) -> Call {
     let ticket = high(next(second), tickets(nodes));
     Call {
         kind: kind_of(high(first, 64), mood_at(i, nodes)),
-        slot: slot_of(high(second, 256)),
+        slot: slot_of(high(second, numbers::SLOT_LIMIT * SLOT_DRAWS)),
         ticket,
         key: key_of(ticket, tickets(nodes)),
         record: record_of(second, ticket),

@@ -1,5 +1,5 @@
 -- Reading slots as bits of a number, for any number w of slots; the definition's masks are these with all slots.
-use Prim.Native.Nat.{ℕ, _+_, _^_, _<_, _≤_}
+use Prim.Native.Nat.{ℕ, suc, _+_, _^_, _<_, _≤_}
 use mathlib.Core.Path.{_≡_, refl, sym, ap, _∙_, subst}
 use mathlib.Core.Bool.{Bool, true, false, cond, false≢true}
 use mathlib.Core.List.{List}
@@ -31,7 +31,11 @@ marked-step : (r : Register) (i m : ℕ) → Marked r i m → Marked r (i + 1) (
 marked-step r i m h = go (readerOf r i .reading) refl
   where
     wider : m < 2 ^ (i + 1)
-    wider = let a = h .bound in let b = pow-succ' 2 i in omega arith
+    wider =
+        let next : i + 1 ≡ suc i = omega arith in
+        let a = h .bound in
+        let b = pow-succ' 2 i in
+        rw next (omega arith)
 
     go : (b : Bool) → readerOf r i .reading ≡ b → Marked r (i + 1) (cond b (putSlot m i) m)
     go true e = record {
