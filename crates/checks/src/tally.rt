@@ -1,4 +1,7 @@
 // The counts of a run, by row; a row past the end counts nothing.
+ghost use Prim.Native.Nat.{_<_};
+ghost use Rattle.spec.specs.Numbers.{wordBits};
+
 const MOST: u64 = 18_446_744_073_709_551_615;
 
 pub const ROWS: usize = 192;
@@ -108,5 +111,28 @@ pub fn one(counts: &mut [u64], row: usize) {
 pub fn same(counts: &mut [u64], ok: bool) {
     if !ok {
         one(counts, DIFFERENCES);
+    }
+}
+
+// every slot of a mask
+const ALL_SLOTS: u32 = 4_294_967_295;
+
+fn slot_awaited(counts: &mut [u64], mask: u32, s: u32)
+    requires { ⌜ s < wordBits ⌝ }
+{
+    if (mask >> s) % 2 == 1 {
+        one(counts, SLOT_AWAITED + s as usize);
+    }
+}
+
+// Counts the awaited slots after a call.
+pub fn awaited(counts: &mut [u64], mask: u32) {
+    let mut s: u32 = 0;
+    while s < numbers::SLOT_LIMIT {
+        slot_awaited(counts, mask, s);
+        s += 1;
+    }
+    if mask == ALL_SLOTS {
+        one(counts, ALL_AWAITED);
     }
 }

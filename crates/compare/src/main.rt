@@ -95,22 +95,6 @@ fn compare_answer(
     compare_reading(walk::nodes(pool), model, counts, call, said);
 }
 
-// every slot of a mask
-const ALL_SLOTS: u32 = 4_294_967_295;
-
-fn count_awaited(counts: &mut [u64], awaited: u32) {
-    let mut s: u32 = 0;
-    while s < numbers::SLOT_LIMIT {
-        if (awaited >> s) % 2 == 1 {
-            tally::one(counts, tally::SLOT_AWAITED + s as usize);
-        }
-        s += 1;
-    }
-    if awaited == ALL_SLOTS {
-        tally::one(counts, tally::ALL_AWAITED);
-    }
-}
-
 // What holds after every call: keys held, free nodes and awaited slots; and a moment of every lookup and search passes.
 fn compare_state(pool: &[u32], model: &mut [u32], counts: &mut [u64], said: Said) {
     let room = model::observe(model);
@@ -119,9 +103,10 @@ fn compare_state(pool: &[u32], model: &mut [u32], counts: &mut [u64], said: Said
     let awaited = said.awaited == model::awaited(model);
     tally::same(counts, room & held & free & awaited);
     tally::one(counts, tally::STATES);
-    count_awaited(counts, said.awaited);
+    tally::awaited(counts, said.awaited);
 }
 
+// Compares what a call said and left; answers the slots that read after it.
 fn compare(
     pool: &[u32],
     tree: &mut [u32],
@@ -129,10 +114,11 @@ fn compare(
     counts: &mut [u64],
     call: Call,
     said: Said,
-) {
+) -> u32 {
     compare_answer(pool, tree, model, counts, call, said);
     tally::one(counts, call.kind as usize);
     compare_state(pool, model, counts, said);
+    model::reading_slots(model)
 }
 
 fn greater(a: u32, b: u32) -> u32 {
@@ -152,10 +138,11 @@ fn make_calls(
     let mut made = calls::set_up(pool);
     writing::set_up(counts, made.number);
     let mut most: u32 = 0;
+    let mut reading: u32 = 0;
     let mut x = seed;
     let mut i: u64 = 0;
     while i < calls {
-        let call = draws::draw_call(x, i, nodes, model::reading_slots(model));
+        let call = draws::draw_call(x, i, nodes, reading);
         let reg = made.register;
         let row = writing::step_row(calls::step_in_hand(reg));
         made = calls::call_index(pool, reg, call);
@@ -170,7 +157,7 @@ fn make_calls(
             held: made.register.held,
             awaited: made.register.awaited,
         };
-        compare(pool, tree, model, counts, call, said);
+        reading = compare(pool, tree, model, counts, call, said);
         most = greater(most, said.held);
         x = draws::after_call(x);
         i += 1;

@@ -19,11 +19,11 @@ use Rattle.compare.proofs.writing.set_up.Reads as writing-set-up-reads
 use Rattle.compare.proofs.writing.step_row.Reads as step-row-reads
 
 abbrev Inv-loop : tie.InvT-loop
-Inv-loop pool₀ tree₀ model₀ counts₀ calls seed nodes made₀ most₀ x₀ i₀ pool tree model counts made most x i =
+Inv-loop pool₀ tree₀ model₀ counts₀ calls seed nodes made₀ most₀ reading₀ x₀ i₀ pool tree model counts made most reading x i =
     (length pool ≡ length pool₀) × (length tree ≡ length tree₀) × (length model ≡ length model₀) × (length counts ≡ length counts₀)
 
 abbrev μ-loop : tie.MeasureT-loop
-μ-loop pool₀ tree₀ model₀ counts₀ calls seed nodes made₀ most₀ x₀ i₀ pool tree model counts made most x i =
+μ-loop pool₀ tree₀ model₀ counts₀ calls seed nodes made₀ most₀ reading₀ x₀ i₀ pool tree model counts made most reading x i =
     calls - i
 
 nodes-requires : tie.Need-nodes-requires Inv-loop μ-loop
