@@ -17,6 +17,7 @@ use Rattle.table.specs.Starred.{starred}
 use Rattle.table.specs.Readers.{readers}
 use Rattle.table.specs.NextTickets.{nextTickets}
 use Rattle.table.specs.Turns.{turns}
+use Rattle.table.specs.Slots.{slots}
 use Rattle.table.specs.Inserts.{inserts}
 use Rattle.table.specs.Deletes.{deletes}
 use Rattle.table.specs.Replacements.{replacements}
@@ -32,6 +33,7 @@ pub record TablesPass : Type 0 where
   pub readers : allPass readers ≡ true
   pub nextTickets : allPass nextTickets ≡ true
   pub turns : allPass turns ≡ true
+  pub slots : allPass slots ≡ true
   pub inserts : allPass inserts ≡ true
   pub deletes : allPass deletes ≡ true
   pub replacements : allPass replacements ≡ true
@@ -55,6 +57,7 @@ tables-pass =
       readers = refl;
       nextTickets = refl;
       turns = refl;
+      slots = refl;
       inserts = refl;
       deletes = refl;
       replacements = refl;
