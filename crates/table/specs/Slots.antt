@@ -1,6 +1,6 @@
 -- 02, C-15: 32 reader slots, 0 to 31; the bits of all of them in holders and in the awaited slots; refusal 3 from slot 32 on. Bit s is 2 to the
 -- power s: slot 8's 256, slot 16's 65536, slot 24's 16777216, slot 31's 2147483648, all 32 together 4294967295.
-use Prim.Native.Nat.{ℕ, zero, suc, _+_, _*_}
+use Prim.Native.Nat.{ℕ, zero, suc, _+_, _-_, _*_, _^_}
 use Prim.Native.String.{String}
 use mathlib.Core.List.{List, [], _∷_, _++_}
 use Rattle.datatypes.specs.declared.Link.the-variants.{Root, Left, Right}
@@ -95,7 +95,43 @@ tenfold (suc k) s = reader s := (reads (s * 10) 0) ∷ tenfold k (s + 1)
 
 abbrev beginTenfold : ℕ → ℕ → List Line
 beginTenfold zero s = []
-beginTenfold (suc k) s = B s (s * 10) ⇒ ok ∷ beginTenfold k (s + 1)
+beginTenfold (suc k) s = R s ⇒ refused 5 ∷ E s ⇒ refused 5 ∷ B s (s * 10) ⇒ ok ∷ B s 5 ⇒ refused 4 ∷ S s 5 ⇒ refused 4 ∷ beginTenfold k (s + 1)
+
+-- each of them makes a turn; each gives up, and reads no more
+abbrev allGo : ℕ → ℕ → List Line
+allGo zero s = []
+allGo (suc k) s = R s ⇒ go ∷ allGo k (s + 1)
+
+abbrev tenfoldAt2 : ℕ → ℕ → List Change
+tenfoldAt2 zero s = []
+tenfoldAt2 (suc k) s = reader s := (reads (s * 10) 2) ∷ tenfoldAt2 k (s + 1)
+
+abbrev allEnd : ℕ → ℕ → List Line
+allEnd zero s = []
+allEnd (suc k) s = E s ⇒ ok ∷ E s ⇒ refused 5 ∷ allEnd k (s + 1)
+
+-- After the publish the slots give up in rising order, so many from s on, and then no bit up to theirs is left.
+abbrev fall : ℕ → ℕ → List Line
+fall zero s = []
+fall (suc k) s = E s ⇒ ok ∷ awaits (wanting (31 - s) (s + 1) 10) (4294967296 - 2 ^ (s + 1)) ∷ W ⇒ wait ∷ fall k (s + 1)
+
+-- an entry for each of so many slots from s on
+abbrev each : (ℕ → Entry) → ℕ → ℕ → List Entry
+each f zero s = []
+each f (suc k) s = f s ∷ each f k (s + 1)
+
+-- the slot's node is past its range; a word of the node that it names is
+abbrev nodePast : ℕ → Entry
+nodePast s = entry "slots: 2 by the node of each slot" (three but (reader s := (idle 0 9) ∷ [])) (I 5 50 ⇒ refused 2 ∷ [])
+
+abbrev namesDamaged : ℕ → Entry
+namesDamaged s =
+    entry "slots: 2 in the turn of each slot, by a word of the node that it names" (three but (left of 1 := 9 ∷ reader s := (reads 10 1) ∷ [])) (R s ⇒ refused 2 ∷ [])
+
+-- 3 in each call that is given a slot
+abbrev tooHigh : List ℕ → List Line
+tooHigh [] = []
+tooHigh (s ∷ ss) = B s 10 ⇒ refused 3 ∷ S s 10 ⇒ refused 3 ∷ R s ⇒ refused 3 ∷ E s ⇒ refused 3 ∷ tooHigh ss
 
 -- Slot 31's record names a node past the range: 2 in every call that tests.
 abbrev named31 : String → Change → Entry
@@ -150,13 +186,17 @@ slots =
     ∷ E 16 ⇒ ok ∷ E 0 ⇒ ok ∷ R 31 ⇒ go ∷ R 31 ⇒ absent
     ∷ leaves (tenfold 32 0 ++ reader 8 := (reads 80 2) ∷ reader 31 := (idle 0 0) ∷ reader 1 := (reads 10 2) ∷ reader 16 := (idle 0 0) ∷ reader 0 := (idle 0 0) ∷ [])
     ∷ [])
+    ∷ entry "slots: all 32 begin, make a turn and give up" three
+    (beginTenfold 32 0 ++ allGo 32 0 ++ leaves (tenfoldAt2 32 0) ∷ allEnd 32 0 ++ leaves [] ∷ [])
     ∷ entry "slots: 3 of slot 32 comes before 4, all 32 slots reading" three
     (begins 32 0 10
     ++ B 32 10 ⇒ refused 3 ∷ S 32 10 ⇒ refused 3 ∷ R 32 ⇒ refused 3 ∷ E 32 ⇒ refused 3 ∷ B 31 10 ⇒ refused 4 ∷ S 8 10 ⇒ refused 4
     ∷ B 63 10 ⇒ refused 3 ∷ B 256 10 ⇒ refused 3 ∷ S 288 10 ⇒ refused 3 ∷ E 40 ⇒ refused 3 ∷ R 287 ⇒ refused 3 ∷ E 4294967295 ⇒ refused 3 ∷ [])
-    ∷ entry "slots: 3 of slots 32, 33, 63, 64, 256 and 287 comes before 5, no slot reading" three
-    (R 32 ⇒ refused 3 ∷ E 32 ⇒ refused 3 ∷ R 33 ⇒ refused 3 ∷ E 33 ⇒ refused 3 ∷ R 63 ⇒ refused 3 ∷ E 64 ⇒ refused 3 ∷ R 256 ⇒ refused 3 ∷ E 287 ⇒ refused 3
-    ∷ B 33 10 ⇒ refused 3 ∷ S 33 10 ⇒ refused 3 ∷ B 64 10 ⇒ refused 3 ∷ S 256 10 ⇒ refused 3 ∷ R 31 ⇒ refused 5 ∷ E 31 ⇒ refused 5 ∷ E 8 ⇒ refused 5 ∷ [])
+    ∷ entry "slots: 3 comes before 5, no slot reading" three
+    (tooHigh (32 ∷ 33 ∷ 39 ∷ 40 ∷ 63 ∷ 287 ∷ []) ++ R 31 ⇒ refused 5 ∷ E 31 ⇒ refused 5 ∷ R 8 ⇒ refused 5 ∷ E 8 ⇒ refused 5 ∷ [])
+    ∷ entry "slots: 3 of each power of 2 from 32 on" three
+    (tooHigh (32 ∷ 64 ∷ 128 ∷ 256 ∷ 512 ∷ 1024 ∷ 2048 ∷ 4096 ∷ 8192 ∷ 16384 ∷ 32768 ∷ 65536 ∷ 131072 ∷ 262144 ∷ 524288 ∷ 1048576 ∷ 2097152 ∷ 4194304 ∷ 8388608
+    ∷ 16777216 ∷ 33554432 ∷ 67108864 ∷ 134217728 ∷ 268435456 ∷ 536870912 ∷ 1073741824 ∷ 2147483648 ∷ []))
     -- bits
     ∷ holdsAlone "slots: slot 8 alone holds a node" 8 256
     ∷ holdsAlone "slots: slot 15 alone holds a node" 15 32768
@@ -203,6 +243,11 @@ slots =
     ∷ endsAwaited (15 ∷ 1 ∷ 30 ∷ 2 ∷ 29 ∷ 3 ∷ 28 ∷ 4 ∷ 27 ∷ 5 ∷ 26 ∷ 6 ∷ 25 ∷ 9 ∷ 24 ∷ 10 ∷ 23 ∷ 11 ∷ 22 ∷ 12 ∷ 21 ∷ 13 ∷ 20 ∷ 14 ∷ 19 ∷ 17 ∷ [])
     ++ awaits (wanting 1 18 10) 262144
     ∷ E 18 ⇒ ok ∷ goesOn ∷ W ⇒ done (Left 4) 0 ∷ isDone ∷ [])
+    ∷ entry "slots: all 32 are awaited; they end in rising order, each with its bit" five
+    (begins 32 0 10 ++ D 20 ⇒ ok ∷ W ⇒ more Root 6
+    ∷ awaits (wanting 32 0 10) 4294967295
+    ∷ W ⇒ wait ∷ fall 31 0
+    ++ E 31 ⇒ ok ∷ goesOn ∷ W ⇒ done (Left 4) 0 ∷ isDone ∷ [])
     ∷ entry "slots: all 32 hold a node, which is freed when the last of them ends" three
     (begins 32 0 10 ++ D 10 ⇒ ok ∷ W ⇒ done (Left 2) 0
     ∷ held1 (wanting 32 0 10) 4294967295
@@ -275,4 +320,6 @@ slots =
     ∷ waits "slots: a write waits by awaited 65,536, no slot reading" 65536
     ∷ waits "slots: a write waits by awaited 2,147,483,648, no slot reading" 2147483648
     ∷ waits "slots: a write waits by awaited 4,294,967,295, no slot reading" 4294967295
-    ∷ []
+    -- each slot's own node
+    ∷ each nodePast 32 0
+    ++ each namesDamaged 32 0
