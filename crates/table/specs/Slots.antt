@@ -7,8 +7,8 @@ use Rattle.datatypes.specs.declared.Link.the-variants.{Root, Left, Right}
 use Rattle.datatypes.specs.declared.Step.the-variants.{Unlink}
 use Rattle.spec.specs.Register.{State}
 use Rattle.spec.specs.Calls.{ok, go, absent, wait, found, next, more, done, refused}
-use Rattle.table.specs.Picture.{Row, row, Retired, _keptBy_, Read, slot_wants_at_, slot_after_at_with_, wanting, Nothing, Ticket, _remembering_, root_held_awaited_stores_, picture}
-use Rattle.table.specs.Picture.{drawn, rising, tree, black, redLeaf, nil, _on_, left, standing, holders, nextFree, Change, _of_:=_, root:=_, last:=_, free:=_, awaited:=_, hand}
+use Rattle.table.specs.Picture.{Row, row, _keptBy_, Read, slot_wants_at_, slot_after_at_with_, wanting, Nothing, Ticket, _remembering_, root_held_awaited_stores_, picture}
+use Rattle.table.specs.Picture.{drawn, rising, tree, black, redLeaf, nil, _on_, left, standing, holders, nextFree, Change, _of_:=_, last:=_, free:=_, awaited:=_, hand}
 use Rattle.table.specs.Picture.{reader_:=_, reads, idle, seeks, _but_, unset}
 use Rattle.table.specs.Entry.{P, I, D, W, B, S, R, E, _⇒_, Line, stands, leaves, begins, Entry, entry}
 use Rattle.table.specs.Lent.{three, five}
@@ -69,7 +69,7 @@ alone title s =
     ∷ leaves []
     ∷ E s ⇒ refused 5 ∷ R s ⇒ refused 5 ∷ [])
 
--- Slot s alone, whose bit is m, holds a retired node and is awaited; its ends free the node and let the write go on.
+-- Slot s alone, whose bit is m, holds a retired node, which its end frees; or it is awaited, and its end lets the write go on.
 abbrev holdsAlone : String → ℕ → ℕ → Entry
 holdsAlone title s m =
     entry title three
@@ -115,6 +115,29 @@ abbrev fall : ℕ → ℕ → List Line
 fall zero s = []
 fall (suc k) s = E s ⇒ ok ∷ awaits (wanting (31 - s) (s + 1) 10) (4294967296 - 2 ^ (s + 1)) ∷ W ⇒ wait ∷ fall k (s + 1)
 
+-- Node 1 is held by all 32, in lookups of 20, which end in rising order by found.
+abbrev fallFound : ℕ → ℕ → List Line
+fallFound zero s = []
+fallFound (suc k) s = R s ⇒ go ∷ R s ⇒ found 200 ∷ held1 (wanting (31 - s) (s + 1) 20) (4294967296 - 2 ^ (s + 1)) ∷ fallFound k (s + 1)
+
+-- Node 3 is held by all 32, in searches after 15, which end in rising order by the next ticket.
+abbrev beginSearch : ℕ → ℕ → List Line
+beginSearch zero s = []
+beginSearch (suc k) s = S s 15 ⇒ ok ∷ beginSearch k (s + 1)
+
+abbrev searching : ℕ → ℕ → List Read
+searching zero s = []
+searching (suc k) s = (slot s after 15 at 0 with Nothing) ∷ searching k (s + 1)
+
+abbrev held3 : List Read → ℕ → Line
+held3 reading m =
+    stands (picture (root 2 held 2 awaited 0 stores 0)
+    reading (row 1 10 100 1 0 0 ∷ row 2 20 200 0 1 0 ∷ []) (row 3 30 300 1 0 0 keptBy m ∷ []) (4 ∷ 5 ∷ 6 ∷ 7 ∷ 8 ∷ []))
+
+abbrev fallNext : ℕ → ℕ → List Line
+fallNext zero s = []
+fallNext (suc k) s = R s ⇒ go ∷ R s ⇒ go ∷ R s ⇒ next 20 200 ∷ held3 (searching (31 - s) (s + 1)) (4294967296 - 2 ^ (s + 1)) ∷ fallNext k (s + 1)
+
 -- an entry for each of so many slots from s on
 abbrev each : (ℕ → Entry) → ℕ → ℕ → List Entry
 each f zero s = []
@@ -122,7 +145,7 @@ each f (suc k) s = f s ∷ each f k (s + 1)
 
 -- the slot's node is past its range; a word of the node that it names is
 abbrev nodePast : ℕ → Entry
-nodePast s = entry "slots: 2 by the node of each slot" (three but (reader s := (idle 0 9) ∷ [])) (I 5 50 ⇒ refused 2 ∷ [])
+nodePast s = entry "slots: 2 by the node of each slot" (three but (reader s := (idle 0 9) ∷ [])) (I 5 50 ⇒ refused 2 ∷ R 0 ⇒ refused 2 ∷ R 31 ⇒ refused 2 ∷ [])
 
 abbrev namesDamaged : ℕ → Entry
 namesDamaged s =
@@ -256,6 +279,17 @@ slots =
     ∷ ends (31 ∷ 0 ∷ 30 ∷ 1 ∷ 29 ∷ 2 ∷ 28 ∷ 3 ∷ 27 ∷ 4 ∷ 26 ∷ 5 ∷ 25 ∷ 6 ∷ 7 ∷ [])
     ++ held1 (wanting 1 24 10) 16777216
     ∷ R 24 ⇒ go ∷ R 24 ⇒ absent ∷ freed1 ∷ [])
+    ∷ entry "slots: all 32 hold a node; each of them finds its key, and takes its bit" three
+    (begins 32 0 20 ++ D 10 ⇒ ok ∷ W ⇒ done (Left 2) 0
+    ∷ held1 (wanting 32 0 20) 4294967295
+    ∷ fallFound 31 0
+    ++ R 31 ⇒ go ∷ R 31 ⇒ found 200 ∷ freed1 ∷ [])
+    ∷ entry "slots: all 32 search and hold a node; each of them answers the next ticket, and takes its bit" three
+    (beginSearch 32 0 ++ D 30 ⇒ ok ∷ W ⇒ done (Right 2) 0
+    ∷ held3 (searching 32 0) 4294967295
+    ∷ fallNext 31 0
+    ++ R 31 ⇒ go ∷ R 31 ⇒ go ∷ R 31 ⇒ next 20 200
+    ∷ stands (picture (root 2 held 2 awaited 0 stores 0) [] (row 1 10 100 1 0 0 ∷ row 2 20 200 0 1 0 ∷ []) [] (4 ∷ 5 ∷ 6 ∷ 7 ∷ 8 ∷ 3 ∷ [])) ∷ [])
     ∷ entry "slots: the nodes of a zig are held by slots 8 and 31" (tree 8 (black nil redLeaf))
     (B 31 15 ⇒ ok ∷ S 8 15 ⇒ ok ∷ I 15 150 ⇒ ok ∷ W ⇒ more (Left 2) 3 ∷ W ⇒ more (Right 3) 4 ∷ W ⇒ more (Left 3) 5 ∷ W ⇒ done Root 3
     ∷ stands (picture (root 3 held 3 awaited 0 stores 0)

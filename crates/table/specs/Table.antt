@@ -28,6 +28,16 @@ use Rattle.table.specs.Damaged.{damaged}
 use Rattle.table.specs.PlainLists.{allListed, plainLists, lists-pass}
 use Rattle.table.specs.Large.{LargePasses, large-passes}
 
+-- apart from the others, since the check of one declaration may take only so many steps
+slots-pass : allPass slots ≡ true
+unfolding allFrom allIn foldFrom foldIn word setWord nodeInRange poolInRange lengthRight freshNodes freshPool withRoot withQueue withHeld withReader
+    withAwaited withWrite nodeAt setLink putSlot dropSlot readingSlots storeInRange registerInRange freshRegister fresh writeOf lessFirst takeFree
+    fillNode takeNode freeNode retire retireTwo release endReading seek trail leftmost insertFixup fixupAfterInsert paintInsertFixup redSibling
+    deleteFixup fixupAfterRemoval paintDeleteLevels paintDeleteFixup insertPlan unlinkPlan deletePlan insertStore replaceStore diagLower diagRaise
+    zigLowerA zigLowerC zigRaise unlinkStore adoptStore promoteStore movedWrite publishStore detachStore stepFinds stepMade setUp insert delete stored
+    writerTurn begin readerStep readerTurn giveUp
+slots-pass = refl
+
 pub record TablesPass : Type 0 where
   pub starred : allPass starred ≡ true
   pub readers : allPass readers ≡ true
@@ -57,7 +67,7 @@ tables-pass =
       readers = refl;
       nextTickets = refl;
       turns = refl;
-      slots = refl;
+      slots = slots-pass;
       inserts = refl;
       deletes = refl;
       replacements = refl;
