@@ -57,7 +57,7 @@ pub fn after_call(x: u32) -> u32 {
 
 // The moods take turns, each long enough to fill the index or to empty it.
 fn mood_at(i: u64, nodes: u32) -> Mood {
-    let stretch = i / (nodes as u64 * 20 + 40) % 4;
+    let stretch = i / (nodes as u64 * 64 + 40) % 4;
     Mood {
         growing: stretch < 2,
         busy: (stretch == 1) | (stretch == 2),
@@ -104,9 +104,12 @@ pub fn ticket_of(key: u32, nodes: u32) -> u32 {
     }
 }
 
+// one slot drawn in so many is the first that is too high, one is a very high one
+const SLOT_DRAWS: u32 = 32;
+
 // a slot, now and then one too high
 fn slot_of(q: u32) -> u32 {
-    let spread = q / numbers::SLOT_LIMIT % 32;
+    let spread = q / numbers::SLOT_LIMIT % SLOT_DRAWS;
     if spread == 0 {
         return numbers::SLOT_LIMIT;
     }
@@ -114,6 +117,28 @@ fn slot_of(q: u32) -> u32 {
         return LARGEST - q % numbers::SLOT_LIMIT;
     }
     q % numbers::SLOT_LIMIT
+}
+
+// the first slot from s on, round the slots, that reads, or that doesn't; s itself if there is none
+fn slot_from(s: u32, reading: u32, reads: bool) -> u32 {
+    let first = s % numbers::SLOT_LIMIT;
+    let mut n: u32 = 0;
+    while n < numbers::SLOT_LIMIT {
+        let t = (first + n) % numbers::SLOT_LIMIT;
+        if (reading >> t) % 2 == reads as u32 {
+            return t;
+        }
+        n += 1;
+    }
+    s
+}
+
+// Most turns and give ups are of a slot that reads, and most begins of one that doesn't: few drawn slots would be so by chance.
+fn aimed_slot(s: u32, kind: u32, reading: u32, aims: bool) -> u32 {
+    if aims & (s < numbers::SLOT_LIMIT) {
+        return slot_from(s, reading, (kind == READER_TURN) | (kind == GIVE_UP));
+    }
+    s
 }
 
 fn write_kind(growing: bool, often: bool) -> u32 {
@@ -154,14 +179,16 @@ fn record_of(q: u32, ticket: u32) -> u32 {
     if q / 16_777_216 % 8 == 0 { ticket } else { q }
 }
 
-// Draws a run's call number i, on so many nodes.
-pub fn draw_call(x: u32, i: u64, nodes: u32) -> Call {
+// Draws a run's call number i, on so many nodes, with these slots reading.
+pub fn draw_call(x: u32, i: u64, nodes: u32, reading: u32) -> Call {
     let first = next(x);
     let second = next(first);
     let ticket = high(next(second), tickets(nodes));
+    let kind = kind_of(high(first, 64), mood_at(i, nodes));
+    let slot = slot_of(high(second, numbers::SLOT_LIMIT * SLOT_DRAWS));
     Call {
-        kind: kind_of(high(first, 64), mood_at(i, nodes)),
-        slot: slot_of(high(second, 256)),
+        kind,
+        slot: aimed_slot(slot, kind, reading, first / 4_194_304 % 8 != 0),
         ticket,
         key: key_of(ticket, tickets(nodes)),
         record: record_of(second, ticket),

@@ -84,6 +84,9 @@ pub const REPLACE: u32 = 3;
 // where a count stops
 const MOST: u32 = 4_294_967_295;
 
+// half of a word's numbers: doubled, none below it is too large
+const HALF_RANGE: u32 = 2_147_483_648;
+
 fn word(model: &[u32], at: usize) -> u32 {
     if at < model.len() { model[at] } else { 0 }
 }
@@ -417,7 +420,8 @@ fn slots_with(model: &[u32], f: u32) -> u32 {
     let mut bits: u32 = 0;
     let mut s: u32 = 0;
     while s < numbers::SLOT_LIMIT {
-        bits = bits % 128 * 2 + slot_word(model, 7 - s, f) % 2;
+        let slot = numbers::SLOT_LIMIT - 1 - s;
+        bits = bits % HALF_RANGE * 2 + slot_word(model, slot, f) % 2;
         s += 1;
     }
     bits

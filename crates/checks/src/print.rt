@@ -140,6 +140,33 @@ fn next_searches(counts: &[u64]) {
     );
 }
 
+// Prints the counts of each slot.
+fn by_slot(label: &[u8], counts: &[u64], first: usize)
+    requires { ⌜ first < 192 ⌝ }
+{
+    io::write_all(1, label);
+    let mut s: usize = 0;
+    while s < numbers::SLOTS {
+        io::write_all(1, b"\t");
+        io::print_decimal(1, tally::get(counts, first + s));
+        s += 1;
+    }
+    io::write_all(1, b"\n");
+}
+
+fn slots(counts: &[u64]) {
+    by_slot(b"begun in slots 0 to 31", counts, tally::SLOT_BEGUN);
+    by_slot(
+        b"calls with slots 0 to 31 awaited",
+        counts,
+        tally::SLOT_AWAITED,
+    );
+    line(
+        b"calls with every slot awaited",
+        tally::get(counts, tally::ALL_AWAITED),
+    );
+}
+
 fn steps(counts: &[u64]) {
     line(b"store insert", tally::get(counts, tally::STEPS));
     line(b"store replace", tally::get(counts, tally::STEPS + 1));
@@ -207,6 +234,7 @@ pub fn all(counts: &[u64]) {
     turns(counts);
     readers(counts);
     next_searches(counts);
+    slots(counts);
     steps(counts);
     rotations(counts);
     comparisons(counts);

@@ -1,7 +1,7 @@
 // The counts of a run, by row; a row past the end counts nothing.
 const MOST: u64 = 18_446_744_073_709_551_615;
 
-pub const ROWS: usize = 128;
+pub const ROWS: usize = 192;
 
 // Set up, and then the other calls by the numbers of their kinds; refusals by their numbers; finished deletes by their form, finished and
 // accepted writes by their kind in the model.
@@ -77,6 +77,13 @@ pub const ROTATIONS: usize = 68;
 pub const FOUND_OUTDATED: usize = 100;
 
 pub const NEXT_OUTDATED: usize = 101;
+
+// calls after which every slot was awaited; by slot: readings begun, and calls after which it was awaited
+pub const ALL_AWAITED: usize = 102;
+
+pub const SLOT_BEGUN: usize = 103;
+
+pub const SLOT_AWAITED: usize = SLOT_BEGUN + numbers::SLOTS;
 
 // Answers the count of a row.
 pub fn get(counts: &[u64], row: usize) -> u64 {

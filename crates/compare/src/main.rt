@@ -95,6 +95,22 @@ fn compare_answer(
     compare_reading(walk::nodes(pool), model, counts, call, said);
 }
 
+// every slot of a mask
+const ALL_SLOTS: u32 = 4_294_967_295;
+
+fn count_awaited(counts: &mut [u64], awaited: u32) {
+    let mut s: u32 = 0;
+    while s < numbers::SLOT_LIMIT {
+        if (awaited >> s) % 2 == 1 {
+            tally::one(counts, tally::SLOT_AWAITED + s as usize);
+        }
+        s += 1;
+    }
+    if awaited == ALL_SLOTS {
+        tally::one(counts, tally::ALL_AWAITED);
+    }
+}
+
 // What holds after every call: keys held, free nodes and awaited slots; and a moment of every lookup and search passes.
 fn compare_state(pool: &[u32], model: &mut [u32], counts: &mut [u64], said: Said) {
     let room = model::observe(model);
@@ -103,6 +119,7 @@ fn compare_state(pool: &[u32], model: &mut [u32], counts: &mut [u64], said: Said
     let awaited = said.awaited == model::awaited(model);
     tally::same(counts, room & held & free & awaited);
     tally::one(counts, tally::STATES);
+    count_awaited(counts, said.awaited);
 }
 
 fn compare(
@@ -138,7 +155,7 @@ fn make_calls(
     let mut x = seed;
     let mut i: u64 = 0;
     while i < calls {
-        let call = draws::draw_call(x, i, nodes);
+        let call = draws::draw_call(x, i, nodes, model::reading_slots(model));
         let reg = made.register;
         let row = writing::step_row(calls::step_in_hand(reg));
         made = calls::call_index(pool, reg, call);
@@ -206,7 +223,7 @@ fn nodes_of(run: u32) -> u32 {
 }
 
 fn calls_of(run: u32) -> u64 {
-    if run < 7 { 300_000 } else { 500_000 }
+    if run < 7 { 300_000 } else { 1_000_000 }
 }
 
 // a run's number is its seed

@@ -5,8 +5,11 @@ use checks::draws::Call;
 use checks::model;
 use checks::tally;
 
+// document 02, C-15: slots are 0 to 31
+const LAST_SLOT: u32 = 31;
+
 fn begin_foretold(model: &[u32], s: u32) -> u32 {
-    if 7 < s {
+    if LAST_SLOT < s {
         return 3;
     }
     if model::reading(model, s) {
@@ -17,7 +20,7 @@ fn begin_foretold(model: &[u32], s: u32) -> u32 {
 
 // of a reader's turn and of a give up
 fn slot_foretold(model: &[u32], s: u32) -> u32 {
-    if 7 < s {
+    if LAST_SLOT < s {
         return 3;
     }
     if model::reading(model, s) {
@@ -33,6 +36,7 @@ pub fn begin(model: &mut [u32], counts: &mut [u64], call: Call, number: u32) {
     if foretold == calls::ACCEPTED {
         model::begin_lookup(model, call.slot, call.ticket);
         tally::one(counts, tally::BEGUN);
+        tally::one(counts, tally::SLOT_BEGUN + call.slot as usize);
     }
 }
 
@@ -43,6 +47,7 @@ pub fn begin_next(model: &mut [u32], counts: &mut [u64], call: Call, number: u32
     if foretold == calls::ACCEPTED {
         model::begin_next(model, call.slot, call.ticket);
         tally::one(counts, tally::NEXT_BEGUN);
+        tally::one(counts, tally::SLOT_BEGUN + call.slot as usize);
     }
 }
 

@@ -1,21 +1,22 @@
 -- Reading slots as bits of a number, for any number w of slots; the definition's masks are these with all slots.
-use Prim.Native.Nat.{ℕ, _+_, _^_, _<_, _≤_}
+use Prim.Native.Nat.{ℕ, suc, _+_, _*_, _/_, _^_, _<_, _≤_}
 use mathlib.Core.Path.{_≡_, refl, sym, ap, _∙_, subst}
 use mathlib.Core.Bool.{Bool, true, false, cond, false≢true}
 use mathlib.Core.List.{List}
 use mathlib.Core.Logic.{_≢_}
 use native.Mathlib.Decide.{ℕ-discrete}
 use native.Mathlib.Omega.{arith}
-use native.Mathlib.Nat.{pow-succ'}
-use lib.Pow.{pow-pos}
+use native.Mathlib.Nat.{pow-succ', pow-suc, div-div-eq-div-mul, div-eq-of-lt, div-le-self}
+use lib.Pow.{pow-pos, pow-mono}
+use mir.Val.{boolByte}
 use lib.ListN.{length, getD, set}
 use lib.Seq.{getD-set-same, getD-set-other}
 use Rattle.base.specs.Walk.{foldIn, walk}
 use Rattle.datatypes.specs.declared.Reader.{Reader}
 use Rattle.datatypes.specs.declared.Register.{Register}
-use Rattle.spec.specs.Numbers.{slots}
+use Rattle.spec.specs.Numbers.{slots, wordBits}
 use Rattle.spec.specs.Register.{readerOf, noReader, hasSlot, putSlot, dropSlot, addReading, readingSlots, withReader}
-use Rattle.laws.specs.Slots.{put-same, put-other, put-below, drop-same, drop-other, drop-le, no-bit}
+use Rattle.laws.specs.Slots.{put-same, put-other, put-below, drop-same, drop-other, drop-le, no-bit, bit-byte}
 
 -- the reading ones of the first w slots
 abbrev pub readingOf : ℕ → Register → ℕ
@@ -31,7 +32,11 @@ marked-step : (r : Register) (i m : ℕ) → Marked r i m → Marked r (i + 1) (
 marked-step r i m h = go (readerOf r i .reading) refl
   where
     wider : m < 2 ^ (i + 1)
-    wider = let a = h .bound in let b = pow-succ' 2 i in omega arith
+    wider =
+        let next : i + 1 ≡ suc i = omega arith in
+        let a = h .bound in
+        let b = pow-succ' 2 i in
+        rw next (omega arith)
 
     go : (b : Bool) → readerOf r i .reading ≡ b → Marked r (i + 1) (cond b (putSlot m i) m)
     go true e = record {
@@ -58,6 +63,26 @@ reading-bit-of w r s h = marked w r .low s h
 
 pub reading-below-of : (w : ℕ) (r : Register) → readingOf w r < 2 ^ w
 reading-below-of w r = marked w r .bound
+
+-- The same mask from above: with no slot it is 0, each slot doubles it and adds its bit, and with all slots it is the whole.
+pub halves-end : (w : ℕ) (r : Register) → readingOf w r / 2 ^ w ≡ 0
+halves-end w r = div-eq-of-lt (reading-below-of w r)
+
+pub halves-step : (w : ℕ) (r : Register) (s : ℕ) → s < w
+    → readingOf w r / 2 ^ s ≡ readingOf w r / 2 ^ (s + 1) * 2 + boolByte (readerOf r s .reading)
+halves-step w r s h =
+    let m = readingOf w r in
+    let next : s + 1 ≡ suc s = omega arith in
+    let half : m / 2 ^ (s + 1) ≡ m / 2 ^ s / 2 = rw (next, pow-suc 2 s) (sym (div-div-eq-div-mul m (2 ^ s) 2)) in
+    rw half (let b = bit-byte m s (readerOf r s .reading) (reading-bit-of w r s h) in omega arith)
+
+-- it is a word as long as a word has room for the slots
+pub halves-fit : (w : ℕ) (r : Register) (s : ℕ) → w ≤ wordBits → readingOf w r / 2 ^ s < 2 ^ wordBits
+halves-fit w r s h =
+    let a = reading-below-of w r in
+    let b = div-le-self (readingOf w r) (2 ^ s) in
+    let c = pow-mono h in
+    omega arith
 
 -- a mask of w slots in which only reading ones are
 pub record ReadingOnly (w : ℕ) (xs : List Reader) (m : ℕ) : Type 0 where

@@ -2,6 +2,7 @@
 use mathlib.Core.Path.{_≡_, refl, ap, sym, _∙_}
 use mathlib.Core.Bool.{Bool, true, false}
 use mathlib.Core.Logic.{_≢_, _⊎_, inl, inr}
+use mir.Val.{boolByte}
 use lib.Dec.{lit<}
 use lib.Pow.{shl-exact, pow-pos}
 use borrow.Author.Tests.{eq-eqb, ne-eqb, eqb-true, eqb-false}
@@ -156,3 +157,8 @@ bit-out m s h = let d = eqb-false (bit m s) 1 h in let l = bit-two m s in omega 
 
 pub bit-in : (m s : ℕ) → hasSlot m s ≡ true → bit m s ≡ 1
 bit-in m s h = eqb-true (bit m s) 1 h
+
+-- a slot's bit as the code casts it
+pub bit-byte : (m s : ℕ) (b : Bool) → hasSlot m s ≡ b → bit m s ≡ boolByte b
+bit-byte m s true h = bit-in m s h
+bit-byte m s false h = bit-out m s h

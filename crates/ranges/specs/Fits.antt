@@ -156,7 +156,7 @@ within-take capacity st k v s x y c hx hy hc h =
       last = cond-le (eqb next 0) 0 (st .register .last) capacity (omega arith) (h .last);
       free = let a = h .free in omega arith;
       held = h .held;
-          readers = h .readers;
+      readers = h .readers;
     }
 
 -- Free, retire, release.
@@ -181,7 +181,7 @@ within-free capacity st n hn h =
       last = hn;
       free = rw (h .size) (count-up capacity (st .register .free) (h .free));
       held = h .held;
-          readers = h .readers;
+      readers = h .readers;
     }
 
 pub within-retire : (capacity : ℕ) (st : State) (n : ℕ) → n ≤ capacity → Within capacity st → Within capacity (retire st n)

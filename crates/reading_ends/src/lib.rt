@@ -128,7 +128,7 @@ fn release(pool: &mut [u32], h: Head, s: u32, n: u32) -> Head
     requires { ⌜ (length (now pool) < poolLimit) × (s < wordBits) × (eqb (word (now pool) n standingWord) standingRetired ≡ true) ⌝ }
     ensures { λ r. ⌜ Follows (λ st. release s st n) (now (pool .entry)) h (now (pool .exit)) r ⌝ }
 {
-    let left = register::drop_slot(pool::word(pool, n, pool::HOLDERS), s);
+    let left = masks::drop_slot(pool::word(pool, n, pool::HOLDERS), s);
     if left == 0 {
         return queue::free_node(pool, h, n);
     }
@@ -143,7 +143,7 @@ pub fn end_reading(pool: &mut [u32], h: Head, s: u32) -> Head
 {
     let count = pool.len() / numbers::NODE_WORDS;
     let mut r = h;
-    r.awaited = register::drop_slot(h.awaited, s);
+    r.awaited = masks::drop_slot(h.awaited, s);
     let mut n = next_retired(pool, 1, count);
     while n <= count {
         r = release(pool, r, s, n as u32);

@@ -1,4 +1,4 @@
-// The register: the write in hand changed, slots as bits, the test of ranges.
+// The register: reader records and the write in hand made, the reading slots as a mask, the test of ranges.
 use datatypes::Kind;
 use datatypes::Link;
 use datatypes::Reader;
@@ -7,26 +7,28 @@ use datatypes::Step;
 use datatypes::Store;
 use datatypes::Write;
 ghost use mathlib.Core.Path.{_≡_};
-ghost use Prim.Native.Nat.{_<_, _+_};
 ghost use mathlib.Core.Bool.{cond, _&&_};
-ghost use Rattle.spec.specs.Numbers.{slots, wordBits, mostStores};
-ghost use Rattle.spec.specs.Register.{noReader, begunReader, movedReader, remembering, vacant, noWrite, withWrite, hasSlot, putSlot, dropSlot};
+ghost use Rattle.spec.specs.Numbers.{slots, mostStores};
+ghost use Rattle.spec.specs.Register.{noReader, begunReader, movedReader, remembering, vacant, noWrite, withWrite};
 ghost use Rattle.spec.specs.Register.{readingSlots, nodeNumber, linkInRange, stepInRange, isRoot, isVacant, storeInRange, readerInRange, registerInRange};
 ghost use Rattle.base.specs.Walk.{allIn};
 
-// Makes the record of a slot that isn't reading.
+// The record of a slot that isn't reading. As a constant: an array of what a function makes is filled word by word.
+pub const NO_READER: Reader = Reader {
+    reading: false,
+    kind: Kind::Lookup,
+    remembers: false,
+    key: 0,
+    node: 0,
+    best: 0,
+    value: 0,
+};
+
+// Makes the same.
 pub fn no_reader() -> Reader
     ensures { λ r. ⌜ r ≡ noReader ⌝ }
 {
-    Reader {
-        reading: false,
-        kind: Kind::Lookup,
-        remembers: false,
-        key: 0,
-        node: 0,
-        best: 0,
-        value: 0,
-    }
+    NO_READER
 }
 
 // Makes the record of a slot that begins a search of this kind with the key k.
@@ -106,48 +108,15 @@ pub fn with_write(reg: Register, w: Write) -> Register
     r
 }
 
-// Answers whether slot s is in a mask.
-pub fn has_slot(m: u32, s: u32) -> bool
-    requires { ⌜ s < wordBits ⌝ }
-    ensures { λ r. ⌜ r ≡ hasSlot m s ⌝ }
-{
-    (m >> s) % 2 == 1
-}
-
-// Answers a mask with slot s too.
-pub fn put_slot(m: u32, s: u32) -> u32
-    requires { ⌜ s < wordBits ⌝ }
-    ensures { λ r. ⌜ r ≡ putSlot m s ⌝ }
-{
-    if has_slot(m, s) { m } else { m + (1 << s) }
-}
-
-// Answers a mask without slot s.
-pub fn drop_slot(m: u32, s: u32) -> u32
-    requires { ⌜ s < wordBits ⌝ }
-    ensures { λ r. ⌜ r ≡ dropSlot m s ⌝ }
-{
-    if has_slot(m, s) { m - (1 << s) } else { m }
-}
-
-// Answers a mask with slot s too, if it reads.
-fn add_slot(m: u32, s: u32, reading: bool) -> u32
-    requires { ⌜ s < wordBits ⌝ }
-    ensures { λ r. ⌜ r ≡ cond reading (putSlot m s) m ⌝ }
-{
-    if reading { put_slot(m, s) } else { m }
-}
-
-// Answers the mask of all reading slots.
+// Answers the mask of all reading slots, from the last slot's bit to the first's.
 pub fn reading_slots(reg: Register) -> u32
     ensures { λ r. ⌜ r ≡ readingSlots reg ⌝ }
 {
     let mut m: u32 = 0;
-    let mut s: u32 = 0;
-    while s < numbers::SLOT_LIMIT {
-        let i = s as usize;
-        m = add_slot(m, s, reg.readers[i].reading);
-        s += 1;
+    let mut s: usize = numbers::SLOTS;
+    while s > 0 {
+        s -= 1;
+        m = m * 2 + reg.readers[s].reading as u32;
     }
     m
 }

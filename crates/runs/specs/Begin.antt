@@ -117,7 +117,6 @@ module _ (N : ℕ) (lo : leastNodes ≤ N) where
       last = omega arith;
       free = omega arith;
       held = omega arith;
-      awaited = omega arith;
       readers = λ s. rw (ap (λ x. x .node) (quiet s)) (omega arith);
     };
     write = write-none N;

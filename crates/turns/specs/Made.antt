@@ -1,7 +1,7 @@
 -- A writer's turn from the answer of its step: a publish moves the stores still to come to its copy, then the first store goes.
 use mathlib.Core.Path.{_≡_, ap, _∙_}
 use mathlib.Core.List.{List}
-use mathlib.Core.Bool.{cond}
+use mathlib.Core.Bool.{Bool, true, false, cond}
 use Prim.Native.Nat.{ℕ}
 use Rattle.datatypes.specs.declared.Link.{Link}
 use Rattle.datatypes.specs.declared.Head.{Head}
@@ -9,6 +9,8 @@ use Rattle.datatypes.specs.declared.Register.{Register}
 use Rattle.datatypes.specs.declared.StepResult.{StepResult}
 use Rattle.datatypes.specs.declared.Write.{Write}
 use Rattle.datatypes.specs.declared.Step.{Step}
+use Rattle.datatypes.specs.declared.Step.the-variants.{Vacant, Insert, Replace, DiagLower, DiagRaise, ZigLowerA, ZigLowerC, ZigRaise, Unlink, Adopt}
+use Rattle.datatypes.specs.declared.Step.the-variants.{Promote, Publish, Detach}
 use Rattle.spec.specs.Register.{State, state, storeOf, nodeAt, readingSlots, withWrite}
 use Rattle.spec.specs.Turn.{movedWrite, profile}
 use Rattle.spec.specs.Calls.{Answer, Outcome, stored}
@@ -21,10 +23,26 @@ movedBy x b n w = cond (profile x .renames) (movedWrite b n w) w
 abbrev pub movedRest : Step → ℕ → ℕ → Register → Register
 movedRest x b n q = withWrite q (movedBy x b n (q .write))
 
--- a step tried, of any kind
+-- a step that retires a node, or awaits: it asks which slots are reading
+abbrev pub asksReading : Step → Bool
+asksReading Vacant = false
+asksReading (Insert k v) = false
+asksReading (Replace v) = true
+asksReading (DiagLower s purpose) = false
+asksReading (DiagRaise s purpose) = true
+asksReading (ZigLowerA s purpose) = false
+asksReading (ZigLowerC s purpose) = false
+asksReading (ZigRaise s purpose) = true
+asksReading Unlink = true
+asksReading Adopt = false
+asksReading Promote = true
+asksReading (Publish n) = true
+asksReading (Detach k) = true
+
+-- a step tried, of any kind; m is the mask of the reading slots if the step asks for it
 abbrev pub TriesAny : ℕ → Link → Step → List ℕ → Head → List ℕ → StepResult → Type 0
 TriesAny m l x p h p′ t =
-    (q : Register) → readingSlots q ≡ m → Tells (at p h q) l x p′ t (movedRest x (nodeAt p (h .root) l) (h .first) q)
+    (q : Register) → (asksReading x ≡ true → readingSlots q ≡ m) → Tells (at p h q) l x p′ t (movedRest x (nodeAt p (h .root) l) (h .first) q)
 
 -- the step of the first store, tried on a whole register
 abbrev pub FirstTold : List ℕ → Register → List ℕ → StepResult → Type 0

@@ -13,12 +13,12 @@ ghost use mathlib.Core.List.{List};
 ghost use Prim.Native.Nat.{ℕ, _<_};
 ghost use lib.ListN.{length};
 ghost use Rattle.spec.specs.Numbers.{poolLimit};
-ghost use Rattle.spec.specs.Register.{state, withWrite, lessFirst};
+ghost use Rattle.spec.specs.Register.{state, withWrite, lessFirst, readingSlots};
 ghost use Rattle.spec.specs.Turn.{profile};
 ghost use Rattle.spec.specs.Calls.{writerSays, storeAnswer, stored, writeInHand, writerTurn};
 ghost use Rattle.laws.specs.Tests.{lentNumber};
 ghost use Rattle.heads.specs.Head.{left};
-ghost use Rattle.turns.specs.Made.{TriesAny, FirstTold};
+ghost use Rattle.turns.specs.Made.{asksReading, TriesAny, FirstTold};
 
 // Tries the step x at the link l.
 pub fn try_step(pool: &mut [u32], h: Head, reading: u32, l: Link, x: Step) -> StepResult
@@ -101,6 +101,37 @@ fn stored(reg: Register, t: StepResult, w: Write) -> WriterReply
     WriterReply { answer, register }
 }
 
+// Answers whether the step x asks which slots are reading: it retires a node, or awaits.
+fn asks_reading(x: Step) -> bool
+    ensures { λ r. ⌜ r ≡ asksReading x ⌝ }
+{
+    match x {
+        Step::Vacant => false,
+        Step::Insert(_, _) => false,
+        Step::Replace(_) => true,
+        Step::DiagLower(_, _) => false,
+        Step::DiagRaise(_, _) => true,
+        Step::ZigLowerA(_, _) => false,
+        Step::ZigLowerC(_, _) => false,
+        Step::ZigRaise(_, _) => true,
+        Step::Unlink => true,
+        Step::Adopt => false,
+        Step::Promote => true,
+        Step::Publish(_) => true,
+        Step::Detach(_) => true,
+    }
+}
+
+// Answers the mask of the reading slots, 0 for a step that doesn't ask for it.
+fn reading_for(reg: Register, x: Step) -> u32
+    ensures { λ r. ⌜ (asksReading x ≡ true → readingSlots reg ≡ r) ⌝ }
+{
+    if !asks_reading(x) {
+        return 0;
+    }
+    register::reading_slots(reg)
+}
+
 // Tries the step of the first store.
 fn first_step(pool: &mut [u32], reg: Register) -> StepResult
     requires { ⌜ length (now pool) < poolLimit ⌝ }
@@ -113,7 +144,7 @@ fn first_step(pool: &mut [u32], reg: Register) -> StepResult
     try_step(
         pool,
         heads::head_of(reg),
-        register::reading_slots(reg),
+        reading_for(reg, step),
         link,
         step,
     )

@@ -17,7 +17,7 @@ use Rattle.reading_ends.proofs.end_reading.Lts as lts
 use Rattle.reading_ends.proofs.following_retired.Reads as following-retired-reads
 use Rattle.reading_ends.proofs.next_retired.Reads as next-retired-reads
 use Rattle.reading_ends.proofs.release.Reads as release-reads
-use Rattle.register.proofs.drop_slot.Reads as drop-slot-reads
+use Rattle.masks.proofs.drop_slot.Reads as drop-slot-reads
 
 abbrev Inv-loop : tie.InvT-loop
 Inv-loop pool₀ s count r₀ n₀ pool r n =

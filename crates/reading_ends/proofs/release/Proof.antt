@@ -8,7 +8,7 @@ use Rattle.reading_ends.proofs.release.Lts as lts
 use Rattle.pool.proofs.set_word.Reads as set-word-reads
 use Rattle.pool.proofs.word.Reads as word-reads
 use Rattle.queue.proofs.free_node.Reads as free-node-reads
-use Rattle.register.proofs.drop_slot.Reads as drop-slot-reads
+use Rattle.masks.proofs.drop_slot.Reads as drop-slot-reads
 
 word-requires : tie.Need-word-requires
 word-requires c κs = search needs

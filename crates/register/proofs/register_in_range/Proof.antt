@@ -20,8 +20,8 @@ readers-in-range-requires c κs = search needs
 returns : tie.Need-returns
 unfolding registerInRange
 returns c =
-    let r = c .before .before .before .before .before .before .before .before .before .before .args .reg in
-    let capacity = c .before .before .before .before .before .before .before .before .before .before .args .capacity in
+    let r = c .before .before .before .before .before .before .before .before .before .args .reg in
+    let capacity = c .before .before .before .before .before .before .before .before .before .args .capacity in
     let x = leb (r .root) capacity && leb (r .first) capacity && leb (r .last) capacity in
     let y = leb (r .free) capacity && leb (r .held) capacity in
     let z = leb (r .write .count) mostStores in
@@ -36,8 +36,8 @@ stores-in-range-requires c κs = search needs
 returns-2 : tie.Need-returns-2
 unfolding registerInRange
 returns-2 c =
-    let r = c .before .before .before .before .before .before .before .before .before .before .before .args .reg in
-    let capacity = c .before .before .before .before .before .before .before .before .before .before .before .args .capacity in
+    let r = c .before .before .before .before .before .before .before .before .before .before .args .reg in
+    let capacity = c .before .before .before .before .before .before .before .before .before .before .args .capacity in
     let x = leb (r .root) capacity && leb (r .first) capacity && leb (r .last) capacity in
     let y = leb (r .free) capacity && leb (r .held) capacity in
     let z = leb (r .write .count) mostStores in

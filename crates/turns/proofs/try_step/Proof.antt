@@ -118,7 +118,7 @@ same-length-2 c = search needs
 
 returns-3 : tie.Need-returns-3
 unfolding withWrite
-returns-3 c = rw (c .before .before .before .before .before .x2 .given .1) (λ q r. c .before .before .replace .ensures q r)
+returns-3 c = rw (c .before .before .before .before .before .x2 .given .1) (λ q r. c .before .before .replace .ensures q (r refl))
 
 same-length-3 : tie.Need-same-length-3
 same-length-3 c = search needs
@@ -132,7 +132,7 @@ same-length-4 c = search needs
 
 returns-5 : tie.Need-returns-5
 unfolding withWrite
-returns-5 c = rw (c .before .before .before .before .before .x4 .given .1) (λ q r. c .before .before .diag-raise .ensures q r)
+returns-5 c = rw (c .before .before .before .before .before .x4 .given .1) (λ q r. c .before .before .diag-raise .ensures q (r refl))
 
 same-length-5 : tie.Need-same-length-5
 same-length-5 c = search needs
@@ -153,14 +153,14 @@ same-length-7 c = search needs
 
 returns-8 : tie.Need-returns-8
 unfolding withWrite
-returns-8 c = rw (c .before .before .before .before .before .x7 .given .1) (λ q r. c .before .before .zig-raise .ensures q r)
+returns-8 c = rw (c .before .before .before .before .before .x7 .given .1) (λ q r. c .before .before .zig-raise .ensures q (r refl))
 
 same-length-8 : tie.Need-same-length-8
 same-length-8 c = search needs
 
 returns-9 : tie.Need-returns-9
 unfolding withWrite
-returns-9 c = rw (c .before .before .before .before .enum-told2 .given .1) (λ q r. c .before .before .unlink .ensures q r)
+returns-9 c = rw (c .before .before .before .before .enum-told2 .given .1) (λ q r. c .before .before .unlink .ensures q (r refl))
 
 same-length-9 : tie.Need-same-length-9
 same-length-9 c = search needs
@@ -174,21 +174,21 @@ same-length-10 c = search needs
 
 returns-11 : tie.Need-returns-11
 unfolding withWrite
-returns-11 c = rw (c .before .before .before .before .enum-told4 .given .1) (λ q r. c .before .before .promote .ensures q r)
+returns-11 c = rw (c .before .before .before .before .enum-told4 .given .1) (λ q r. c .before .before .promote .ensures q (r refl))
 
 same-length-11 : tie.Need-same-length-11
 same-length-11 c = search needs
 
 returns-12 : tie.Need-returns-12
 unfolding withWrite
-returns-12 c = rw (c .before .before .before .before .before .x8 .given .1) (c .before .before .publish .ensures)
+returns-12 c = rw (c .before .before .before .before .before .x8 .given .1) (λ q r. c .before .before .publish .ensures q (r refl))
 
 same-length-12 : tie.Need-same-length-12
 same-length-12 c = search needs
 
 returns-13 : tie.Need-returns-13
 unfolding withWrite
-returns-13 c = rw (c .before .before .before .before .before .x9 .given .1) (λ q r. c .before .before .detach .ensures q r)
+returns-13 c = rw (c .before .before .before .before .before .x9 .given .1) (λ q r. c .before .before .detach .ensures q (r refl))
 
 pub try-step-spec : {M : Type 1} → statement M
 try-step-spec =

@@ -1,3 +1,4 @@
+use Rattle.spec.specs.Numbers.{slots}
 use borrow.Author.Needs.{needs}
 use Prim.Native.Nat.{_-_, _≤_}
 use Rattle.checks.proofs.model.slots_with.Statement.{statement}
@@ -10,16 +11,19 @@ abbrev Inv-loop : tie.InvT-loop
 Inv-loop model f bits₀ s₀ bits s = 0 ≤ 1
 
 abbrev μ-loop : tie.MeasureT-loop
-μ-loop model f bits₀ s₀ bits s = 8 - s
+μ-loop model f bits₀ s₀ bits s = slots - s
 
 loop-holds : tie.Need-loop-holds Inv-loop μ-loop
 loop-holds c = search needs
 
+sub-slot : tie.Need-sub-slot Inv-loop μ-loop
+sub-slot c = search needs
+
+sub-slot-2 : tie.Need-sub-slot-2 Inv-loop μ-loop
+sub-slot-2 c = search needs
+
 mul-bits : tie.Need-mul-bits Inv-loop μ-loop
 mul-bits c = search needs
-
-sub-slot-word : tie.Need-sub-slot-word Inv-loop μ-loop
-sub-slot-word c = search needs
 
 slot-word-requires : tie.Need-slot-word-requires Inv-loop μ-loop
 slot-word-requires c κs = search needs
@@ -46,8 +50,9 @@ slots-with-spec =
     Inv-loop
     μ-loop
     loop-holds
+    sub-slot
+    sub-slot-2
     mul-bits
-    sub-slot-word
     slot-word-requires
     add-bits
     add-s
