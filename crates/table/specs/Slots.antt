@@ -110,33 +110,26 @@ abbrev allEnd : ℕ → ℕ → List Line
 allEnd zero s = []
 allEnd (suc k) s = E s ⇒ ok ∷ E s ⇒ refused 5 ∷ allEnd k (s + 1)
 
--- After the publish the slots give up in rising order, so many from s on, and then no bit up to theirs is left.
-abbrev fall : ℕ → ℕ → List Line
-fall zero s = []
-fall (suc k) s = E s ⇒ ok ∷ awaits (wanting (31 - s) (s + 1) 10) (4294967296 - 2 ^ (s + 1)) ∷ W ⇒ wait ∷ fall k (s + 1)
+-- searches after the key g, in so many slots from s on
+abbrev beginSearch : ℕ → ℕ → ℕ → List Line
+beginSearch zero s g = []
+beginSearch (suc k) s g = S s g ⇒ ok ∷ beginSearch k (s + 1) g
 
--- Node 1 is held by all 32, in lookups of 20, which end in rising order by found.
-abbrev fallFound : ℕ → ℕ → List Line
-fallFound zero s = []
-fallFound (suc k) s = R s ⇒ go ∷ R s ⇒ found 200 ∷ held1 (wanting (31 - s) (s + 1) 20) (4294967296 - 2 ^ (s + 1)) ∷ fallFound k (s + 1)
+abbrev searching : ℕ → ℕ → ℕ → List Read
+searching zero s g = []
+searching (suc k) s g = (slot s after g at 0 with Nothing) ∷ searching k (s + 1) g
 
--- Node 3 is held by all 32, in searches after 15, which end in rising order by the next ticket.
-abbrev beginSearch : ℕ → ℕ → List Line
-beginSearch zero s = []
-beginSearch (suc k) s = S s 15 ⇒ ok ∷ beginSearch k (s + 1)
+-- All 32 read at the publish, and then end in rising order, each by these calls: no bit up to the slot's is left.
+abbrev fall : (ℕ → List Line) → (ℕ → ℕ → List Read) → ℕ → ℕ → List Line
+fall ending reading zero s = []
+fall ending reading (suc k) s = ending s ++ awaits (reading (31 - s) (s + 1)) (4294967296 - 2 ^ (s + 1)) ∷ W ⇒ wait ∷ fall ending reading k (s + 1)
 
-abbrev searching : ℕ → ℕ → List Read
-searching zero s = []
-searching (suc k) s = (slot s after 15 at 0 with Nothing) ∷ searching k (s + 1)
-
-abbrev held3 : List Read → ℕ → Line
-held3 reading m =
-    stands (picture (root 2 held 2 awaited 0 stores 0)
-    reading (row 1 10 100 1 0 0 ∷ row 2 20 200 0 1 0 ∷ []) (row 3 30 300 1 0 0 keptBy m ∷ []) (4 ∷ 5 ∷ 6 ∷ 7 ∷ 8 ∷ []))
-
-abbrev fallNext : ℕ → ℕ → List Line
-fallNext zero s = []
-fallNext (suc k) s = R s ⇒ go ∷ R s ⇒ go ∷ R s ⇒ next 20 200 ∷ held3 (searching (31 - s) (s + 1)) (4294967296 - 2 ^ (s + 1)) ∷ fallNext k (s + 1)
+abbrev allEndBy : String → List Line → (ℕ → ℕ → List Read) → (ℕ → List Line) → Entry
+allEndBy title begin reading ending =
+    entry title five
+    (begin ++ D 20 ⇒ ok ∷ W ⇒ more Root 6
+    ∷ awaits (reading 32 0) 4294967295
+    ∷ W ⇒ wait ∷ fall ending reading 31 0 ++ ending 31 ++ goesOn ∷ W ⇒ done (Left 4) 0 ∷ isDone ∷ [])
 
 -- an entry for each of so many slots from s on
 abbrev each : (ℕ → Entry) → ℕ → ℕ → List Entry
@@ -266,11 +259,15 @@ slots =
     ∷ endsAwaited (15 ∷ 1 ∷ 30 ∷ 2 ∷ 29 ∷ 3 ∷ 28 ∷ 4 ∷ 27 ∷ 5 ∷ 26 ∷ 6 ∷ 25 ∷ 9 ∷ 24 ∷ 10 ∷ 23 ∷ 11 ∷ 22 ∷ 12 ∷ 21 ∷ 13 ∷ 20 ∷ 14 ∷ 19 ∷ 17 ∷ [])
     ++ awaits (wanting 1 18 10) 262144
     ∷ E 18 ⇒ ok ∷ goesOn ∷ W ⇒ done (Left 4) 0 ∷ isDone ∷ [])
-    ∷ entry "slots: all 32 are awaited; they end in rising order, each with its bit" five
-    (begins 32 0 10 ++ D 20 ⇒ ok ∷ W ⇒ more Root 6
-    ∷ awaits (wanting 32 0 10) 4294967295
-    ∷ W ⇒ wait ∷ fall 31 0
-    ++ E 31 ⇒ ok ∷ goesOn ∷ W ⇒ done (Left 4) 0 ∷ isDone ∷ [])
+    ∷ allEndBy "slots: all 32 are awaited, and end in rising order, each with its bit: give up" (begins 32 0 10) (λ k s. wanting k s 10) (λ s. E s ⇒ ok ∷ [])
+    ∷ allEndBy "slots: all 32 are awaited, and end in rising order, each with its bit: found" (begins 32 0 30) (λ k s. wanting k s 30)
+    (λ s. R s ⇒ go ∷ R s ⇒ found 300 ∷ [])
+    ∷ allEndBy "slots: all 32 are awaited, and end in rising order, each with its bit: absent" (begins 32 0 20) (λ k s. wanting k s 20)
+    (λ s. R s ⇒ go ∷ R s ⇒ go ∷ R s ⇒ absent ∷ [])
+    ∷ allEndBy "slots: all 32 are awaited, and end in rising order, each with its bit: next" (beginSearch 32 0 15) (λ k s. searching k s 15)
+    (λ s. R s ⇒ go ∷ R s ⇒ go ∷ R s ⇒ next 30 300 ∷ [])
+    ∷ allEndBy "slots: all 32 are awaited, and end in rising order, each with its bit: none" (beginSearch 32 0 60) (λ k s. searching k s 60)
+    (λ s. R s ⇒ go ∷ R s ⇒ go ∷ R s ⇒ go ∷ R s ⇒ absent ∷ [])
     ∷ entry "slots: all 32 hold a node, which is freed when the last of them ends" three
     (begins 32 0 10 ++ D 10 ⇒ ok ∷ W ⇒ done (Left 2) 0
     ∷ held1 (wanting 32 0 10) 4294967295
@@ -279,17 +276,6 @@ slots =
     ∷ ends (31 ∷ 0 ∷ 30 ∷ 1 ∷ 29 ∷ 2 ∷ 28 ∷ 3 ∷ 27 ∷ 4 ∷ 26 ∷ 5 ∷ 25 ∷ 6 ∷ 7 ∷ [])
     ++ held1 (wanting 1 24 10) 16777216
     ∷ R 24 ⇒ go ∷ R 24 ⇒ absent ∷ freed1 ∷ [])
-    ∷ entry "slots: all 32 hold a node; each of them finds its key, and takes its bit" three
-    (begins 32 0 20 ++ D 10 ⇒ ok ∷ W ⇒ done (Left 2) 0
-    ∷ held1 (wanting 32 0 20) 4294967295
-    ∷ fallFound 31 0
-    ++ R 31 ⇒ go ∷ R 31 ⇒ found 200 ∷ freed1 ∷ [])
-    ∷ entry "slots: all 32 search and hold a node; each of them answers the next ticket, and takes its bit" three
-    (beginSearch 32 0 ++ D 30 ⇒ ok ∷ W ⇒ done (Right 2) 0
-    ∷ held3 (searching 32 0) 4294967295
-    ∷ fallNext 31 0
-    ++ R 31 ⇒ go ∷ R 31 ⇒ go ∷ R 31 ⇒ next 20 200
-    ∷ stands (picture (root 2 held 2 awaited 0 stores 0) [] (row 1 10 100 1 0 0 ∷ row 2 20 200 0 1 0 ∷ []) [] (4 ∷ 5 ∷ 6 ∷ 7 ∷ 8 ∷ 3 ∷ [])) ∷ [])
     ∷ entry "slots: the nodes of a zig are held by slots 8 and 31" (tree 8 (black nil redLeaf))
     (B 31 15 ⇒ ok ∷ S 8 15 ⇒ ok ∷ I 15 150 ⇒ ok ∷ W ⇒ more (Left 2) 3 ∷ W ⇒ more (Right 3) 4 ∷ W ⇒ more (Left 3) 5 ∷ W ⇒ done Root 3
     ∷ stands (picture (root 3 held 3 awaited 0 stores 0)
