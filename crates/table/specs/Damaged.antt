@@ -353,7 +353,7 @@ damaged =
     (W ⇒ done (Right 2) 0
     ∷ leaves (right of 2 := 0 ∷ standing of 3 := 0 ∷ last:= 3 ∷ free:= 6 ∷ held:= 2 ∷ atRest ∷ []) ∷ [])
     ∷ entry "decision 24: a retired node without a holder is freed at any end; a node not retired keeps its holders"
-    (three but (reader 3 := (reads 5 0) ∷ standing of 8 := 2 ∷ holders of 1 := 255 ∷ holders of 5 := 8 ∷ standing of 7 := 2 ∷ holders of 7 := 4 ∷ []))
+    (three but (reader 3 := (reads 5 0) ∷ standing of 8 := 2 ∷ holders of 1 := 4294967295 ∷ holders of 5 := 8 ∷ standing of 7 := 2 ∷ holders of 7 := 4 ∷ []))
     (E 3 ⇒ ok
     ∷ leaves (standing of 8 := 0 ∷ free:= 6 ∷ reader 3 := (idle 0 0) ∷ []) ∷ [])
     ∷ entry "decision 25: keys held at N stays there, and the free count at 0"

@@ -76,6 +76,11 @@ entry title lent lines = record { title = title; lent = lent; lines = lines }
 abbrev pub gives12 : String → State → Entry
 gives12 title lent = entry title lent (W ⇒ refused 12 ∷ [])
 
+-- so many slots from s on begin a lookup of the key k
+abbrev pub begins : ℕ → ℕ → ℕ → List Line
+begins zero s k = []
+begins (suc m) s k = B s k ⇒ ok ∷ begins m (s + 1) k
+
 -- Answers, registers and states as numbers: equal numbers are equal things. One number for the kind, then its values.
 abbrev linkNumbers : Link → List ℕ
 linkNumbers Root = 0 ∷ 0 ∷ []

@@ -12,9 +12,9 @@ use lib.Dec.{eqb, leb}
 use Rattle.base.specs.Walk.{allFrom, allIn}
 use Rattle.datatypes.specs.declared.Kind.the-variants as kind
 use Rattle.datatypes.specs.declared.Register.{Register}
-use Rattle.spec.specs.Numbers.{nodeWords, allSlots}
+use Rattle.spec.specs.Numbers.{nodeWords}
 use Rattle.spec.specs.Pool.{word, nodes, nodeInRange, poolInRange, lengthRight, redColour, standingRetired}
-use Rattle.spec.specs.Pool.{leftWord, rightWord, colourWord, standingWord, holdersWord, nextWord}
+use Rattle.spec.specs.Pool.{leftWord, rightWord, colourWord, standingWord, nextWord}
 use Rattle.spec.specs.Register.{state, registerInRange, storeInRange}
 use Rattle.spec.specs.Search.{seek}
 use Rattle.spec.specs.Plan.{insertPlan, fixupAfterInsert}
@@ -27,7 +27,7 @@ abbrev headInRange : ℕ → List ℕ → Bool
 headInRange capacity p =
     leb (getD p leftWord 0) capacity && leb (getD p rightWord 0) capacity
     && (leb (getD p colourWord 0) redColour && leb (getD p standingWord 0) standingRetired)
-    && (leb (getD p holdersWord 0) allSlots && leb (getD p nextWord 0) capacity)
+    && leb (getD p nextWord 0) capacity
 
 -- and so do the k nodes that it begins with
 unfoldable pub wordsInRange : ℕ → ℕ → List ℕ → Bool
@@ -57,7 +57,7 @@ pool-right p =
 
 -- 1,023 nodes with every word at its largest, but that the next free of the last node is as given
 abbrev node : ℕ → List ℕ
-node next = 4294967295 ∷ 4294967295 ∷ 1023 ∷ 1023 ∷ 1 ∷ 2 ∷ 255 ∷ next ∷ []
+node next = 4294967295 ∷ 4294967295 ∷ 1023 ∷ 1023 ∷ 1 ∷ 2 ∷ 4294967295 ∷ next ∷ []
 
 abbrev nodesBefore : ℕ → List ℕ → List ℕ
 nodesBefore zero p = p
@@ -66,7 +66,7 @@ nodesBefore (suc k) p = node 1023 ++ nodesBefore k p
 unfoldable pub largePool : ℕ → List ℕ
 largePool next = nodesBefore 1022 (node next)
 
--- an empty tree, every other number of the register at its largest; slot 7 reads and has loaded no node
+-- an empty tree, every other number of the register at its largest; slot 31 reads and has loaded no node
 abbrev pub largeRegister : Register
 largeRegister =
     record {
@@ -75,8 +75,8 @@ largeRegister =
       last = 1023;
       free = 1023;
       held = 1018;
-      readers = replicate 7 (idle 5 1023) ++ reads 5 0 ∷ [];
-      awaited = 255;
+      readers = replicate 31 (idle 5 1023) ++ reads 5 0 ∷ [];
+      awaited = 4294967295;
       write = record { stores = replicate 7 none; count = 0 };
     }
 
@@ -111,7 +111,7 @@ none-fits p = refl
 
 -- the seven calls that test the pool, a reader's turn twice, each on this register, and their answers
 abbrev pub eightCalls : List Call
-eightCalls = inserting 5 50 ∷ deleting 5 ∷ writing ∷ beginning kind.Lookup 0 5 ∷ beginning kind.Next 0 5 ∷ turning 7 ∷ turning 0 ∷ givingUp 7 ∷ []
+eightCalls = inserting 5 50 ∷ deleting 5 ∷ writing ∷ beginning kind.Lookup 0 5 ∷ beginning kind.Next 0 5 ∷ turning 31 ∷ turning 0 ∷ givingUp 31 ∷ []
 
 abbrev pub answersOn : List ℕ → List Call → List Answer
 answersOn p [] = []

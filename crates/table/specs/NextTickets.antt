@@ -70,9 +70,9 @@ nextTickets =
     ∷ entry "next: the key 0 alone; after the key 0, the key 1 with the record 0" (single but (key of 1 := 0 ∷ []))
     (S 0 0 ⇒ ok ∷ R 0 ⇒ go ∷ R 0 ⇒ absent ∷ I 1 0 ⇒ ok ∷ W ⇒ done (Right 1) 2 ∷ S 0 0 ⇒ ok ∷ R 0 ⇒ go ∷ R 0 ⇒ go ∷ R 0 ⇒ next 1 0 ∷ [])
     -- slots
-    ∷ entry "next: slots 8 and 4,294,967,295 give 3, slot 7 doesn't" three
-    (S 8 1 ⇒ refused 3 ∷ S 4294967295 1 ⇒ refused 3 ∷ S 7 1 ⇒ ok
-    ∷ leaves (reader 7 := (seeks 1 0) ∷ []) ∷ [])
+    ∷ entry "next: slots 32 and 4,294,967,295 give 3, slot 31 doesn't" three
+    (S 32 1 ⇒ refused 3 ∷ S 4294967295 1 ⇒ refused 3 ∷ S 31 1 ⇒ ok
+    ∷ leaves (reader 31 := (seeks 1 0) ∷ []) ∷ [])
     ∷ entry "next: begin of either kind on a slot that reads, of either kind: 4" three
     (B 0 10 ⇒ ok ∷ S 1 10 ⇒ ok ∷ B 0 20 ⇒ refused 4 ∷ S 0 10 ⇒ refused 4 ∷ B 1 10 ⇒ refused 4 ∷ S 1 20 ⇒ refused 4 ∷ R 0 ⇒ go ∷ R 1 ⇒ go ∷ R 1 ⇒ go
     ∷ S 0 10 ⇒ refused 4 ∷ B 1 10 ⇒ refused 4 ∷ S 1 10 ⇒ refused 4
@@ -278,8 +278,8 @@ nextTickets =
     ∷ entry "next: a ticket remembered may be of any key and record"
     (three but (reader 7 := (seeks 4294967295 8 remembering Ticket 4294967295 4294967295) ∷ []))
     (S 0 5 ⇒ ok ∷ R 7 ⇒ next 4294967295 4294967295 ∷ [])
-    ∷ entry "next: 2, the node of a search one past its range" (three but (reader 7 := (seeks 0 9) ∷ []))
-    (S 1 5 ⇒ refused 2 ∷ R 7 ⇒ refused 2 ∷ E 7 ⇒ refused 2 ∷ [])
+    ∷ entry "next: 2, the node of a search one past its range" (three but (reader 31 := (seeks 0 9) ∷ []))
+    (S 1 5 ⇒ refused 2 ∷ R 31 ⇒ refused 2 ∷ E 31 ⇒ refused 2 ∷ [])
     ∷ entry "next: 2, the node of a slot that is not reading, of kind Next, one past its range" (three but (reader 5 := (idle 0 9 ofKind kind.Next) ∷ []))
     (S 0 5 ⇒ refused 2 ∷ R 5 ⇒ refused 2 ∷ [])
     ∷ entry "next: 1 in the turn and in the give up of a slot that searches, before 2" (words 65)

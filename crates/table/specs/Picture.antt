@@ -80,6 +80,11 @@ infix 70 slot_after_at_with_
 abbrev pub slot_after_at_with_ : ℕ → ℕ → ℕ → Remembered → Read
 slot s after g at n with m = record { slot = s; reader = seeks g n remembering m }
 
+-- so many slots from s on, in lookups of the key k, before any node
+abbrev pub wanting : ℕ → ℕ → ℕ → List Read
+wanting zero s k = []
+wanting (suc m) s k = (slot s wants k at 0) ∷ wanting m (s + 1) k
+
 -- numbers of the register; stores is how many are still to come
 pub record Numbers : Type 0 where
   pub root : ℕ
@@ -158,7 +163,7 @@ drawn N x l =
       last = lastIn (x .queue);
       free = length (x .queue);
       held = x .numbers .held;
-      readers = readersOf (x .readers) 8 0;
+      readers = readersOf (x .readers) 32 0;
       awaited = x .numbers .awaited;
       write = record { stores = take 7 (l ++ replicate 7 none); count = length l };
     })
@@ -329,7 +334,7 @@ used =
       last = 97;
       free = 96;
       held = 95;
-      readers = replicate 8 (seeks 94 93 remembering Ticket 89 88);
+      readers = replicate 32 (seeks 94 93 remembering Ticket 89 88);
       awaited = 92;
       write = record { stores = replicate 7 (Unlink on Left 91); count = 7 };
     }

@@ -106,13 +106,13 @@ plainLists =
     ∷ beginning kind.Lookup 0 4 gave ok
     ∷ turning 0 gave go
     ∷ givingUp 0 gave ok
-    ∷ beginning kind.Lookup 9 4 gave refused 3
+    ∷ beginning kind.Lookup 32 4 gave refused 3
     ∷ beginning kind.Next 0 1 gave ok
     ∷ turning 0 gave go
     ∷ turning 0 gave next 3 30
     ∷ beginning kind.Next 0 3 gave ok
     ∷ turning 0 gave absent
-    ∷ beginning kind.Next 9 4 gave refused 3
+    ∷ beginning kind.Next 32 4 gave refused 3
     ∷ lists (3 is 30 ∷ [])
     ∷ writing gave done Root 1
     ∷ lists (3 is 30 ∷ 4 is 40 ∷ [])

@@ -1,9 +1,9 @@
 -- 01, 'Reader's turn', 'Retire' and the awaited slots of 'Delete B, other': lookups beside writes.
-use mathlib.Core.List.{List, [], _∷_}
+use mathlib.Core.List.{List, [], _∷_, _++_}
 use Rattle.datatypes.specs.declared.Link.the-variants.{Root, Left, Right}
 use Rattle.spec.specs.Calls.{ok, go, absent, wait, found, more, done, refused}
-use Rattle.table.specs.Picture.{row, _keptBy_, slot_wants_at_, root_held_awaited_stores_, picture, unset}
-use Rattle.table.specs.Entry.{P, I, D, W, B, R, E, _⇒_, stands, still, Entry, entry}
+use Rattle.table.specs.Picture.{row, _keptBy_, slot_wants_at_, wanting, root_held_awaited_stores_, picture, unset}
+use Rattle.table.specs.Entry.{P, I, D, W, B, R, E, _⇒_, begins, stands, still, Entry, entry}
 use Rattle.table.specs.Lent.{three, five, four}
 
 abbrev pub readers : List Entry
@@ -68,22 +68,17 @@ readers =
     ∷ stands (picture (root 2 held 2 awaited 0 stores 0)
     (slot 0 wants 10 at 0 ∷ []) (row 2 20 200 0 0 3 ∷ row 3 30 300 1 0 0 ∷ []) (row 1 10 100 1 0 0 keptBy 1 ∷ []) (4 ∷ 5 ∷ 6 ∷ 7 ∷ 8 ∷ []))
     ∷ [])
-    ∷ entry "all eight slots hold, slot 7 gives up" three
-    (B 0 10 ⇒ ok ∷ B 1 10 ⇒ ok ∷ B 2 10 ⇒ ok ∷ B 3 10 ⇒ ok ∷ B 4 10 ⇒ ok ∷ B 5 10 ⇒ ok ∷ B 6 10 ⇒ ok ∷ B 7 10 ⇒ ok ∷ D 10 ⇒ ok ∷ W ⇒ done (Left 2) 0
+    ∷ entry "all 32 slots hold, slot 31 gives up" three
+    (begins 32 0 10 ++ D 10 ⇒ ok ∷ W ⇒ done (Left 2) 0
     ∷ stands (picture (root 2 held 2 awaited 0 stores 0)
-    (slot 0 wants 10 at 0 ∷ slot 1 wants 10 at 0 ∷ slot 2 wants 10 at 0 ∷ slot 3 wants 10 at 0 ∷ slot 4 wants 10 at 0 ∷ slot 5 wants 10 at 0
-    ∷ slot 6 wants 10 at 0 ∷ slot 7 wants 10 at 0 ∷ [])
-    (row 2 20 200 0 0 3 ∷ row 3 30 300 1 0 0 ∷ []) (row 1 10 100 1 0 0 keptBy 255 ∷ []) (4 ∷ 5 ∷ 6 ∷ 7 ∷ 8 ∷ []))
-    ∷ E 7 ⇒ ok
+    (wanting 32 0 10) (row 2 20 200 0 0 3 ∷ row 3 30 300 1 0 0 ∷ []) (row 1 10 100 1 0 0 keptBy 4294967295 ∷ []) (4 ∷ 5 ∷ 6 ∷ 7 ∷ 8 ∷ []))
+    ∷ E 31 ⇒ ok
     ∷ stands (picture (root 2 held 2 awaited 0 stores 0)
-    (slot 0 wants 10 at 0 ∷ slot 1 wants 10 at 0 ∷ slot 2 wants 10 at 0 ∷ slot 3 wants 10 at 0 ∷ slot 4 wants 10 at 0 ∷ slot 5 wants 10 at 0
-    ∷ slot 6 wants 10 at 0 ∷ [])
-    (row 2 20 200 0 0 3 ∷ row 3 30 300 1 0 0 ∷ []) (row 1 10 100 1 0 0 keptBy 127 ∷ []) (4 ∷ 5 ∷ 6 ∷ 7 ∷ 8 ∷ []))
+    (wanting 31 0 10) (row 2 20 200 0 0 3 ∷ row 3 30 300 1 0 0 ∷ []) (row 1 10 100 1 0 0 keptBy 2147483647 ∷ []) (4 ∷ 5 ∷ 6 ∷ 7 ∷ 8 ∷ []))
     ∷ E 3 ⇒ ok
     ∷ stands (picture (root 2 held 2 awaited 0 stores 0)
-    (slot 0 wants 10 at 0 ∷ slot 1 wants 10 at 0 ∷ slot 2 wants 10 at 0 ∷ slot 4 wants 10 at 0 ∷ slot 5 wants 10 at 0 ∷ slot 6 wants 10 at 0
-    ∷ [])
-    (row 2 20 200 0 0 3 ∷ row 3 30 300 1 0 0 ∷ []) (row 1 10 100 1 0 0 keptBy 119 ∷ []) (4 ∷ 5 ∷ 6 ∷ 7 ∷ 8 ∷ [])) ∷ [])
+    (wanting 3 0 10 ++ wanting 27 4 10) (row 2 20 200 0 0 3 ∷ row 3 30 300 1 0 0 ∷ []) (row 1 10 100 1 0 0 keptBy 2147483639 ∷ [])
+    (4 ∷ 5 ∷ 6 ∷ 7 ∷ 8 ∷ [])) ∷ [])
     ∷ entry "a reader at a node that is deleted finds its record; the node keeps its words when freed" three
     (B 0 10 ⇒ ok ∷ R 0 ⇒ go ∷ R 0 ⇒ go ∷ D 10 ⇒ ok ∷ W ⇒ done (Left 2) 0
     ∷ stands (picture (root 2 held 2 awaited 0 stores 0)

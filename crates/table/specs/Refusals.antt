@@ -8,23 +8,39 @@ use Rattle.datatypes.specs.declared.Purpose.the-variants.{ForInsert}
 use Rattle.datatypes.specs.declared.Step.the-variants.{Vacant, Insert, Replace, DiagLower, DiagRaise, ZigLowerA, ZigLowerC, ZigRaise, Unlink, Adopt}
 use Rattle.datatypes.specs.declared.Step.the-variants.{Promote, Publish, Detach}
 use Rattle.spec.specs.Register.{State}
-use Rattle.spec.specs.Calls.{ok, go, absent, found, done, refused}
+use Rattle.spec.specs.Calls.{ok, go, absent, wait, found, next, done, refused}
 use Rattle.table.specs.Picture.{row, slot_wants_at_, root_held_awaited_stores_, picture, none, _on_, key, value, left, right, colour, standing}
 use Rattle.table.specs.Picture.{holders, nextFree, Change, _of_:=_, root:=_, first:=_, last:=_, free:=_, held:=_, awaited:=_, count:=_, hand}
 use Rattle.table.specs.Picture.{reader_:=_, store_:=_, reads, idle, _but_, words, unset}
-use Rattle.table.specs.Entry.{P, I, D, W, B, S, R, E, _⇒_, stands, Entry, entry}
+use Rattle.table.specs.Entry.{P, I, D, W, B, S, R, E, _⇒_, stands, leaves, Entry, entry}
 use Rattle.table.specs.Lent.{three, planned}
 
 -- n words: refused by 1 in all eight calls, before 2 and 3
 abbrev gives1 : String → ℕ → Entry
 gives1 title n =
     entry title (words n)
-    (P ⇒ refused 1 ∷ I 1 10 ⇒ refused 1 ∷ D 1 ⇒ refused 1 ∷ W ⇒ refused 1 ∷ B 8 1 ⇒ refused 1 ∷ S 8 1 ⇒ refused 1 ∷ R 8 ⇒ refused 1 ∷ E 8 ⇒ refused 1
-    ∷ [])
+    (P ⇒ refused 1 ∷ I 1 10 ⇒ refused 1 ∷ D 1 ⇒ refused 1 ∷ W ⇒ refused 1 ∷ B 32 1 ⇒ refused 1 ∷ S 32 1 ⇒ refused 1 ∷ R 32 ⇒ refused 1
+    ∷ E 32 ⇒ refused 1 ∷ [])
 
 -- a begin that is refused by 2
 abbrev gives2 : String → State → List Change → Entry
 gives2 title lent cs = entry title (lent but cs) (B 0 5 ⇒ refused 2 ∷ [])
+
+-- Holders are any 32-bit word (02, C-15): every call is carried out on a pool with such words, and the two readings leave them.
+abbrev carriedOut : String → List Change → Entry
+carriedOut title cs =
+    entry title (three but cs)
+    (B 0 10 ⇒ ok ∷ S 1 5 ⇒ ok ∷ R 0 ⇒ go ∷ R 1 ⇒ go ∷ E 0 ⇒ ok ∷ R 1 ⇒ go ∷ R 1 ⇒ next 10 100
+    ∷ leaves []
+    ∷ I 5 50 ⇒ ok ∷ W ⇒ done (Left 1) 4 ∷ D 5 ⇒ ok ∷ W ⇒ done (Left 1) 0 ∷ [])
+
+-- The awaited slots are any 32-bit word too. No slot of it reads, and the writer waits while it is not 0.
+abbrev awaitedAs : String → ℕ → Entry
+awaitedAs title m =
+    entry title (three but (awaited:= m ∷ []))
+    (W ⇒ refused 7 ∷ B 0 10 ⇒ ok ∷ S 1 5 ⇒ ok ∷ R 0 ⇒ go ∷ R 1 ⇒ go ∷ E 0 ⇒ ok ∷ R 1 ⇒ go ∷ R 1 ⇒ next 10 100
+    ∷ leaves []
+    ∷ D 10 ⇒ ok ∷ W ⇒ wait ∷ [])
 
 abbrev pub refusals : List Entry
 refusals =
@@ -34,35 +50,40 @@ refusals =
     ∷ gives1 "1 in all eight calls, before 2 and 3: 65 words" 65
     ∷ gives1 "1 in all eight calls, before 2 and 3: 1,024 nodes" 8192
     ∷ entry "2 in six calls, before 3, 7 and the search; a reader's turn doesn't test another node; set up tests 1 only" (three but (left of 1 := 9 ∷ []))
-    (I 20 5 ⇒ refused 2 ∷ D 25 ⇒ refused 2 ∷ W ⇒ refused 2 ∷ B 8 1 ⇒ refused 2 ∷ S 8 1 ⇒ refused 2 ∷ R 8 ⇒ refused 3 ∷ E 8 ⇒ refused 2
+    (I 20 5 ⇒ refused 2 ∷ D 25 ⇒ refused 2 ∷ W ⇒ refused 2 ∷ B 32 1 ⇒ refused 2 ∷ S 32 1 ⇒ refused 2 ∷ R 32 ⇒ refused 3 ∷ E 32 ⇒ refused 2
     ∷ P ⇒ ok
     ∷ stands (picture (root 0 held 0 awaited 0 stores 0) [] [] [] (1 ∷ 2 ∷ 3 ∷ 4 ∷ 5 ∷ 6 ∷ 7 ∷ 8 ∷ [])) ∷ [])
     ∷ entry "2 before 4, 5 and 6" (three but (reader 0 := (reads 5 0) ∷ hand (Unlink on Root) ∷ last:= 9 ∷ []))
     (B 0 1 ⇒ refused 2 ∷ S 0 1 ⇒ refused 2 ∷ R 1 ⇒ refused 2 ∷ E 1 ⇒ refused 2 ∷ I 20 5 ⇒ refused 2 ∷ D 25 ⇒ refused 2 ∷ [])
     ∷ entry "each word of a node at its largest"
-    (three but (key of 8 := 4294967295 ∷ value of 8 := 4294967295 ∷ left of 8 := 8 ∷ right of 8 := 8 ∷ colour of 8 := 1 ∷ standing of 8 := 2 ∷ holders of 8 := 255
-    ∷ nextFree of 8 := 8 ∷ []))
+    (three but (key of 8 := 4294967295 ∷ value of 8 := 4294967295 ∷ left of 8 := 8 ∷ right of 8 := 8 ∷ colour of 8 := 1 ∷ standing of 8 := 2
+    ∷ holders of 8 := 4294967295 ∷ nextFree of 8 := 8 ∷ []))
     (B 0 5 ⇒ ok ∷ [])
     ∷ gives2 "2: left one past its range, last node" three (left of 8 := 9 ∷ [])
     ∷ gives2 "2: right one past its range, last node" three (right of 8 := 9 ∷ [])
     ∷ gives2 "2: colour one past its range, last node" three (colour of 8 := 2 ∷ [])
     ∷ gives2 "2: standing one past its range, last node" three (standing of 8 := 3 ∷ [])
-    ∷ gives2 "2: holders one past its range, last node" three (holders of 8 := 256 ∷ [])
+    ∷ carriedOut "holders any word, of linked nodes" (holders of 1 := 256 ∷ holders of 2 := 4294967295 ∷ holders of 3 := 2147483648 ∷ [])
+    ∷ carriedOut "holders any word, of free nodes" (holders of 5 := 256 ∷ holders of 6 := 4294967295 ∷ holders of 8 := 2147483648 ∷ [])
+    ∷ carriedOut "holders any word, of retired nodes" (standing of 7 := 2 ∷ holders of 7 := 256 ∷ standing of 8 := 2 ∷ holders of 8 := 4294967292 ∷ [])
     ∷ gives2 "2: next one past its range, last node" three (nextFree of 8 := 9 ∷ [])
     ∷ gives2 "2: right one past its range, first node" three (right of 1 := 9 ∷ [])
     ∷ gives2 "2: next one past its range, first node" three (nextFree of 1 := 9 ∷ [])
     ∷ entry "each number of the register at its largest"
-    (three but (root:= 8 ∷ first:= 8 ∷ last:= 8 ∷ free:= 8 ∷ held:= 8 ∷ awaited:= 255 ∷ reader 0 := (idle 4294967295 8) ∷ reader 7 := (reads 4294967295 8) ∷ []))
+    (three but (root:= 8 ∷ first:= 8 ∷ last:= 8 ∷ free:= 8 ∷ held:= 8 ∷ awaited:= 4294967295 ∷ reader 0 := (idle 4294967295 8)
+    ∷ reader 31 := (reads 4294967295 8) ∷ []))
     (B 0 5 ⇒ ok ∷ [])
     ∷ gives2 "2: root one past its range" three (root:= 9 ∷ [])
     ∷ gives2 "2: first one past its range" three (first:= 9 ∷ [])
     ∷ gives2 "2: last one past its range" three (last:= 9 ∷ [])
     ∷ gives2 "2: free one past its range" three (free:= 9 ∷ [])
     ∷ gives2 "2: held one past its range" three (held:= 9 ∷ [])
-    ∷ gives2 "2: awaited one past its range" three (awaited:= 256 ∷ [])
+    ∷ awaitedAs "awaited 256: every call is carried out, and the writer waits" 256
+    ∷ awaitedAs "awaited 2,147,483,648: every call is carried out, and the writer waits" 2147483648
+    ∷ awaitedAs "awaited 4,294,967,292: every call is carried out, and the writer waits" 4294967292
     ∷ entry "2: the node of slot 0 one past its range" (three but (reader 0 := (idle 0 9) ∷ []))
     (B 1 5 ⇒ refused 2 ∷ [])
-    ∷ entry "2: the node of slot 7 one past its range" (three but (reader 7 := (reads 0 9) ∷ []))
+    ∷ entry "2: the node of slot 31 one past its range" (three but (reader 31 := (reads 0 9) ∷ []))
     (B 1 5 ⇒ refused 2 ∷ [])
     ∷ entry "seven stores to come, links and nodes at both ends of their range"
     (planned but (store 0 := (Publish 8 on Left 8) ∷ store 1 := (Publish 1 on Left 1) ∷ store 2 := (Insert 4294967295 4294967295 on Right 1)
@@ -80,15 +101,15 @@ refusals =
     ∷ gives2 "2: a publish of node 9" planned (store 3 := (Publish 9 on Root) ∷ [])
     ∷ gives2 "2: a link where no store is to come" three (store 6 := (Vacant on Left 1) ∷ [])
     ∷ gives2 "2: a step where no store is to come" three (store 0 := (Detach 5 on Root) ∷ [])
-    ∷ entry "3: slots 8 and 4,294,967,295, in begin, turn and give up; slot 7 is one" three
-    (B 8 1 ⇒ refused 3 ∷ R 8 ⇒ refused 3 ∷ E 8 ⇒ refused 3 ∷ B 4294967295 1 ⇒ refused 3 ∷ R 4294967295 ⇒ refused 3 ∷ E 4294967295 ⇒ refused 3
-    ∷ B 7 1 ⇒ ok
+    ∷ entry "3: slots 32 and 4,294,967,295, in begin, turn and give up; slot 31 is one" three
+    (B 32 1 ⇒ refused 3 ∷ R 32 ⇒ refused 3 ∷ E 32 ⇒ refused 3 ∷ B 4294967295 1 ⇒ refused 3 ∷ R 4294967295 ⇒ refused 3 ∷ E 4294967295 ⇒ refused 3
+    ∷ B 31 1 ⇒ ok
     ∷ stands (picture (root 2 held 3 awaited 0 stores 0)
-    (slot 7 wants 1 at 0 ∷ []) (row 1 10 100 1 0 0 ∷ row 2 20 200 0 1 3 ∷ row 3 30 300 1 0 0 ∷ []) [] (4 ∷ 5 ∷ 6 ∷ 7 ∷ 8 ∷ []))
-    ∷ R 7 ⇒ go
+    (slot 31 wants 1 at 0 ∷ []) (row 1 10 100 1 0 0 ∷ row 2 20 200 0 1 3 ∷ row 3 30 300 1 0 0 ∷ []) [] (4 ∷ 5 ∷ 6 ∷ 7 ∷ 8 ∷ []))
+    ∷ R 31 ⇒ go
     ∷ stands (picture (root 2 held 3 awaited 0 stores 0)
-    (slot 7 wants 1 at 2 ∷ []) (row 1 10 100 1 0 0 ∷ row 2 20 200 0 1 3 ∷ row 3 30 300 1 0 0 ∷ []) [] (4 ∷ 5 ∷ 6 ∷ 7 ∷ 8 ∷ []))
-    ∷ E 7 ⇒ ok
+    (slot 31 wants 1 at 2 ∷ []) (row 1 10 100 1 0 0 ∷ row 2 20 200 0 1 3 ∷ row 3 30 300 1 0 0 ∷ []) [] (4 ∷ 5 ∷ 6 ∷ 7 ∷ 8 ∷ []))
+    ∷ E 31 ⇒ ok
     ∷ stands (picture (root 2 held 3 awaited 0 stores 0)
     [] (row 1 10 100 1 0 0 ∷ row 2 20 200 0 1 3 ∷ row 3 30 300 1 0 0 ∷ []) [] (4 ∷ 5 ∷ 6 ∷ 7 ∷ 8 ∷ [])) ∷ [])
     ∷ entry "4 and 5: begin on a reading slot, turn and give up on one that reads no more" three
@@ -126,6 +147,10 @@ refusals =
     ∷ gives1 "1 in all eight calls, before 2 and 3: 68 words" 68
     ∷ gives2 "2: left one past its range, a node between" three (left of 5 := 9 ∷ [])
     ∷ entry "2: the node of slot 4 one past its range" (three but (reader 4 := (idle 0 9) ∷ []))
+    (B 1 5 ⇒ refused 2 ∷ [])
+    ∷ entry "2: the node of slot 8 one past its range" (three but (reader 8 := (idle 0 9) ∷ []))
+    (B 1 5 ⇒ refused 2 ∷ [])
+    ∷ entry "2: the node of slot 20 one past its range" (three but (reader 20 := (reads 0 9) ∷ []))
     (B 1 5 ⇒ refused 2 ∷ [])
     ∷ gives2 "2: a right link where no store is to come" three (store 6 := (Vacant on Right 1) ∷ [])
     ∷ gives2 "2: a link where no store is to come, with a write in hand" three (hand (Unlink on Root) ∷ store 1 := (Vacant on Right 1) ∷ [])

@@ -103,8 +103,8 @@ starred =
     ∷ entry "01: N 1,024" (unset 1024) (P ⇒ refused 1 ∷ [])
     ∷ entry "01: N 8" (unset 8) (P ⇒ ok ∷ [])
     ∷ entry "01: N 1,023" (unset 1023) (P ⇒ ok ∷ [])
-    -- Slot 8 gives 3; slot 7 doesn't.
-    ∷ entry "01: slots 8 and 7" (unset 8) (P ⇒ ok ∷ B 8 1 ⇒ refused 3 ∷ R 8 ⇒ refused 3 ∷ E 8 ⇒ refused 3 ∷ B 7 1 ⇒ ok ∷ R 7 ⇒ absent ∷ [])
+    -- Slot 32 gives 3; slot 31 doesn't (so since 02, C-15).
+    ∷ entry "01: slots 32 and 31" (unset 8) (P ⇒ ok ∷ B 32 1 ⇒ refused 3 ∷ R 32 ⇒ refused 3 ∷ E 32 ⇒ refused 3 ∷ B 31 1 ⇒ ok ∷ R 31 ⇒ absent ∷ [])
     -- Keys 0 and 4,294,967,295 are accepted.
     ∷ entry "01: keys 0 and 4,294,967,295" (unset 8)
     (P ⇒ ok ∷ I 0 7 ⇒ ok ∷ W ⇒ done Root 1 ∷ I 4294967295 8 ⇒ ok ∷ W ⇒ done (Right 1) 2 ∷ B 3 0 ⇒ ok ∷ R 3 ⇒ go ∷ R 3 ⇒ found 7

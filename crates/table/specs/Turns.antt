@@ -30,20 +30,27 @@ elsewhere title f n v =
 abbrev named : String → ℕ → ℕ → ℕ → Entry
 named title f n v =
     entry title
-    (three but (f of n := v ∷ reader 0 := (reads 10 n) ∷ reader 6 := (seeks 10 n) ∷ reader 7 := (idle 10 n) ∷ reader 2 := (idle 0 n ofKind kind.Next) ∷ []))
-    (R 0 ⇒ refused 2 ∷ R 6 ⇒ refused 2 ∷ R 7 ⇒ refused 2 ∷ R 2 ⇒ refused 2 ∷ R 1 ⇒ refused 5 ∷ R 8 ⇒ refused 3 ∷ [])
+    (three but (f of n := v ∷ reader 0 := (reads 10 n) ∷ reader 6 := (seeks 10 n) ∷ reader 31 := (idle 10 n) ∷ reader 2 := (idle 0 n ofKind kind.Next) ∷ []))
+    (R 0 ⇒ refused 2 ∷ R 6 ⇒ refused 2 ∷ R 31 ⇒ refused 2 ∷ R 2 ⇒ refused 2 ∷ R 1 ⇒ refused 5 ∷ R 32 ⇒ refused 3 ∷ [])
 
 -- A field of the register is out of its range: the turns of a slot that reads, of one that doesn't, and of a slot too high.
 abbrev field : String → State → List Change → Entry
 field title lent cs =
     entry title (lent but (reader 0 := (reads 10 2) ∷ reader 1 := (seeks 10 0) ∷ []) but cs)
-    (R 0 ⇒ refused 2 ∷ R 1 ⇒ refused 2 ∷ R 7 ⇒ refused 2 ∷ R 8 ⇒ refused 2 ∷ R 4294967295 ⇒ refused 2 ∷ [])
+    (R 0 ⇒ refused 2 ∷ R 1 ⇒ refused 2 ∷ R 31 ⇒ refused 2 ∷ R 32 ⇒ refused 2 ∷ R 4294967295 ⇒ refused 2 ∷ [])
+
+-- Holders and awaited slots are any 32-bit word (02, C-15): the turns of slots at node 2 go on, and leave them; one that doesn't read gives 5.
+abbrev goesOn : String → List Change → Entry
+goesOn title cs =
+    entry title (three but (reader 0 := (reads 10 2) ∷ reader 1 := (seeks 10 2) ∷ reader 31 := (idle 10 2) ∷ []) but cs)
+    (R 31 ⇒ refused 5 ∷ R 32 ⇒ refused 3 ∷ R 0 ⇒ go ∷ R 1 ⇒ go
+    ∷ leaves (reader 0 := (reads 10 1) ∷ reader 1 := (seeks 10 1 remembering Ticket 20 200) ∷ []) ∷ [])
 
 -- Node 8 with every word at its largest, and slots at it.
 abbrev largest : State
 largest =
     three but (key of 8 := 4294967295 ∷ value of 8 := 4294967295 ∷ left of 8 := 8 ∷ right of 8 := 8 ∷ colour of 8 := 1 ∷ standing of 8 := 2
-    ∷ holders of 8 := 255 ∷ nextFree of 8 := 8 ∷ reader 0 := (reads 4294967294 8) ∷ reader 6 := (seeks 4294967295 8) ∷ reader 7 := (idle 5 8) ∷ [])
+    ∷ holders of 8 := 4294967295 ∷ nextFree of 8 := 8 ∷ reader 0 := (reads 4294967294 8) ∷ reader 6 := (seeks 4294967295 8) ∷ reader 31 := (idle 5 8) ∷ [])
 
 -- Retired nodes 4 to 9 with damaged words, when the reading of slot 3, whose bit is 8, ends. It is at the node given.
 abbrev retiring : Reader → State
@@ -58,7 +65,8 @@ retiring x =
     []
     but (reader 3 := x ∷ awaited:= 12 ∷ nextFree of 9 := 99 ∷ nextFree of 14 := 99 ∷ standing of 13 := 3 ∷ holders of 13 := 8 ∷ [])
 
--- A node without a holder is freed, and keeps its damaged words but standing, holders and next free. A bit above 7 keeps its node, and stays.
+-- A node without a holder is freed, and keeps its damaged words but standing, holders and next free. The bit of another slot keeps its
+-- node, and stays, though none of those slots reads.
 abbrev retiredLeft : List Change
 retiredLeft =
     standing of 4 := 0 ∷ holders of 4 := 0 ∷ nextFree of 4 := 9 ∷ holders of 5 := 256 ∷ holders of 6 := 1 ∷ holders of 7 := 4294967287
@@ -82,7 +90,8 @@ turns =
     ∷ elsewhere "turn: right of another node, the last, one past its range" right 8 9
     ∷ elsewhere "turn: colour of another node, the last, one past its range" colour 8 2
     ∷ elsewhere "turn: standing of another node, the last, one past its range" standing 8 3
-    ∷ elsewhere "turn: holders of another node, the last, one past its range" holders 8 256
+    ∷ goesOn "turn: holders of another node, the last, 256" (holders of 8 := 256 ∷ [])
+    ∷ goesOn "turn: holders of other nodes, linked and retired, any word" (holders of 1 := 4294967295 ∷ standing of 8 := 2 ∷ holders of 8 := 2147483648 ∷ [])
     ∷ elsewhere "turn: next of another node, the last, one past its range" nextFree 8 9
     ∷ elsewhere "turn: next of the node that it loads one past its range" nextFree 1 9
     ∷ elsewhere "turn: left of the node that it loads at its largest" left 1 4294967295
@@ -91,14 +100,15 @@ turns =
     ∷ named "turn: 2, right of the node named one past its range" right 2 9
     ∷ named "turn: 2, colour of the node named one past its range" colour 2 2
     ∷ named "turn: 2, standing of the node named one past its range" standing 2 3
-    ∷ named "turn: 2, holders of the node named one past its range" holders 2 256
+    ∷ goesOn "turn: holders of the node named 256" (holders of 2 := 256 ∷ [])
     ∷ named "turn: 2, next of the node named one past its range" nextFree 2 9
     ∷ named "turn: 2, right of the first node, named, one past its range" right 1 9
     ∷ named "turn: 2, left of the first node, named, at its largest" left 1 4294967295
     ∷ named "turn: 2, next of the last node, named, one past its range" nextFree 8 9
-    ∷ named "turn: 2, holders of the last node, named, at its largest" holders 8 4294967295
+    ∷ goesOn "turn: holders of the node named, which stands retired, 4,294,967,295" (standing of 2 := 2 ∷ holders of 2 := 4294967295 ∷ [])
+    ∷ goesOn "turn: holders of the node named, which stands free, 2,147,483,648" (standing of 2 := 0 ∷ holders of 2 := 2147483648 ∷ [])
     ∷ entry "turn: each word of the node named at its largest" largest
-    (R 7 ⇒ refused 5 ∷ R 0 ⇒ go ∷ R 6 ⇒ go ∷ R 0 ⇒ go
+    (R 31 ⇒ refused 5 ∷ R 0 ⇒ go ∷ R 6 ⇒ go ∷ R 0 ⇒ go
     ∷ leaves [] ∷ [])
     ∷ entry "turn: the node loaded is tested in the next turn" (three but (left of 1 := 9 ∷ reader 0 := (reads 5 0) ∷ reader 1 := (seeks 5 0) ∷ []))
     (R 0 ⇒ go ∷ R 1 ⇒ go ∷ R 0 ⇒ go ∷ R 1 ⇒ go
@@ -115,16 +125,17 @@ turns =
     (three but (left of 2 := 9 ∷ reader 0 := (reads 10 2) ∷ reader 1 := (reads 10 1) ∷ reader 2 := (seeks 30 3) ∷ reader 7 := (idle 0 2) ∷ []))
     (R 0 ⇒ refused 2 ∷ R 1 ⇒ found 100 ∷ R 2 ⇒ absent ∷ R 7 ⇒ refused 2 ∷ R 3 ⇒ refused 5
     ∷ leaves (reader 1 := (idle 0 0) ∷ reader 2 := (idle 0 0) ∷ []) ∷ [])
-    ∷ entry "turn: 3 of a slot too high, which names no node: slots 8, 9, 16 and 4,294,967,295"
-    (three but (left of 1 := 9 ∷ left of 2 := 9 ∷ left of 8 := 9 ∷ reader 0 := (reads 10 1) ∷ reader 1 := (reads 10 2) ∷ reader 7 := (reads 10 8) ∷ []))
-    (R 8 ⇒ refused 3 ∷ R 9 ⇒ refused 3 ∷ R 16 ⇒ refused 3 ∷ R 4294967295 ⇒ refused 3 ∷ R 0 ⇒ refused 2 ∷ R 1 ⇒ refused 2 ∷ R 7 ⇒ refused 2 ∷ E 8 ⇒ refused 2
-    ∷ [])
+    ∷ entry "turn: 3 of a slot too high, which names no node: slots 32, 33, 64 and 4,294,967,295"
+    (three but (left of 1 := 9 ∷ left of 2 := 9 ∷ left of 8 := 9 ∷ reader 0 := (reads 10 1) ∷ reader 1 := (reads 10 2) ∷ reader 31 := (reads 10 8) ∷ []))
+    (R 32 ⇒ refused 3 ∷ R 33 ⇒ refused 3 ∷ R 64 ⇒ refused 3 ∷ R 4294967295 ⇒ refused 3 ∷ R 0 ⇒ refused 2 ∷ R 1 ⇒ refused 2 ∷ R 31 ⇒ refused 2
+    ∷ E 32 ⇒ refused 2 ∷ [])
     ∷ field "turn: 2, root one past its range" three (root:= 9 ∷ [])
     ∷ field "turn: 2, first one past its range" three (first:= 9 ∷ [])
     ∷ field "turn: 2, last one past its range" three (last:= 9 ∷ [])
     ∷ field "turn: 2, free one past its range" three (free:= 9 ∷ [])
     ∷ field "turn: 2, held one past its range" three (held:= 9 ∷ [])
-    ∷ field "turn: 2, awaited one past its range" three (awaited:= 256 ∷ [])
+    ∷ goesOn "turn: awaited 256" (awaited:= 256 ∷ [])
+    ∷ goesOn "turn: awaited 4,294,967,295" (awaited:= 4294967295 ∷ [])
     ∷ field "turn: 2, the node of another slot, reading, one past its range" three (reader 3 := (reads 10 9) ∷ [])
     ∷ field "turn: 2, the node of another slot, not reading, one past its range" three (reader 6 := (idle 10 9) ∷ [])
     ∷ field "turn: 2, the slot's own node one past its range" three (reader 0 := (reads 10 9) ∷ [])
@@ -165,10 +176,10 @@ turns =
     ∷ field "turn: 2, a store to come on node 0" planned (store 0 := (Unlink on Left 0) ∷ [])
     ∷ field "turn: 2, no store where one is to come" planned (store 6 := none ∷ [])
     ∷ entry "turn: each number of the register at its largest"
-    (three but (root:= 8 ∷ first:= 8 ∷ last:= 8 ∷ free:= 8 ∷ held:= 8 ∷ awaited:= 255 ∷ reader 0 := (reads 4294967295 8) ∷ reader 1 := (reads 5 0)
-    ∷ reader 7 := (idle 4294967295 8) ∷ []))
-    (R 7 ⇒ refused 5 ∷ R 1 ⇒ go ∷ R 0 ⇒ absent
-    ∷ leaves (reader 1 := (reads 5 8) ∷ reader 0 := (idle 0 0) ∷ awaited:= 254 ∷ []) ∷ [])
+    (three but (root:= 8 ∷ first:= 8 ∷ last:= 8 ∷ free:= 8 ∷ held:= 8 ∷ awaited:= 4294967295 ∷ reader 0 := (reads 4294967295 8)
+    ∷ reader 1 := (reads 5 0) ∷ reader 31 := (idle 4294967295 8) ∷ []))
+    (R 31 ⇒ refused 5 ∷ R 1 ⇒ go ∷ R 0 ⇒ absent
+    ∷ leaves (reader 1 := (reads 5 8) ∷ reader 0 := (idle 0 0) ∷ awaited:= 4294967294 ∷ []) ∷ [])
     ∷ entry "turn: an empty queue, each number of the register 0"
     (three but (root:= 0 ∷ first:= 0 ∷ last:= 0 ∷ free:= 0 ∷ held:= 0 ∷ reader 0 := (reads 10 2) ∷ reader 1 := (seeks 5 0) ∷ []))
     (R 2 ⇒ refused 5 ∷ R 0 ⇒ go ∷ R 1 ⇒ absent
