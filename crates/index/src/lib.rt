@@ -113,7 +113,7 @@ pub fn writer_turn(pool: &mut [u32], reg: Register) -> WriterReply
 // Begin: starts a lookup of the key k in the slot s. It loads no node yet.
 // Needs: one caller for each slot. Nothing tests this.
 // Answers: Accepted. Then reader_turn is to be called until it answers Found or Absent; give_up ends the lookup before.
-// Refuses, tested in this order: 1 length; 2 a word or field out of range; 3 the slot is above 7; 4 the slot is reading.
+// Refuses, tested in this order: 1 length; 2 a word or field out of range; 3 the slot is above 31; 4 the slot is reading.
 // Leaves: the pool as it was, and in the register the slot's reader record; refused, both as they were.
 pub fn begin(pool: &[u32], reg: Register, s: u32, k: u32) -> Reply
     ensures { λ r. ⌜ accepts (r .answer) ≡ begin kind.Lookup (state (now (pool .entry)) reg) s k .answer ⌝ }
@@ -140,7 +140,7 @@ pub fn begin_next(pool: &[u32], reg: Register, s: u32, k: u32) -> Reply
 // search for the next ticket ends with Next and the ticket's key and record, or with Absent: the ticket was held at a moment since the begin,
 // and no key between the given one and it (after Absent: no greater key) was held all the time since.
 // Refuses, tested in this order: 1 length; 2 a field of the register, or a word of the node that the slot's record names, reading or not, out
-// of range; 3 the slot is above 7; 5 the slot is not reading. No other word of the pool is tested.
+// of range; 3 the slot is above 31; 5 the slot is not reading. No other word of the pool is tested.
 // Leaves: after Go only the slot's node and what it remembers changed; after Found, Next and Absent the slot is no longer reading, awaited or
 // a holder of a retired node, and a retired node without a holder is freed; refused, both as they were.
 pub fn reader_turn(pool: &mut [u32], reg: Register, s: u32) -> ReaderReply
@@ -168,7 +168,7 @@ pub fn reader_turn(pool: &mut [u32], reg: Register, s: u32) -> ReaderReply
 // Give up: ends the lookup, or the search for the next ticket, of the slot s without an answer.
 // Needs: nothing; a slot that isn't reading is refused.
 // Answers: Accepted.
-// Refuses, tested in this order: 1 length; 2 a word or field out of range; 3 the slot is above 7; 5 the slot is not reading.
+// Refuses, tested in this order: 1 length; 2 a word or field out of range; 3 the slot is above 31; 5 the slot is not reading.
 // Leaves: the slot no longer reading, awaited or a holder of a retired node; a retired node without a holder is freed; refused, both as they
 // were.
 pub fn give_up(pool: &mut [u32], reg: Register, s: u32) -> Reply
