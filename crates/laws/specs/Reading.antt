@@ -84,10 +84,17 @@ halves-fit w r s h =
     let c = pow-mono h in
     omega arith
 
+-- with no bit set none reads
+pub none-reading-of : (w : ℕ) (r : Register) → readingOf w r ≡ 0 → (s : ℕ) → s < w → readerOf r s .reading ≡ false
+none-reading-of w r e s h = sym (reading-bit-of w r s h) ∙ rw e (no-bit s)
+
+abbrev pub readingIn : List Reader → ℕ → Bool
+readingIn xs s = getD xs s noReader .reading
+
 -- a mask of w slots in which only reading ones are
 pub record ReadingOnly (w : ℕ) (xs : List Reader) (m : ℕ) : Type 0 where
   pub below : m < 2 ^ w
-  pub reads : (s : ℕ) → s < w → hasSlot m s ≡ true → getD xs s noReader .reading ≡ true
+  pub reads : (s : ℕ) → s < w → hasSlot m s ≡ true → readingIn xs s ≡ true
 
 only-reading-of : (w : ℕ) (r : Register) → ReadingOnly w (r .readers) (readingOf w r)
 only-reading-of w r = record { below = reading-below-of w r; reads = λ s u e. sym (reading-bit-of w r s u) ∙ e }
@@ -96,8 +103,7 @@ pub only-none : (w : ℕ) (xs : List Reader) → ReadingOnly w xs 0
 only-none w xs = record { below = pow-pos w; reads = λ s u e. absurd (false≢true (sym (no-bit s) ∙ e)) }
 
 -- no slot stops reading
-pub only-more : (w : ℕ) (xs ys : List Reader) (m : ℕ) → ((s : ℕ) → s < w → getD xs s noReader .reading ≡ true → getD ys s noReader .reading ≡ true)
-    → ReadingOnly w xs m → ReadingOnly w ys m
+pub only-more : (w : ℕ) (xs ys : List Reader) (m : ℕ) → ((s : ℕ) → s < w → readingIn xs s ≡ true → readingIn ys s ≡ true) → ReadingOnly w xs m → ReadingOnly w ys m
 only-more w xs ys m more h = record { below = h .below; reads = λ s u e. more s u (h .reads s u e) }
 
 -- slot s stops
@@ -119,9 +125,9 @@ pub only-reading : (r : Register) → ReadingOnly slots (r .readers) (readingSlo
 unfolding readingSlots
 only-reading r = only-reading-of slots r
 
--- with no bit set none reads
 pub none-reading : (r : Register) → readingSlots r ≡ 0 → (s : ℕ) → s < slots → readerOf r s .reading ≡ false
-none-reading r e s h = sym (reading-bit r s h) ∙ rw e (no-bit s)
+unfolding readingSlots
+none-reading r = none-reading-of slots r
 
 -- the records of the slots after one is changed
 pub reader-same : (r : Register) (s : ℕ) (x : Reader) → s < length (r .readers) → readerOf (withReader r s x) s ≡ x

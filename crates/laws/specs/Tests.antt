@@ -10,7 +10,7 @@ use Prim.Native.Nat.{ℕ, _<_, _≤_, _*_, _%_}
 use Rattle.base.specs.Walk.{allIn, all-in}
 use Rattle.datatypes.specs.declared.Register.{Register}
 use Rattle.spec.specs.Numbers.{nodeWords, leastNodes, mostNodes, poolLimit, slots, mostStores}
-use Rattle.spec.specs.Pool.{nodes, lengthRight, nodeInRange, poolInRange, leftWord, rightWord, colourWord, standingWord, holdersWord, nextWord}
+use Rattle.spec.specs.Pool.{nodes, lengthRight, nodeInRange, poolInRange, leftWord, rightWord, colourWord, standingWord, nextWord}
 use Rattle.spec.specs.Register.{State, readerOf, readerInRange, storeInRange, registerInRange}
 use Rattle.laws.specs.Words.{word-none}
 use Rattle.spec.specs.Calls.{Test, _gives_, firstOf, Outcome, outcome, unless, refused, wrongLength, outOfRange, slotTooHigh}

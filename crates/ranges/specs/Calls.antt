@@ -17,7 +17,7 @@ use Rattle.datatypes.specs.declared.Step.the-variants.{Vacant, Insert, Replace,
 use Rattle.datatypes.specs.declared.Write.{Write}
 use Rattle.datatypes.specs.declared.Reader.{Reader}
 use Rattle.spec.specs.Numbers.{slots, pathBound, mostStores}
-use Rattle.spec.specs.Pool.{word, leftWord, rightWord, colourWord, standingWord, holdersWord, nextWord, nodeInRange, poolInRange}
+use Rattle.spec.specs.Pool.{word, leftWord, rightWord, colourWord, standingWord, nextWord, nodeInRange, poolInRange}
 use Rattle.spec.specs.Register.{State, state, vacant, readerOf, storeOf, withReader, withWrite, linkInRange, nodeNumber, stepInRange}
 use Rattle.spec.specs.Register.{storeInRange, readerInRange, registerInRange, writeOf, lessFirst}
 use Rattle.spec.specs.Free.{endReading}

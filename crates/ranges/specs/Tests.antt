@@ -11,7 +11,7 @@ use borrow.Author.Tests.{not-false, leb-true}
 use Rattle.base.specs.Lists.{getD-past}
 use Rattle.base.specs.Walk.{allIn, all-in}
 use Rattle.spec.specs.Numbers.{slots, mostStores}
-use Rattle.spec.specs.Pool.{place, word, nodes, leftWord, rightWord, colourWord, standingWord, holdersWord, nodeInRange, poolInRange}
+use Rattle.spec.specs.Pool.{place, word, nodes, leftWord, rightWord, colourWord, standingWord, nodeInRange, poolInRange}
 use Rattle.spec.specs.Register.{State, noReader, noWrite, readerInRange, registerInRange}
 use Rattle.spec.specs.Calls.{outOfRange}
 use Rattle.laws.specs.Words.{word-none, word-at}

@@ -19,10 +19,10 @@ use Rattle.spec.specs.FreeQueue.{InPool}
 use Rattle.promise.specs.Run.{Reads}
 use Rattle.heap.specs.Fill.{retire-quiet}
 use Rattle.laws.specs.Freed.{free-length}
-use Rattle.laws.specs.Reading.{reading-bit, none-reading}
+use Rattle.laws.specs.Reading.{readingIn, reading-bit, none-reading}
 use Rattle.readers.specs.Words.{Whole, stands-node, node-length, free-other, free-standing, free-register, retire-none}
 use Rattle.readers.specs.Words.{retire-some, marked-length, marked-other, marked-standing, marked-holders}
-use Rattle.readers.specs.Owned.{readingIn, Owned, own-retire}
+use Rattle.readers.specs.Owned.{Owned, own-retire}
 use Rattle.readers.specs.Reach.{HasStanding, NodeChange, comes, rests, goes}
 
 -- each number stands free, linked or retired

@@ -1,8 +1,8 @@
 -- Who has which node: each stands free, linked or retired; the free ones are the queue's; a retired one has holders, which are reading;
 -- awaited slots are reading. Kept by begin, a reader's step, the end of a reading, retire, take, and a store of a link or a colour.
 use Prim.Native.Nat.{ℕ, _+_, _<_, _≤_}
-use mathlib.Core.Path.{_≡_, refl, sym, ap, _∙_, subst}
-use mathlib.Core.Bool.{Bool, true, false, cond, _&&_, false≢true}
+use mathlib.Core.Path.{_≡_, refl, sym, ap, _∙_}
+use mathlib.Core.Bool.{Bool, true, false, cond, _&&_}
 use mathlib.Core.List.{List, [], _∷_, _++_, append-nil}
 use mathlib.Core.Logic.{_≢_, inl, inr}
 use native.Mathlib.Omega.{arith}
@@ -20,16 +20,13 @@ use Rattle.spec.specs.Register.{State, state, noReader, dropSlot, readingSlots,
 use Rattle.spec.specs.Free.{fillNode, takeFree, takeNode, freeNode, retire, endReading}
 use Rattle.spec.specs.FreeQueue.{InPool}
 use Rattle.laws.specs.Words.{length-setWord, word-other}
-use Rattle.laws.specs.Reading.{ReadingOnly, only-reading, only-more, only-drop}
+use Rattle.laws.specs.Reading.{readingIn, ReadingOnly, only-reading, only-more, only-drop}
 use Rattle.laws.specs.Freed.{free-length}
 use Rattle.readers.specs.Words.{node-length, node-high, free-other, free-standing, free-holders, retire-none, retire-some, marked}
 use Rattle.readers.specs.Words.{marked-length, marked-other, marked-standing, marked-holders, fill-length, fill-other, fill-standing}
 use Rattle.readers.specs.Words.{fill-holders}
 use Rattle.readers.specs.QueueExact.{QueueExact, free-exact, take-exact, mark-exact, word-exact, field-exact}
 use Rattle.readers.specs.Release.{else-free, freedBelow, end-released}
-
-abbrev pub readingIn : List Reader → ℕ → Bool
-readingIn xs s = getD xs s noReader .reading
 
 -- a node's standing and holders, with these reader records
 pub record Good (xs : List Reader) (standing holders : ℕ) : Type 0 where

@@ -19,10 +19,10 @@ use Rattle.spec.specs.Free.{endReading}
 use Rattle.spec.specs.Calls.{reading}
 use Rattle.promise.specs.Demands.{Leads, Reaches}
 use Rattle.promise.specs.Run.{Reads}
-use Rattle.laws.specs.Reading.{reader-same, reader-other}
+use Rattle.laws.specs.Reading.{readingIn, reader-same, reader-other}
 use Rattle.readers.specs.Words.{Whole, whole-kept, stands-node}
 use Rattle.readers.specs.Release.{ended, end-released}
-use Rattle.readers.specs.Owned.{readingIn, Owned, own-reader, own-end}
+use Rattle.readers.specs.Owned.{Owned, own-reader, own-end}
 use Rattle.readers.specs.Reach.{HasStanding, Kept, LinkedClosed, Closed, kept-reach, leads-there, kept-end, closed-end, end-linked, kept-store, closed-store}
 use Rattle.readers.specs.Stored.{own-fields}
 use Rattle.readers.specs.Turns.{Turn}

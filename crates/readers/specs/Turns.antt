@@ -22,12 +22,13 @@ use Rattle.base.specs.Lists.{_∈_}
 use Rattle.spec.specs.FreeQueue.{InPool}
 use Rattle.laws.specs.Queue.{link-low}
 use Rattle.laws.specs.Words.{word-none}
+use Rattle.laws.specs.Reading.{readingIn}
 use Rattle.promise.specs.Run.{Reads}
 use Rattle.promise.specs.Demands.{TreeLink, StoresOne}
 use Rattle.heap.specs.Rep.{alike-refl, upToColour}
 use Rattle.heap.specs.Fill.{Quiet, retire-quiet, retireTwo-quiet}
 use Rattle.readers.specs.Words.{Whole, whole-kept, stands-node}
-use Rattle.readers.specs.Owned.{readingIn, Owned, own-retire}
+use Rattle.readers.specs.Owned.{Owned, own-retire}
 use Rattle.readers.specs.Reach.{HasStanding, NodeChange, comes, leaves, goes}
 use Rattle.readers.specs.NodeChanges.{ranked, change-same, Retires, stays, out, off, retire-other, retire-retires, retire-gone, retire-free}
 use Rattle.readers.specs.NodeChanges.{retireTwo-free, retireTwo-retires, retireTwo-owned, retireTwo-gone, retireTwo-other}

@@ -1,5 +1,5 @@
 -- 01's numbers, each named once; a definition, a contract or a proof cites the name.
-use Prim.Native.Nat.{ℕ, _+_, _-_, _*_, _^_}
+use Prim.Native.Nat.{ℕ, _+_, _*_}
 
 -- 'Pool and register': the words of a node; the least and the largest number of nodes.
 abbrev pub nodeWords : ℕ

@@ -11,9 +11,9 @@ use Rattle.datatypes.specs.declared.Register.{Register}
 use Rattle.datatypes.specs.Side.{owner}
 use Rattle.spec.specs.Numbers.{slots}
 use Rattle.spec.specs.Pool.{standingLinked}
-use Rattle.laws.specs.Reading.{ReadingOnly}
 use Rattle.spec.specs.Register.{State, state, setLink}
 use Rattle.spec.specs.Turn.{Made}
+use Rattle.laws.specs.Reading.{ReadingOnly}
 use Rattle.base.specs.Lists.{_∈_}
 use Rattle.tree.specs.Linked.{Linked, nodes}
 use Rattle.tree.specs.Occurs.{occ}
