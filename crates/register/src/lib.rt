@@ -24,7 +24,7 @@ pub const NO_READER: Reader = Reader {
     value: 0,
 };
 
-// Makes the same.
+// Makes that record.
 pub fn no_reader() -> Reader
     ensures { λ r. ⌜ r ≡ noReader ⌝ }
 {
@@ -229,7 +229,7 @@ fn stores_in_range(w: Write, capacity: u32) -> bool
     true
 }
 
-// Tests whether every field of the register is in its range.
+// Tests whether every field of the register is in its range; the awaited slots are any word.
 pub fn register_in_range(reg: Register, capacity: u32) -> bool
     ensures { λ r. ⌜ r ≡ registerInRange capacity reg ⌝ }
 {
