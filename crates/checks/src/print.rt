@@ -140,26 +140,32 @@ fn next_searches(counts: &[u64]) {
     );
 }
 
-// Prints the counts of each slot.
-fn by_slot(label: &[u8], counts: &[u64], first: usize)
-    requires { ⌜ first < 192 ⌝ }
+// Prints so many counts in a line, from a row on.
+fn row(label: &[u8], counts: &[u64], first: usize, many: usize)
+    requires { ⌜ (first < 192) × (many < 192) ⌝ }
 {
     io::write_all(1, label);
-    let mut s: usize = 0;
-    while s < numbers::SLOTS {
+    let mut i: usize = 0;
+    while i < many {
         io::write_all(1, b"\t");
-        io::print_decimal(1, tally::get(counts, first + s));
-        s += 1;
+        io::print_decimal(1, tally::get(counts, first + i));
+        i += 1;
     }
     io::write_all(1, b"\n");
 }
 
 fn slots(counts: &[u64]) {
-    by_slot(b"begun in slots 0 to 31", counts, tally::SLOT_BEGUN);
-    by_slot(
+    row(
+        b"begun in slots 0 to 31",
+        counts,
+        tally::SLOT_BEGUN,
+        numbers::SLOTS,
+    );
+    row(
         b"calls with slots 0 to 31 awaited",
         counts,
         tally::SLOT_AWAITED,
+        numbers::SLOTS,
     );
     line(
         b"calls with every slot awaited",
@@ -181,14 +187,7 @@ fn steps(counts: &[u64]) {
 fn rotation(label: &[u8], counts: &[u64], step: usize)
     requires { ⌜ step < 5 ⌝ }
 {
-    io::write_all(1, label);
-    let mut i: usize = 0;
-    while i < 6 {
-        io::write_all(1, b"\t");
-        io::print_decimal(1, tally::get(counts, tally::ROTATIONS + step * 6 + i));
-        i += 1;
-    }
-    io::write_all(1, b"\n");
+    row(label, counts, tally::ROTATIONS + step * 6, 6);
 }
 
 fn rotations(counts: &[u64]) {

@@ -1,18 +1,18 @@
 use borrow.Author.Needs.{needs}
 use Prim.Native.Nat.{_-_, _≤_}
-use Rattle.checks.proofs.print.rotation.Statement.{statement}
-use Rattle.checks.proofs.print.rotation.Tie as tie
-use Rattle.checks.proofs.print.rotation.Reads as reads
-use Rattle.checks.proofs.print.rotation.Lts as lts
+use Rattle.checks.proofs.print.row.Statement.{statement}
+use Rattle.checks.proofs.print.row.Tie as tie
+use Rattle.checks.proofs.print.row.Reads as reads
+use Rattle.checks.proofs.print.row.Lts as lts
 use Rattle.checks.proofs.tally.get.Reads as get-reads
 use Rattle.io.proofs.print_decimal.Reads as print-decimal-reads
 use Rattle.io.proofs.write_all.Reads as write-all-reads
 
 abbrev Inv-loop : tie.InvT-loop
-Inv-loop label counts step i₀ t5 t6 i = 0 ≤ 1
+Inv-loop label counts first many i₀ t6 t7 i = 0 ≤ 1
 
 abbrev μ-loop : tie.MeasureT-loop
-μ-loop label counts step i₀ t5 t6 i = 6 - i
+μ-loop label counts first many i₀ t6 t7 i = many - i
 
 write-all-requires : tie.Need-write-all-requires Inv-loop μ-loop
 write-all-requires c κs = search needs
@@ -26,14 +26,8 @@ slice-aggregate-write-all c = search needs
 write-all-requires-2 : tie.Need-write-all-requires-2 Inv-loop μ-loop
 write-all-requires-2 c κs = search needs
 
-mul-get : tie.Need-mul-get Inv-loop μ-loop
-mul-get c = search needs
-
 add-get : tie.Need-add-get Inv-loop μ-loop
 add-get c = search needs
-
-add-get-2 : tie.Need-add-get-2 Inv-loop μ-loop
-add-get-2 c = search needs
 
 get-requires : tie.Need-get-requires Inv-loop μ-loop
 get-requires c κs = search needs
@@ -59,8 +53,8 @@ write-all-requires-3 c κs = search needs
 returns : tie.Need-returns Inv-loop μ-loop
 returns c = search needs
 
-pub rotation-spec : {M : Type 1} → statement M
-rotation-spec =
+pub row-spec : {M : Type 1} → statement M
+row-spec =
     tie.close
     (tie.spec
     Inv-loop
@@ -69,9 +63,7 @@ rotation-spec =
     loop-holds
     slice-aggregate-write-all
     write-all-requires-2
-    mul-get
     add-get
-    add-get-2
     get-requires
     print-decimal-requires
     add-i
