@@ -4,12 +4,13 @@ use Prim.Native.Nat.{ℕ, zero, suc, _+_, _-_, _*_, _^_}
 use Prim.Native.String.{String}
 use mathlib.Core.List.{List, [], _∷_, _++_}
 use Rattle.datatypes.specs.declared.Link.the-variants.{Root, Left, Right}
-use Rattle.datatypes.specs.declared.Step.the-variants.{Unlink}
+use Rattle.datatypes.specs.declared.Kind.the-variants as kind
+use Rattle.datatypes.specs.declared.Step.the-variants.{Insert, Unlink}
 use Rattle.spec.specs.Register.{State}
 use Rattle.spec.specs.Calls.{ok, go, absent, wait, found, next, more, done, refused}
 use Rattle.table.specs.Picture.{Row, row, _keptBy_, Read, slot_wants_at_, slot_after_at_with_, wanting, Nothing, Ticket, _remembering_, root_held_awaited_stores_, picture}
 use Rattle.table.specs.Picture.{drawn, rising, tree, black, redLeaf, nil, _on_, left, standing, holders, nextFree, Change, _of_:=_, last:=_, free:=_, awaited:=_, hand}
-use Rattle.table.specs.Picture.{reader_:=_, reads, idle, seeks, _but_, unset}
+use Rattle.table.specs.Picture.{colour, first:=_, held:=_, fills, atRest, reader_:=_, reads, idle, seeks, _ofKind_, _but_, unset, words}
 use Rattle.table.specs.Entry.{P, I, D, W, B, S, R, E, _⇒_, Line, stands, leaves, begins, Entry, entry}
 use Rattle.table.specs.Lent.{three, five}
 
@@ -343,3 +344,183 @@ slots =
     -- each slot's own node
     ∷ each nodePast 32 0
     ++ each namesDamaged 32 0
+
+-- Then what holds of each of the 32, by an entry for each, and of all 32 in each kind of store.
+-- Slot s and one other are awaited and hold. The other ends, begins again and ends: only slot s is left.
+abbrev withOther : ℕ → Entry
+withOther s =
+    let t = 31 - s in
+    entry "slots: each slot is awaited with one other, which ends, begins again and ends" five
+    (B s 10 ⇒ ok ∷ B t 30 ⇒ ok ∷ D 20 ⇒ ok ∷ W ⇒ more Root 6
+    ∷ awaits (slot s wants 10 at 0 ∷ slot t wants 30 at 0 ∷ []) (2 ^ s + 2 ^ t)
+    ∷ E t ⇒ ok
+    ∷ awaits (slot s wants 10 at 0 ∷ []) (2 ^ s)
+    ∷ W ⇒ wait ∷ S t 10 ⇒ ok ∷ R t ⇒ go
+    ∷ awaits (slot s wants 10 at 0 ∷ slot t after 10 at 6 with Nothing ∷ []) (2 ^ s)
+    ∷ W ⇒ wait ∷ E t ⇒ ok
+    ∷ awaits (slot s wants 10 at 0 ∷ []) (2 ^ s)
+    ∷ W ⇒ wait ∷ E s ⇒ ok ∷ goesOn ∷ [])
+
+-- All 32, in a search, end in falling order by a give up: no bit from the slot's on is left.
+abbrev fallingEnds : ℕ → List Line
+fallingEnds zero = []
+fallingEnds (suc s) = E (s + 1) ⇒ ok ∷ awaits (searching (s + 1) 0 15) (2 ^ (s + 1) - 1) ∷ W ⇒ wait ∷ fallingEnds s
+
+-- so many slots from s on, in a lookup of the key 0, at node n
+abbrev wantingZero : ℕ → ℕ → ℕ → List Read
+wantingZero zero s n = []
+wantingZero (suc k) s n = (slot s wants 0 at n) ∷ wantingZero k (s + 1) n
+
+-- Any bits stand in the awaited slots and in the holders of a retired node, and anything in the slot's own record: a begin and a go.
+abbrev beginsOver : ℕ → Entry
+beginsOver s =
+    entry "slots: a begin and a go of each slot, whatever its record and bits were"
+    (three but (awaited:= 4294967295 ∷ standing of 8 := 2 ∷ holders of 8 := 4294967295 ∷ reader s := (idle 77 3 ofKind kind.Next remembering Ticket 1 2) ∷ []))
+    (B s 10 ⇒ ok
+    ∷ leaves (reader s := (reads 10 0) ∷ [])
+    ∷ R s ⇒ go
+    ∷ leaves (reader s := (reads 10 2) ∷ []) ∷ [])
+
+-- Nodes of each standing have the slot's bit, some no other. Its end takes the bit from the retired ones alone and frees two of them.
+abbrev eachStanding : ℕ → State
+eachStanding s =
+    drawn 12
+    (picture (root 2 held 3 awaited 4294967295 stores 0)
+    (slot s after 30 at 3 with Nothing ∷ [])
+    (row 1 10 100 1 0 0 ∷ row 2 20 200 0 1 3 ∷ row 3 30 300 1 0 0 ∷ [])
+    (row 4 40 400 0 0 0 keptBy 4294967295 ∷ row 5 50 500 0 0 0 keptBy 2 ^ s ∷ row 6 60 600 0 0 0 keptBy (4294967295 - 2 ^ s) ∷ row 7 70 700 0 0 0 keptBy 2 ^ s
+    ∷ row 8 80 800 0 0 0 keptBy 2 ^ (31 - s) ∷ [])
+    (9 ∷ 10 ∷ 11 ∷ 12 ∷ []))
+    []
+    but (holders of 1 := 4294967295 ∷ holders of 2 := 2 ^ s ∷ holders of 10 := 4294967295 ∷ holders of 12 := 2 ^ s ∷ [])
+
+abbrev retiredAlone : ℕ → List Change
+retiredAlone s =
+    holders of 4 := (4294967295 - 2 ^ s) ∷ standing of 5 := 0 ∷ holders of 5 := 0 ∷ nextFree of 5 := 7 ∷ standing of 7 := 0 ∷ holders of 7 := 0
+    ∷ nextFree of 12 := 5 ∷ last:= 7 ∷ free:= 6 ∷ awaited:= (4294967295 - 2 ^ s) ∷ reader s := (idle 0 0) ∷ []
+
+abbrev keepsOthers : ℕ → Entry
+keepsOthers s =
+    entry "slots: the give up of each slot takes its bit from retired nodes alone, and frees in rising number" (eachStanding s) (E s ⇒ ok ∷ leaves (retiredAlone s) ∷ [])
+
+abbrev keepsDamaged : ℕ → Entry
+keepsDamaged s =
+    entry "slots: the none of each slot does likewise, with damaged nodes" (eachStanding s but (left of 4 := 99 ∷ left of 7 := 99 ∷ left of 2 := 99 ∷ []))
+    (E s ⇒ refused 2 ∷ R s ⇒ absent ∷ leaves (retiredAlone s) ∷ [])
+
+-- A node that the slot's record doesn't name is damaged: 2 in a begin and a give up, but its turn goes on. A field of the register is: 2 in all.
+abbrev damagedBeside : ℕ → Entry
+damagedBeside s =
+    entry "slots: another node is damaged: 2 in the begins and the give up of each slot, not in its turn" (three but (left of 8 := 9 ∷ reader s := (reads 10 2) ∷ []))
+    (B s 10 ⇒ refused 2 ∷ S s 10 ⇒ refused 2 ∷ E s ⇒ refused 2 ∷ B (31 - s) 10 ⇒ refused 2 ∷ S (31 - s) 10 ⇒ refused 2 ∷ R s ⇒ go
+    ∷ leaves (reader s := (reads 10 1) ∷ []) ∷ [])
+
+abbrev damagedField : ℕ → Entry
+damagedField s =
+    entry "slots: 2 by a field of the register, in the calls of each slot" (three but (held:= 9 ∷ reader s := (reads 10 2) ∷ []))
+    (B s 10 ⇒ refused 2 ∷ S s 10 ⇒ refused 2 ∷ R s ⇒ refused 2 ∷ E s ⇒ refused 2 ∷ B (31 - s) 10 ⇒ refused 2 ∷ S (31 - s) 10 ⇒ refused 2 ∷ [])
+
+abbrev wrongWords : ℕ → Entry
+wrongWords s =
+    entry "slots: 1 in the calls of each slot" (words 65 but (reader s := (reads 10 2) ∷ []))
+    (B s 10 ⇒ refused 1 ∷ S s 10 ⇒ refused 1 ∷ R s ⇒ refused 1 ∷ E s ⇒ refused 1 ∷ B (31 - s) 10 ⇒ refused 1 ∷ S (31 - s) 10 ⇒ refused 1 ∷ [])
+
+-- The node of slot s is past its range: 2 in every call, before 4 of a slot that reads and 5 of one that doesn't.
+abbrev pastReading : ℕ → Entry
+pastReading s =
+    entry "slots: 2 in every call by the node of each slot, reading" (three but (reader s := (reads 0 9) ∷ []))
+    (I 5 50 ⇒ refused 2 ∷ D 10 ⇒ refused 2 ∷ W ⇒ refused 2 ∷ B s 10 ⇒ refused 2 ∷ S s 10 ⇒ refused 2 ∷ R s ⇒ refused 2 ∷ E s ⇒ refused 2
+    ∷ B (31 - s) 10 ⇒ refused 2 ∷ S (31 - s) 10 ⇒ refused 2 ∷ R (31 - s) ⇒ refused 2 ∷ E (31 - s) ⇒ refused 2 ∷ [])
+
+abbrev pastIdle : ℕ → Entry
+pastIdle s =
+    entry "slots: 2 in every call by the node of each slot, not reading" (three but (reader s := (idle 0 9 ofKind kind.Next) ∷ []))
+    (I 5 50 ⇒ refused 2 ∷ D 10 ⇒ refused 2 ∷ W ⇒ refused 2 ∷ B s 10 ⇒ refused 2 ∷ S s 10 ⇒ refused 2 ∷ R s ⇒ refused 2 ∷ E s ⇒ refused 2 ∷ [])
+
+-- slot s, not reading or in a search, names a node with a word past its range
+abbrev namesUnread : ℕ → Entry
+namesUnread s =
+    entry "slots: 2 in the turn of each slot, not reading, by a word of the node that it names" (three but (left of 1 := 9 ∷ reader s := (idle 10 1) ∷ []))
+    (R s ⇒ refused 2 ∷ [])
+
+abbrev namesSought : ℕ → Entry
+namesSought s =
+    entry "slots: 2 in the turn of each slot, in a search, by a word of the node that it names" (three but (left of 1 := 9 ∷ reader s := (seeks 10 1) ∷ []))
+    (R s ⇒ refused 2 ∷ [])
+
+abbrev before3 : List ℕ → List Line
+before3 [] = []
+before3 (s ∷ ss) = B s 10 ⇒ refused 2 ∷ S s 10 ⇒ refused 2 ∷ R s ⇒ refused 2 ∷ E s ⇒ refused 2 ∷ before3 ss
+
+-- a search that remembers twice
+abbrev remembersLast : ℕ → Entry
+remembersLast s =
+    entry "slots: a search in each slot answers the ticket remembered last" five
+    (S s 5 ⇒ ok ∷ R s ⇒ go ∷ R s ⇒ go
+    ∷ leaves (reader s := (seeks 5 1 remembering Ticket 20 200) ∷ [])
+    ∷ R s ⇒ next 10 100 ∷ leaves [] ∷ [])
+
+abbrev pub eachSlot : List Entry
+eachSlot =
+    entry "slots: all 32 are awaited, in a search, and give up in falling order, each with its bit" five
+    (beginSearch 32 0 15 ++ D 20 ⇒ ok ∷ W ⇒ more Root 6
+    ∷ awaits (searching 32 0 15) 4294967295
+    ∷ W ⇒ wait ∷ fallingEnds 31 ++ E 0 ⇒ ok ∷ goesOn ∷ W ⇒ done (Left 4) 0 ∷ isDone ∷ [])
+    ∷ entry "slots: all 32 want key 0 and have loaded a node: all are awaited and hold" five
+    (begins 32 0 0 ++ allGo 32 0 ++ D 20 ⇒ ok ∷ W ⇒ more Root 6
+    ∷ awaits (wantingZero 32 0 2) 4294967295
+    ∷ W ⇒ wait ∷ ends (rising 32 0) ++ goesOn ∷ W ⇒ done (Left 4) 0 ∷ isDone ∷ [])
+    -- all 32 read at each kind of store that retires
+    ∷ entry "slots: all 32 hold the node of a replace" three
+    (begins 32 0 10 ++ I 20 201 ⇒ ok ∷ W ⇒ done Root 4
+    ∷ stands (picture (root 4 held 3 awaited 0 stores 0)
+    (wanting 32 0 10) (row 1 10 100 1 0 0 ∷ row 3 30 300 1 0 0 ∷ row 4 20 201 0 1 3 ∷ []) (row 2 20 200 0 1 3 keptBy 4294967295 ∷ []) (5 ∷ 6 ∷ 7 ∷ 8 ∷ [])) ∷ [])
+    ∷ entry "slots: all 32 hold the node of a diag" (tree 8 (black redLeaf nil))
+    (begins 32 0 10 ++ I 5 50 ⇒ ok ∷ W ⇒ more (Left 1) 3 ∷ W ⇒ more (Right 1) 4 ∷ W ⇒ done Root 1
+    ∷ stands (picture (root 1 held 3 awaited 0 stores 0)
+    (wanting 32 0 10) (row 1 10 100 0 3 4 ∷ row 3 5 50 1 0 0 ∷ row 4 20 200 1 0 0 ∷ []) (row 2 20 200 0 1 0 keptBy 4294967295 ∷ []) (5 ∷ 6 ∷ 7 ∷ 8 ∷ [])) ∷ [])
+    ∷ entry "slots: all 32 hold both nodes of a zig" (tree 8 (black nil redLeaf))
+    (begins 32 0 10 ++ I 15 150 ⇒ ok ∷ W ⇒ more (Left 2) 3 ∷ W ⇒ more (Right 3) 4 ∷ W ⇒ more (Left 3) 5 ∷ W ⇒ done Root 3
+    ∷ stands (picture (root 3 held 3 awaited 0 stores 0)
+    (wanting 32 0 10) (row 3 15 150 0 5 4 ∷ row 4 20 200 1 0 0 ∷ row 5 10 100 1 0 0 ∷ [])
+    (row 1 10 100 0 0 2 keptBy 4294967295 ∷ row 2 20 200 1 3 0 keptBy 4294967295 ∷ []) (6 ∷ 7 ∷ 8 ∷ [])) ∷ [])
+    ∷ entry "slots: all 32 hold the node of a promote" three
+    (begins 32 0 10 ++ D 20 ⇒ ok ∷ W ⇒ more (Left 3) 1 ∷ W ⇒ done Root 3
+    ∷ stands (picture (root 3 held 2 awaited 0 stores 0)
+    (wanting 32 0 10) (row 1 10 100 1 0 0 ∷ row 3 30 300 0 1 0 ∷ []) (row 2 20 200 0 1 3 keptBy 4294967295 ∷ []) (4 ∷ 5 ∷ 6 ∷ 7 ∷ 8 ∷ [])) ∷ [])
+    ∷ entry "slots: all 32 begun after the publish are not awaited, and hold the node of the detach" five
+    (D 20 ⇒ ok ∷ W ⇒ more Root 6 ∷ begins 32 0 30
+    ++ W ⇒ done (Left 4) 0
+    ∷ stands (picture (root 6 held 4 awaited 0 stores 0)
+    (wanting 32 0 30) detached (row 3 30 300 1 0 0 keptBy 4294967295 ∷ []) (7 ∷ 8 ∷ 9 ∷ 10 ∷ 11 ∷ 12 ∷ 2 ∷ [])) ∷ [])
+    -- any word as the holders that a node had
+    ∷ entry "slots: a taken node's holders are 0, whatever they were" (three but (hand (Insert 5 50 on Left 1) ∷ holders of 4 := 4294967295 ∷ colour of 1 := 0 ∷ []))
+    (W ⇒ done (Left 1) 4
+    ∷ leaves (left of 1 := 4 ∷ fills (row 4 5 50 1 0 0) ∷ first:= 5 ∷ free:= 4 ∷ held:= 4 ∷ atRest ∷ []) ∷ [])
+    ∷ entry "slots: a retired node's holders are the reading slots, whatever they were"
+    (three but (hand (Unlink on Left 2) ∷ holders of 1 := 4294967295 ∷ reader 0 := (reads 5 0) ∷ []))
+    (W ⇒ done (Left 2) 0
+    ∷ leaves (standing of 1 := 2 ∷ holders of 1 := 1 ∷ left of 2 := 0 ∷ held:= 2 ∷ atRest ∷ []) ∷ [])
+    ∷ entry "slots: a node freed by a retire: holders 0, whatever they were" (three but (hand (Unlink on Left 2) ∷ holders of 1 := 4294967295 ∷ []))
+    (W ⇒ done (Left 2) 0
+    ∷ leaves (standing of 1 := 0 ∷ holders of 1 := 0 ∷ left of 2 := 0 ∷ nextFree of 8 := 1 ∷ last:= 1 ∷ free:= 6 ∷ held:= 2 ∷ atRest ∷ []) ∷ [])
+    ∷ entry "slots: a set up leaves no slot awaited, whatever they were" (three but (awaited:= 4294967295 ∷ []))
+    (P ⇒ ok
+    ∷ stands (picture (root 0 held 0 awaited 0 stores 0) [] [] [] (rising 8 1)) ∷ [])
+    -- slots too high
+    ∷ entry "slots: 3 of each slot from 32 to 63" three (tooHigh (rising 32 32))
+    ∷ entry "slots: 2 comes before 3 of each slot from 32 to 63" (three but (reader 20 := (idle 0 9) ∷ [])) (before3 (rising 32 32))
+    ∷ each (λ s. awaitedAlone "slots: each slot alone is awaited" s (2 ^ s)) 32 0
+    ++ each (λ s. holdsAlone "slots: each slot alone holds a node" s (2 ^ s)) 32 0
+    ++ each withOther 32 0
+    ++ each beginsOver 32 0
+    ++ each keepsOthers 32 0
+    ++ each pastReading 32 0
+    ++ each pastIdle 32 0
+    ++ each namesUnread 32 0
+    ++ each namesSought 32 0
+    ++ each remembersLast 32 0
+    ++ each keepsDamaged 32 0
+    ++ each damagedBeside 32 0
+    ++ each damagedField 32 0
+    ++ each wrongWords 32 0
