@@ -5,7 +5,6 @@ pub mod Starred
 pub mod Readers
 pub mod NextTickets
 pub mod Turns
-pub mod Slots
 pub mod Inserts
 pub mod Deletes
 pub mod Replacements

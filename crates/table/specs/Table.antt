@@ -17,7 +17,6 @@ use Rattle.table.specs.Starred.{starred}
 use Rattle.table.specs.Readers.{readers}
 use Rattle.table.specs.NextTickets.{nextTickets}
 use Rattle.table.specs.Turns.{turns}
-use Rattle.table.specs.Slots.{slots, eachSlot}
 use Rattle.table.specs.Inserts.{inserts}
 use Rattle.table.specs.Deletes.{deletes}
 use Rattle.table.specs.Replacements.{replacements}
@@ -28,32 +27,11 @@ use Rattle.table.specs.Damaged.{damaged}
 use Rattle.table.specs.PlainLists.{allListed, plainLists, lists-pass}
 use Rattle.table.specs.Large.{LargePasses, large-passes}
 
--- apart from the others, since the check of one declaration may take only so many steps
-slots-pass : allPass slots ≡ true
-unfolding allFrom allIn foldFrom foldIn word setWord nodeInRange poolInRange lengthRight freshNodes freshPool withRoot withQueue withHeld withReader
-    withAwaited withWrite nodeAt setLink putSlot dropSlot readingSlots storeInRange registerInRange freshRegister fresh writeOf lessFirst takeFree
-    fillNode takeNode freeNode retire retireTwo release endReading seek trail leftmost insertFixup fixupAfterInsert paintInsertFixup redSibling
-    deleteFixup fixupAfterRemoval paintDeleteLevels paintDeleteFixup insertPlan unlinkPlan deletePlan insertStore replaceStore diagLower diagRaise
-    zigLowerA zigLowerC zigRaise unlinkStore adoptStore promoteStore movedWrite publishStore detachStore stepFinds stepMade setUp insert delete stored
-    writerTurn begin readerStep readerTurn giveUp
-slots-pass = refl
-
-each-slot-pass : allPass eachSlot ≡ true
-unfolding allFrom allIn foldFrom foldIn word setWord nodeInRange poolInRange lengthRight freshNodes freshPool withRoot withQueue withHeld withReader
-    withAwaited withWrite nodeAt setLink putSlot dropSlot readingSlots storeInRange registerInRange freshRegister fresh writeOf lessFirst takeFree
-    fillNode takeNode freeNode retire retireTwo release endReading seek trail leftmost insertFixup fixupAfterInsert paintInsertFixup redSibling
-    deleteFixup fixupAfterRemoval paintDeleteLevels paintDeleteFixup insertPlan unlinkPlan deletePlan insertStore replaceStore diagLower diagRaise
-    zigLowerA zigLowerC zigRaise unlinkStore adoptStore promoteStore movedWrite publishStore detachStore stepFinds stepMade setUp insert delete stored
-    writerTurn begin readerStep readerTurn giveUp
-each-slot-pass = refl
-
 pub record TablesPass : Type 0 where
   pub starred : allPass starred ≡ true
   pub readers : allPass readers ≡ true
   pub nextTickets : allPass nextTickets ≡ true
   pub turns : allPass turns ≡ true
-  pub slots : allPass slots ≡ true
-  pub eachSlot : allPass eachSlot ≡ true
   pub inserts : allPass inserts ≡ true
   pub deletes : allPass deletes ≡ true
   pub replacements : allPass replacements ≡ true
@@ -77,8 +55,6 @@ tables-pass =
       readers = refl;
       nextTickets = refl;
       turns = refl;
-      slots = slots-pass;
-      eachSlot = each-slot-pass;
       inserts = refl;
       deletes = refl;
       replacements = refl;
