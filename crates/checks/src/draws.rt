@@ -133,8 +133,12 @@ fn slot_from(s: u32, reading: u32, reads: bool) -> u32 {
     s
 }
 
-// Most turns and give ups are of a slot that reads, and most begins of one that doesn't: few drawn slots would be so by chance.
-fn aimed_slot(s: u32, kind: u32, reading: u32, aims: bool) -> u32 {
+// one call in so many takes its slot as drawn
+const BLIND_DRAWS: u32 = 8;
+
+// The others' turns and give ups are of a slot that reads, and their begins of one that doesn't: few drawn slots would be so by chance.
+fn aimed_slot(s: u32, kind: u32, reading: u32, q: u32) -> u32 {
+    let aims = q % BLIND_DRAWS != 0;
     if aims & (s < numbers::SLOT_LIMIT) {
         return slot_from(s, reading, (kind == READER_TURN) | (kind == GIVE_UP));
     }
@@ -188,7 +192,7 @@ pub fn draw_call(x: u32, i: u64, nodes: u32, reading: u32) -> Call {
     let slot = slot_of(high(second, numbers::SLOT_LIMIT * SLOT_DRAWS));
     Call {
         kind,
-        slot: aimed_slot(slot, kind, reading, first / 4_194_304 % 8 != 0),
+        slot: aimed_slot(slot, kind, reading, first / 4_194_304),
         ticket,
         key: key_of(ticket, tickets(nodes)),
         record: record_of(second, ticket),

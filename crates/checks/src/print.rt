@@ -140,7 +140,7 @@ fn next_searches(counts: &[u64]) {
     );
 }
 
-// Prints so many counts in a line, from a row on.
+// Prints so many counts in a line, from a row on; both numbers are below tally::ROWS.
 fn row(label: &[u8], counts: &[u64], first: usize, many: usize)
     requires { ⌜ (first < 192) × (many < 192) ⌝ }
 {
