@@ -16,16 +16,15 @@ use Rattle.datatypes.specs.declared.Reader.{Reader}
 use Rattle.datatypes.specs.declared.Register.{Register}
 use Rattle.spec.specs.Numbers.{slots, wordBits}
 use Rattle.spec.specs.Register.{readerOf, noReader, hasSlot, putSlot, dropSlot, addReading, readingSlots, withReader}
-use Rattle.laws.specs.Slots.{put-same, put-other, put-below, drop-same, drop-other, drop-le, no-bit, bit-byte}
+use Rattle.laws.specs.Slots.{put-same, put-other, put-below, drop-same, drop-other, drop-le, bit-above, no-bit, bit-byte}
 
 -- the reading ones of the first w slots
 abbrev pub readingOf : ℕ → Register → ℕ
 readingOf w r = foldIn (addReading r) 0 w 0
 
--- the bits of the slots below i are right, no other bit is set
+-- the bits of the slots below i are right, and it is a mask of these slots
 record Marked (r : Register) (i m : ℕ) : Type 0 where
   low : (t : ℕ) → t < i → hasSlot m t ≡ readerOf r t .reading
-  high : (t : ℕ) → i ≤ t → hasSlot m t ≡ false
   bound : m < 2 ^ i
 
 marked-step : (r : Register) (i m : ℕ) → Marked r i m → Marked r (i + 1) (addReading r m i)
@@ -41,19 +40,16 @@ marked-step r i m h = go (readerOf r i .reading) refl
     go : (b : Bool) → readerOf r i .reading ≡ b → Marked r (i + 1) (cond b (putSlot m i) m)
     go true e = record {
       low = λ t u. elim (ℕ-discrete i t) [ yes d ↦ rw (← d) (put-same m i ∙ sym e) | no d ↦ put-other m i t d ∙ h .low t (omega arith) ];
-      high = λ t u. put-other m i t (omega arith) ∙ h .high t (omega arith);
       bound = put-below (i + 1) i m wider (omega arith);
     }
     go false e = record {
-      low = λ t u. elim (ℕ-discrete i t) [ yes d ↦ rw (← d) (h .high i (omega arith) ∙ sym e) | no d ↦ h .low t (omega arith) ];
-      high = λ t u. h .high t (omega arith);
+      low = λ t u. elim (ℕ-discrete i t) [ yes d ↦ rw (← d) (bit-above i m (h .bound) ∙ sym e) | no d ↦ h .low t (omega arith) ];
       bound = wider;
     }
 
 marked : (w : ℕ) (r : Register) → Marked r w (readingOf w r)
 marked w r = walk (addReading r) (Marked r) 0 w 0 (omega arith) (λ i m l u h. marked-step r i m h) record {
   low = λ t u. absurd (omega arith);
-  high = λ t u. no-bit t;
   bound = omega arith;
 }
 

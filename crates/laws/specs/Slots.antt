@@ -125,9 +125,12 @@ no-slot (suc w) m h none =
     let half = no-slot w (m / 2) (omega arith) (λ s l. rw (bit-half m s) at (none (suc s) (omega arith))) in
     omega arith
 
--- 0 has no slot
+-- a mask of w slots doesn't have slot w, and 0 has none
+pub bit-above : (w m : ℕ) → m < 2 ^ w → hasSlot m w ≡ false
+bit-above w m h = ne-eqb (m / 2 ^ w % 2) 1 (let z : m / 2 ^ w ≡ 0 = div-eq-of-lt h in omega arith)
+
 pub no-bit : (t : ℕ) → hasSlot 0 t ≡ false
-no-bit t = ne-eqb (0 / 2 ^ t % 2) 1 (let z : 0 / 2 ^ t ≡ 0 = div-eq-of-lt (pow-pos t) in omega arith)
+no-bit t = bit-above t 0 (pow-pos t)
 
 -- a mask that is not 0 has a slot
 find-slot : (w m : ℕ) → ((s : ℕ) × (s < w) × (hasSlot m s ≡ true)) ⊎ ((s : ℕ) → s < w → hasSlot m s ≡ false)
