@@ -1,4 +1,4 @@
--- 01, 'Examples', and 02, C-11: the lines that trace prints.
+-- 01, 'Examples', and 02, C-11 and C-16: the lines that trace prints.
 use Prim.Native.Nat.{ℕ}
 use Prim.Native.Char.{code}
 use mathlib.Core.List.{List, [], _∷_, _++_}
@@ -43,6 +43,7 @@ letterOf (command.BeginNext s k) = code "S"
 letterOf (command.Turn s) = code "R"
 letterOf (command.GiveUp s) = code "E"
 letterOf command.Show = code "T"
+letterOf command.Page = code "L"
 letterOf command.Ill = code "-"
 
 -- a call's line: call number, letter, and its answer

@@ -77,6 +77,7 @@ pub fn letter_of(c: Command) -> u8
         Command::Turn(_) => b'R',
         Command::GiveUp(_) => b'E',
         Command::Show => b'T',
+        Command::Page => b'L',
         Command::Ill => b'-',
     }
 }

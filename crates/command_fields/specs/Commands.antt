@@ -1,6 +1,6 @@
 -- 01, 'Examples': the command that a line's bytes, without the newline, are. Commands: P nodes; I key record; D key; W; B slot key; R slot;
--- E slot; T; and S slot key (02, C-11). A tab stands between two fields. A line that isn't one of these letters with just its fields, each of
--- decimal digits and below 4,294,967,296, is ill-formed.
+-- E slot; T; S slot key (02, C-11); and L (02, C-16). A tab stands between two fields. A line that isn't one of these letters with just its
+-- fields, each of decimal digits and below 4,294,967,296, is ill-formed.
 use Prim.Native.Nat.{ℕ, _+_, _*_, _-_}
 use Prim.Native.Char.{code}
 use mathlib.Core.Bool.{Bool, true, cond, _&&_}
@@ -8,7 +8,7 @@ use mathlib.Core.List.{List, [], _∷_, map}
 use mathlib.Core.Option.{Option, none, some}
 use lib.Dec.{eqb, leb, ltb}
 use Rattle.command_fields.specs.declared.Command.{Command}
-use Rattle.command_fields.specs.declared.Command.the-variants.{SetUp, Insert, Delete, Write, Begin, BeginNext, Turn, GiveUp, Show, Ill}
+use Rattle.command_fields.specs.declared.Command.the-variants.{SetUp, Insert, Delete, Write, Begin, BeginNext, Turn, GiveUp, Show, Page, Ill}
 use Rattle.texts.specs.Ascii.{tab}
 
 -- the bytes before the first tab, and the fields after it
@@ -42,7 +42,7 @@ numberOf (b ∷ bs) = cond (allDigits (b ∷ bs) && ltb (valueAfter 0 (b ∷ bs)
 
 -- the commands with no field, with one and with two
 unfoldable pub withNone : ℕ → Command
-withNone l = cond (eqb l (code "W")) Write (cond (eqb l (code "T")) Show Ill)
+withNone l = cond (eqb l (code "W")) Write (cond (eqb l (code "T")) Show (cond (eqb l (code "L")) Page Ill))
 
 unfoldable pub withOne : ℕ → ℕ → Command
 withOne l a =

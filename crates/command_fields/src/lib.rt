@@ -18,6 +18,7 @@ pub enum Command {
     Turn(u32),
     GiveUp(u32),
     Show,
+    Page,
     Ill,
 }
 
@@ -67,6 +68,9 @@ pub fn with_none(l: u8) -> Command
     }
     if l == b'T' {
         return Command::Show;
+    }
+    if l == b'L' {
+        return Command::Page;
     }
     Command::Ill
 }

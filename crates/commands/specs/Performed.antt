@@ -1,4 +1,4 @@
--- 01, 'Examples', and 02, C-11: what each command of trace does to the words lent and the register.
+-- 01, 'Examples', and 02, C-11 and C-16: what each command of trace does to the words lent and the register.
 use Prim.Native.Nat.{ℕ}
 use mathlib.Core.Path.{_≡_, ap}
 use mathlib.Core.List.{List, [], _∷_}
@@ -26,7 +26,7 @@ use Rattle.command_fields.specs.declared.Command.{Command}
 use Rattle.command_fields.specs.declared.Command.the-variants as command
 use Rattle.lent_words.specs.Lent.{triedWords}
 
--- T changes nothing; it is turned down as the calls are.
+-- T and L change nothing; they are turned down as the calls are.
 unfoldable pub shown : State → Outcome
 shown st = unless (wrongLength st gives 1 ∷ outOfRange st gives 2 ∷ []) st (outcome ok st)
 
@@ -41,6 +41,7 @@ called st (command.BeginNext s k) = begin kind.Next st s k
 called st (command.Turn s) = readerTurn st s
 called st (command.GiveUp s) = giveUp st s
 called st command.Show = shown st
+called st command.Page = shown st
 called st command.Ill = shown st
 
 -- a command on the words, of which the first `lent` are the pool

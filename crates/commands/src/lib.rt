@@ -51,7 +51,7 @@ fn looked(reply: ReaderReply) -> Called
     Called { said, register }
 }
 
-// T's answer
+// the answer of T and L
 fn show(pool: &[u32], reg: Register) -> Called
     ensures { λ r. ⌜ says (r .said) ≡ shown (state (now (pool .entry)) reg) .answer ⌝ }
     ensures { λ r. ⌜ state (now (pool .entry)) (r .register) ≡ shown (state (now (pool .entry)) reg) .after ⌝ }
@@ -84,6 +84,7 @@ pub fn call(pool: &mut [u32], reg: Register, c: Command) -> Called
         Command::Turn(s) => looked(index::reader_turn(pool, reg, s)),
         Command::GiveUp(s) => accepted(index::give_up(pool, reg, s)),
         Command::Show => show(pool, reg),
+        Command::Page => show(pool, reg),
         Command::Ill => show(pool, reg),
     }
 }

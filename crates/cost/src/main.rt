@@ -3,12 +3,14 @@
 // CALL: P set up, I insert of a new key, H of a held key, D delete, B begin, G C F A a reader's turn that answers go (G loads the root, C
 // compares at a node), found, absent, E give up, W a writer's turn that answers wait. Of a search for the next ticket: S begin, L R a turn that
 // answers go at a greater key (to the left, remembering it) and at a smaller one (to the right), N O a turn that answers next and none.
+// Q the page, put into a buffer: no call, and without tests 1 and 2.
 // A small letter is a writer's turn, by its store: i insert under a black parent, j with colours above alone, k with a rotation to come; r replace;
 // d e diag lower, raise; x y z zig lower A, lower C, raise; u unlink, a adopt, m promote, p publish, t detach.
 // SIZE: s m l: N 8, 128, 1,023, with about N / 2 − 1 keys; v: N 128, a damaged tree with a path of 64 nodes.
 // MODE: 1,000 times, 0: the pool is put back, 1: and the call is made. SLOT: the slot of a reader's call, 0 or 1; in a writer's turn 1: slot 1
 // reads, so that a node let go is retired, 0: none does.
-// Writes a sum over the free counts after the calls (in mode 0, before them), or 0 where no write came to the wanted turn.
+// Writes a sum over the free counts after the calls (in mode 0, before them), or 0 where no write came to the wanted turn. 1 may be added
+// by a page: a byte of the buffer is looked at, so that the compiler can't leave out what is written there.
 use datatypes::Link;
 use datatypes::Register;
 use datatypes::Step;
@@ -368,10 +370,25 @@ fn copy(from: &[u32], to: &mut [u32])
     }
 }
 
+// the page: how many bytes it has
+fn printed(pool: &[u32], out: &mut [u8]) -> u32 {
+    if numbers::POOL_WORDS < pool.len() {
+        return 0;
+    }
+    if out.len() < page::PAGE_ROOM {
+        return 0;
+    }
+    let end = page::put_page(out, 0, pool);
+    (end % 65536) as u32
+}
+
 // The call that is counted, or none: a number of the register that it answers, so that nothing but the call is done.
-fn counted(pool: &mut [u32], reg: Register, act: u8, k: u32, s: u32) -> u32 {
+fn counted(pool: &mut [u32], out: &mut [u8], reg: Register, act: u8, k: u32, s: u32) -> u32 {
     if act == NONE {
         return reg.free;
+    }
+    if act == b'Q' {
+        return printed(pool, out);
     }
     if act == b'I' {
         let reply = index::insert(pool, reg, k, k);
@@ -417,6 +434,7 @@ fn act_of(call: u8, mode: u8) -> u8 {
 fn repeat(
     pool: &mut [u32],
     kept: &[u32],
+    out: &mut [u8],
     reg: Register,
     call: u8,
     act: u8,
@@ -430,13 +448,21 @@ fn repeat(
     while i < REPEATS {
         copy(kept, pool);
         let k = call_key(call, keys, i);
-        sum = std::num::wrapping_add_u32(sum ^ k, counted(pool, reg, act, k, s));
+        sum = std::num::wrapping_add_u32(sum ^ k, counted(pool, out, reg, act, k, s));
         i += 1;
     }
     sum
 }
 
-fn run(pool: &mut [u32], kept: &mut [u32], call: u8, keys: u32, mode: u8, s: u32) -> u32
+fn run(
+    pool: &mut [u32],
+    kept: &mut [u32],
+    out: &mut [u8],
+    call: u8,
+    keys: u32,
+    mode: u8,
+    s: u32,
+) -> u32
     requires { ⌜ (2 ≤ keys) × (keys ≤ 510) × (s < slots) × (length (now pool) ≡ length (now kept)) ⌝ }
 {
     let first = start(pool, call, keys);
@@ -445,13 +471,14 @@ fn run(pool: &mut [u32], kept: &mut [u32], call: u8, keys: u32, mode: u8, s: u32
         return 0;
     }
     copy(pool, kept);
-    repeat(pool, kept, r, call, act_of(call, mode), keys, s)
+    repeat(pool, kept, out, r, call, act_of(call, mode), keys, s)
 }
 
 // the same on the first n words
 fn run_on(
     words: &mut [u32],
     kept: &mut [u32],
+    out: &mut [u8],
     n: usize,
     call: u8,
     keys: u32,
@@ -460,7 +487,16 @@ fn run_on(
 ) -> u32
     requires { ⌜ (2 ≤ keys) × (keys ≤ 510) × (s < slots) × (n ≤ length (now words)) × (length (now words) ≡ length (now kept)) ⌝ }
 {
-    run(&mut words[..n], &mut kept[..n], call, keys, mode, s)
+    run(&mut words[..n], &mut kept[..n], out, call, keys, mode, s)
+}
+
+// whether a byte of the buffer was written, as a number
+fn seen(out: &[u8], place: usize) -> u32 {
+    let i = place % 1024;
+    if out.len() <= i {
+        return 0;
+    }
+    if out[i] == 0 { 0 } else { 1 }
 }
 
 fn main() {
@@ -469,14 +505,17 @@ fn main() {
     let keys = keys_of(size);
     let mut words = [0u32; MOST_WORDS];
     let mut kept = [0u32; MOST_WORDS];
+    let mut out = io::large_buffer();
     let sum = run_on(
         &mut words,
         &mut kept,
+        &mut out,
         n,
         argument(1),
         keys,
         argument(3),
         (argument(4) % 2) as u32,
     );
-    io::print_decimal(STDOUT_FILENO, sum as u64);
+    let told = std::num::wrapping_add_u32(sum, seen(&out, sum as usize));
+    io::print_decimal(STDOUT_FILENO, told as u64);
 }

@@ -22,6 +22,7 @@ triedWords lent (command.BeginNext s k) = lent
 triedWords lent (command.Turn s) = lent
 triedWords lent (command.GiveUp s) = lent
 triedWords lent command.Show = lent
+triedWords lent command.Page = lent
 triedWords lent command.Ill = lent
 
 -- a refused P keeps the pool there was
@@ -51,6 +52,7 @@ tried-fits lent (command.BeginNext s k) h = h
 tried-fits lent (command.Turn s) h = h
 tried-fits lent (command.GiveUp s) h = h
 tried-fits lent command.Show h = h
+tried-fits lent command.Page h = h
 tried-fits lent command.Ill h = h
 
 pub kept-fits : (lent tried : ℕ) (a : Answer) → lent ≤ poolLimit → tried ≤ poolLimit → keptWords lent tried a ≤ poolLimit

@@ -8,19 +8,25 @@ ghost use mathlib.Core.Path.{_≡_};
 ghost use Prim.Native.Nat.{_≤_, _<_, _+_, _-_, _*_};
 ghost use lib.ListN.{length};
 ghost use Rattle.texts.specs.Line.{room};
-ghost use Rattle.session.specs.Steps.{Sound, workLeft, Onward};
+ghost use Rattle.page.specs.Sheets.{mostSheets, sheetRoom};
+ghost use Rattle.session.specs.Steps.{pieces, Fits, Sound, workLeft, Onward};
 ghost use Rattle.spec.specs.Numbers.{nodeWords, poolLimit};
 
-// room enough for any line
-pub const ROOM: usize = 96;
+// What is still to be written after an answer's line: nothing, so many of the pool's last nodes (T), or so many sheets of the page after the
+// line of a rank (L).
+pub enum Rest {
+    Nothing,
+    Nodes(usize),
+    Sheets(usize, u64),
+}
 
-// What a run keeps beside the register: the words lent (0 before the first accepted P), the calls so far, the line so far, how many of the
-// pool's nodes T has still to show, and whether an ill-formed line has ended it.
+// What a run keeps beside the register: the words lent (0 before the first accepted P), the calls so far, the line so far, what is still to
+// be written, and whether an ill-formed line has ended it.
 pub struct Session {
     pub lent: usize,
     pub number: u64,
     pub reading: Reading,
-    pub pending: usize,
+    pub rest: Rest,
     pub ended: bool,
 }
 
@@ -30,6 +36,17 @@ pub struct Run {
     pub session: Session,
     pub from: usize,
     pub at: usize,
+}
+
+// how many pieces, each a node's line or a sheet, are still to be written
+fn pieces(rest: Rest) -> usize
+    ensures { λ r. ⌜ r ≡ pieces rest ⌝ }
+{
+    match rest {
+        Rest::Nothing => 0,
+        Rest::Nodes(k) => k,
+        Rest::Sheets(k, _) => k,
+    }
 }
 
 // Starts a run: no words lent, no call made, no byte read.
@@ -42,7 +59,7 @@ pub fn start() -> Run
         lent: 0,
         number: 0,
         reading,
-        pending: 0,
+        rest: Rest::Nothing,
         ended: false,
     };
     Run {
@@ -53,29 +70,34 @@ pub fn start() -> Run
     }
 }
 
-// how many nodes the command's answer is followed by
-fn to_show(c: Command, said: Said, lent: usize) -> usize
-    ensures { λ r. ⌜ r * nodeWords ≤ lent ⌝ }
+// what is to be written after a command's answer
+fn to_write(words: &[u32], lent: usize, c: Command, said: Said) -> Rest
+    requires { ⌜ (lent ≤ poolLimit) × (length (now words) ≡ poolLimit) ⌝ }
+    ensures { λ r. ⌜ Fits lent r ⌝ }
 {
-    if let Command::Show = c {
-        if let Said::Ok = said {
-            return lent / numbers::NODE_WORDS;
+    if let Said::Ok = said {
+        if let Command::Show = c {
+            return Rest::Nodes(lent / numbers::NODE_WORDS);
+        }
+        if let Command::Page = c {
+            return Rest::Sheets(page::sheets(&words[..lent]), 0);
         }
     }
-    0
+    Rest::Nothing
 }
 
 // what a run keeps after a command's answer
-fn after(number: u64, lent: usize, c: Command, said: Said) -> Session
-    requires { ⌜ lent ≤ poolLimit ⌝ }
+fn after(words: &[u32], number: u64, lent: usize, c: Command, said: Said) -> Session
+    requires { ⌜ (lent ≤ poolLimit) × (length (now words) ≡ poolLimit) ⌝ }
     ensures { λ r. ⌜ Sound r ⌝ }
 {
     let reading = command_lines::start();
+    let rest = to_write(words, lent, c, said);
     Session {
         lent,
         number,
         reading,
-        pending: to_show(c, said, lent),
+        rest,
         ended: false,
     }
 }
@@ -89,14 +111,70 @@ fn next_number(number: u64) -> u64 {
     }
 }
 
+// A piece written: the position after it, and what is still to be written.
+struct Written {
+    next: usize,
+    rest: Rest,
+}
+
 // the line of the next node that T has to show
-fn show_node(words: &[u32], out: &mut [u8], at: usize, lent: usize, pending: usize) -> usize
-    requires { ⌜ (lent ≤ poolLimit) × (pending * nodeWords ≤ lent) × (0 < pending) ⌝ }
-    requires { ⌜ (length (now words) ≡ poolLimit) × (at + room ≤ length (now out)) ⌝ }
-    ensures { λ r. ⌜ r ≤ length (now (out .exit)) ⌝ }
+fn put_node(words: &[u32], out: &mut [u8], at: usize, lent: usize, nodes: usize) -> Written
+    requires { ⌜ (lent ≤ poolLimit) × (nodes * nodeWords ≤ lent) × (0 < nodes) ⌝ }
+    requires { ⌜ (length (now words) ≡ poolLimit) × (at + sheetRoom ≤ length (now out)) ⌝ }
+    ensures { λ r. ⌜ Fits lent (r .rest) × (pieces (r .rest) ≡ nodes - 1) × (r .next ≤ length (now (out .exit))) ⌝ }
 {
-    let node = lent / numbers::NODE_WORDS - pending + 1;
-    node_lines::write_node(out, at, &words[..lent], node as u32)
+    let node = lent / numbers::NODE_WORDS - nodes + 1;
+    let next = node_lines::write_node(out, at, &words[..lent], node as u32);
+    let rest = Rest::Nodes(nodes - 1);
+    Written { next, rest }
+}
+
+// the next sheet of L's page
+fn put_sheet(
+    words: &[u32],
+    out: &mut [u8],
+    at: usize,
+    lent: usize,
+    sheets: usize,
+    last: u64,
+) -> Written
+    requires { ⌜ (lent ≤ poolLimit) × (sheets ≤ mostSheets) × (0 < sheets) ⌝ }
+    requires { ⌜ (length (now words) ≡ poolLimit) × (at + sheetRoom ≤ length (now out)) ⌝ }
+    ensures { λ r. ⌜ Fits lent (r .rest) × (pieces (r .rest) ≡ sheets - 1) × (r .next ≤ length (now (out .exit))) ⌝ }
+{
+    let sheet = page::put_sheet(out, at, &words[..lent], last);
+    let rest = Rest::Sheets(sheets - 1, sheet.last);
+    Written {
+        next: sheet.next,
+        rest,
+    }
+}
+
+// the next piece
+fn put_piece(words: &[u32], out: &mut [u8], at: usize, lent: usize, rest: Rest) -> Written
+    requires { ⌜ (lent ≤ poolLimit) × Fits lent rest × (0 < pieces rest) ⌝ }
+    requires { ⌜ (length (now words) ≡ poolLimit) × (at + sheetRoom ≤ length (now out)) ⌝ }
+    ensures { λ r. ⌜ Fits lent (r .rest) × (pieces (r .rest) ≡ pieces rest - 1) × (r .next ≤ length (now (out .exit))) ⌝ }
+{
+    match rest {
+        Rest::Nothing => Written { next: at, rest },
+        Rest::Nodes(k) => put_node(words, out, at, lent, k),
+        Rest::Sheets(k, last) => put_sheet(words, out, at, lent, k, last),
+    }
+}
+
+// a session with another rest
+fn with_rest(s: Session, rest: Rest) -> Session
+    ensures { λ r. ⌜ (r .lent ≡ s .lent) × (r .rest ≡ rest) ⌝ }
+{
+    let reading = s.reading;
+    Session {
+        lent: s.lent,
+        number: s.number,
+        reading,
+        rest,
+        ended: s.ended,
+    }
 }
 
 // A run after some bytes, its positions, and the command of the line that they end, if it is well-formed.
@@ -111,7 +189,7 @@ struct Read {
 // a whole line; an ill-formed one ends the run, and the rest of the input is passed over
 fn whole_line(out: &mut [u8], at: usize, s: Session, c: Command, next: usize, end: usize) -> Read
     requires { ⌜ Sound s × (next ≤ end) × (at + room ≤ length (now out)) ⌝ }
-    ensures { λ r. ⌜ Sound (r .session) × (r .session .pending ≡ s .pending) × (next ≤ r .from) × (r .from ≤ end) ⌝ }
+    ensures { λ r. ⌜ Sound (r .session) × (r .session .rest ≡ s .rest) × (next ≤ r .from) × (r .from ≤ end) ⌝ }
     ensures { λ r. ⌜ r .at ≤ length (now (out .exit)) ⌝ }
 {
     let mut session = s;
@@ -138,13 +216,14 @@ fn whole_line(out: &mut [u8], at: usize, s: Session, c: Command, next: usize, en
 // a line that the input has not ended yet
 fn part_line(at: usize, s: Session, reading: Reading, end: usize) -> Read
     requires { ⌜ Sound s ⌝ }
-    ensures { λ r. ⌜ Sound (r .session) × (r .session .pending ≡ s .pending) × (r .from ≡ end) × (r .at ≡ at) ⌝ }
+    ensures { λ r. ⌜ Sound (r .session) × (r .session .rest ≡ s .rest) × (r .from ≡ end) × (r .at ≡ at) ⌝ }
 {
+    let rest = s.rest;
     let session = Session {
         lent: s.lent,
         number: s.number,
         reading,
-        pending: s.pending,
+        rest,
         ended: s.ended,
     };
     Read {
@@ -159,7 +238,7 @@ fn part_line(at: usize, s: Session, reading: Reading, end: usize) -> Read
 // the input's next bytes, up to a newline
 fn read_line(out: &mut [u8], at: usize, s: Session, input: &[u8], from: usize) -> Read
     requires { ⌜ Sound s × (at + room ≤ length (now out)) × (from < length (now input)) ⌝ }
-    ensures { λ r. ⌜ Sound (r .session) × (r .session .pending ≡ s .pending) × (from < r .from) × (r .from ≤ length (now (input .entry))) ⌝ }
+    ensures { λ r. ⌜ Sound (r .session) × (r .session .rest ≡ s .rest) × (from < r .from) × (r .from ≤ length (now (input .entry))) ⌝ }
     ensures { λ r. ⌜ r .at ≤ length (now (out .exit)) ⌝ }
 {
     let reading = s.reading;
@@ -194,7 +273,7 @@ fn answer(
     let said = p.said;
     let end = answer_lines::write_line(out, at, number, answer_lines::letter_of(c), said);
     let left = p.register;
-    let session = after(number, p.lent, c, said);
+    let session = after(words, number, p.lent, c, said);
     Answered {
         register: left,
         session,
@@ -202,64 +281,88 @@ fn answer(
     }
 }
 
-// Answers what is left to do on an input from a position on: nodes to show, or else bytes to read.
-pub fn left(pending: usize, input: &[u8], from: usize) -> usize
-    requires { ⌜ from ≤ length (now input) ⌝ }
-    ensures { λ r. ⌜ r ≤ workLeft pending (length (now (input .entry))) from ⌝ }
-    ensures { λ r. ⌜ (r ≡ 0 → workLeft pending (length (now (input .entry))) from ≡ 0) ⌝ }
+// the input's next bytes, and the answer if they end a command's line
+fn next_line(words: &mut [u32], out: &mut [u8], r: Run, input: &[u8]) -> Run
+    requires { ⌜ Sound (r .session) × (length (now words) ≡ poolLimit) × (r .at + room ≤ length (now out)) × (r .from < length (now input)) ⌝ }
+    ensures { λ q. ⌜ Sound (q .session) × (q .at ≤ length (now (out .exit))) × (r .from < q .from) × (q .from ≤ length (now (input .entry))) ⌝ }
 {
-    if pending == 0 {
-        return input.len() - from;
+    let register = r.register;
+    let s = r.session;
+    let read = read_line(out, r.at, s, input, r.from);
+    let before = read.session;
+    if read.found {
+        let c = read.command;
+        let answered = answer(words, out, r.at, before, register, c);
+        let kept = answered.register;
+        let session = answered.session;
+        return Run {
+            register: kept,
+            session,
+            from: read.from,
+            at: answered.at,
+        };
     }
-    pending
+    Run {
+        register,
+        session: before,
+        from: read.from,
+        at: read.at,
+    }
 }
 
-// Runs on through an input, as far as there is room for the output. With room for one line it makes progress.
+// one step: a piece, or else a line
+fn step(words: &mut [u32], out: &mut [u8], r: Run, input: &[u8]) -> Run
+    requires { ⌜ Sound (r .session) × (length (now words) ≡ poolLimit) × (r .at + sheetRoom ≤ length (now out)) ⌝ }
+    requires { ⌜ (r .from ≤ length (now input)) × (0 < workLeft r (length (now input))) ⌝ }
+    ensures { λ q. ⌜ Sound (q .session) × (q .at ≤ length (now (out .exit))) × (q .from ≤ length (now (input .entry))) ⌝ }
+    ensures { λ q. ⌜ workLeft q (length (now (input .entry))) < workLeft r (length (now (input .entry))) ⌝ }
+{
+    let s = r.session;
+    let rest = s.rest;
+    if 0 < pieces(rest) {
+        let written = put_piece(words, out, r.at, s.lent, rest);
+        let later = written.rest;
+        let session = with_rest(s, later);
+        let register = r.register;
+        return Run {
+            register,
+            session,
+            from: r.from,
+            at: written.next,
+        };
+    }
+    next_line(words, out, r, input)
+}
+
+// Answers what is left to do on an input: pieces to write, or else bytes to read.
+pub fn left(r: Run, input: &[u8]) -> usize
+    requires { ⌜ r .from ≤ length (now input) ⌝ }
+    ensures { λ n. ⌜ n ≤ workLeft r (length (now (input .entry))) ⌝ }
+    ensures { λ n. ⌜ (n ≡ 0 → workLeft r (length (now (input .entry))) ≡ 0) ⌝ }
+{
+    let s = r.session;
+    let rest = s.rest;
+    let count = pieces(rest);
+    if count == 0 {
+        return input.len() - r.from;
+    }
+    count
+}
+
+// Runs on through an input, as far as there is room for the output. With room for any piece it makes progress.
 pub fn advance(words: &mut [u32], out: &mut [u8], r: Run, input: &[u8]) -> Run
     requires { ⌜ Sound (r .session) × (length (now words) ≡ poolLimit) × (r .at ≤ length (now out)) × (r .from ≤ length (now input)) ⌝ }
     ensures { λ q. ⌜ Sound (q .session) × (q .at ≤ length (now (out .exit))) × (q .from ≤ length (now (input .entry))) ⌝ }
     ensures { λ q. ⌜ Onward (length (now (input .entry))) (length (now (out .entry))) r q ⌝ }
 {
-    let mut register = r.register;
-    let mut session = r.session;
-    let mut from = r.from;
-    let mut at = r.at;
-    while 0 < left(session.pending, input, from) {
-        if out.len() - at < ROOM {
-            return Run {
-                register,
-                session,
-                from,
-                at,
-            };
+    let mut run = r;
+    while 0 < left(run, input) {
+        if out.len() - run.at < page::SHEET_ROOM {
+            return run;
         }
-        if 0 < session.pending {
-            at = show_node(words, out, at, session.lent, session.pending);
-            session.pending -= 1;
-            continue;
-        }
-        let read = read_line(out, at, session, input, from);
-        let before = read.session;
-        from = read.from;
-        if read.found {
-            let c = read.command;
-            let answered = answer(words, out, at, before, register, c);
-            let kept = answered.register;
-            register = kept;
-            let after = answered.session;
-            session = after;
-            at = answered.at;
-            continue;
-        }
-        session = before;
-        at = read.at;
+        run = step(words, out, run, input);
     }
-    Run {
-        register,
-        session,
-        from,
-        at,
-    }
+    run
 }
 
 // Answers whether a line has begun that the input does not end.

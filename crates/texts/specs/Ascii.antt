@@ -14,3 +14,6 @@ tab = code "\t"
 
 abbrev pub newline : ℕ
 newline = code "\n"
+
+abbrev pub blank : ℕ
+blank = code " "

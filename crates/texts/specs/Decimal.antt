@@ -6,6 +6,7 @@ use mathlib.Core.Bool.{Bool, true, false, cond}
 use mathlib.Core.List.{List, [], _∷_, _++_, append-assoc}
 use native.Mathlib.Nat.{pow-suc}
 use native.Mathlib.Omega.{arith}
+use native.Mathlib.Decide.{decLt}
 use lib.Dec.{ltb}
 use lib.ListN.{length, length-append}
 use borrow.Author.Tests.{lt-ltb, le-ltb, ltb-false}
@@ -82,9 +83,20 @@ digits-length (suc m) k n h = split k (ltb n 10) refl h (λ j. digits-length m j
         let g : n < 10 ^ suc j * 10 = rw (pow-suc 10 (suc j)) at h in
         rw e (simp length-append (omega (arith, rest j (omega arith))))
 
-decimal-length : (k n : ℕ) → n < 10 ^ suc k → length (decimal n) ≤ suc k
+pub decimal-length : (k n : ℕ) → n < 10 ^ suc k → length (decimal n) ≤ suc k
 unfolding decimal
 decimal-length k n h = digits-length (suc n) k n h
+
+-- and k digits are enough for it
+pub decimal-short : (k n : ℕ) → n < 10 ^ suc k → decimal n ≡ digits (suc k) n
+unfolding digits
+decimal-short zero n h = rw (decimal-one n (omega arith), lt-ltb n 10 (omega arith))
+decimal-short (suc k) n h =
+    let g : n < 10 ^ suc k * 10 = rw (pow-suc 10 (suc k)) at h in
+    elim (decLt n 10) [
+      | yes l ↦ rw (decimal-one n l, lt-ltb n 10 l)
+      | no l ↦ rw (decimal-more n (omega arith), le-ltb n 10 (omega arith), decimal-short k (n / 10) (omega arith))
+    ]
 
 -- a 32-bit number, and a 64-bit one
 pub short-length : (n : ℕ) → n < 2 ^ 32 → length (decimal n) ≤ 10

@@ -1,4 +1,5 @@
 pub mod Ascii
+pub mod Column
 pub mod Decimal
 pub mod Line
 pub mod Put

@@ -1,13 +1,18 @@
 // Text as bytes: a number and a word put into a buffer, with the byte that ends its field.
+ghost use mathlib.Core.Path.{_≡_};
 ghost use mathlib.Core.List.{[], _∷_, _++_};
 ghost use Prim.Native.Nat.{_≤_, _<_, _+_};
-ghost use lib.ListN.{length};
+ghost use lib.ListN.{length, replicate};
 ghost use Rattle.texts.specs.Put.{Put};
+ghost use Rattle.texts.specs.Ascii.{blank};
 ghost use Rattle.texts.specs.Decimal.{decimal, two};
+ghost use Rattle.texts.specs.Column.{rightIn, Blanks};
 
 pub const TAB: u8 = b'\t';
 
 pub const NEWLINE: u8 = b'\n';
+
+const BLANK: u8 = b' ';
 
 // Each writer below puts its text into out from position at on and answers the next position (specs, Put); the caller sees to the room.
 
@@ -91,4 +96,45 @@ pub fn text_field(out: &mut [u8], at: usize, s: &[u8], end: u8) -> usize
 {
     let next = put_text(out, at, s);
     put_byte(out, next, end)
+}
+
+fn put_blanks(out: &mut [u8], at: usize, count: usize) -> usize
+    requires { ⌜ at + count ≤ length (now out) ⌝ }
+    ensures { λ r. ⌜ Put (now (out .entry)) at (replicate count blank) (now (out .exit)) r ⌝ }
+{
+    let mut i: usize = 0;
+    while i < count {
+        out[at + i] = BLANK;
+        i += 1;
+    }
+    at + i
+}
+
+// a number's digits over the blanks of a column, from its right end
+fn put_digits(out: &mut [u8], at: usize, width: usize, n: u64) -> usize
+    requires { ⌜ (at + width ≤ length (now out)) × Blanks (now out) at width ⌝ }
+    ensures { λ r. ⌜ Put (now (out .entry)) at (rightIn width (decimal n)) (now (out .exit)) r ⌝ }
+{
+    let end = at + width;
+    let mut i = end;
+    let mut v = n;
+    while at < i {
+        i -= 1;
+        out[i] = b'0' + (v % 10) as u8;
+        if v < 10 {
+            return end;
+        }
+        v /= 10;
+    }
+    end
+}
+
+// Puts a gap of blanks and a number right-aligned in the width after it.
+pub fn put_right(out: &mut [u8], at: usize, gap: usize, width: usize, n: u64) -> usize
+    requires { ⌜ at + (gap + width) ≤ length (now out) ⌝ }
+    ensures { λ r. ⌜ Put (now (out .entry)) at (replicate gap blank ++ rightIn width (decimal n)) (now (out .exit)) r ⌝ }
+    ensures { λ r. ⌜ r ≡ at + (gap + width) ⌝ }
+{
+    put_blanks(out, at, gap + width);
+    put_digits(out, at + gap, width, n)
 }

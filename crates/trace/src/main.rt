@@ -6,7 +6,7 @@ ghost use Prim.Native.Nat.{_≤_, _<_};
 ghost use mathlib.Core.Path.{_≡_};
 ghost use lib.ListN.{length};
 ghost use Rattle.session.specs.Steps.{Sound};
-ghost use Rattle.texts.specs.Line.{room};
+ghost use Rattle.page.specs.Sheets.{sheetRoom};
 ghost use Rattle.spec.specs.Numbers.{poolLimit};
 
 // Writes the output up to a position to standard output.
@@ -18,12 +18,12 @@ fn write_out(out: &[u8], at: usize)
 
 // Runs all of an input and writes its output.
 fn run(words: &mut [u32], out: &mut [u8], r: Run, input: &[u8]) -> Run
-    requires { ⌜ Sound (r .session) × (length (now words) ≡ poolLimit) × (room ≤ length (now out)) ⌝ }
+    requires { ⌜ Sound (r .session) × (length (now words) ≡ poolLimit) × (sheetRoom ≤ length (now out)) ⌝ }
     ensures { λ q. ⌜ Sound (q .session) ⌝ }
 {
     let mut run = r;
     run.from = 0;
-    while 0 < session::left(run.session.pending, input, run.from) {
+    while 0 < session::left(run, input) {
         run.at = 0;
         run = session::advance(words, out, run, input);
         write_out(out, run.at);
@@ -44,7 +44,7 @@ fn turns_left(turns: u64, read: usize, ended: bool) -> u64
 
 // Runs standard input to its end, or to an ill-formed line; the output of each read is written before the next.
 fn run_all(words: &mut [u32], input: &mut [u8], out: &mut [u8])
-    requires { ⌜ (length (now words) ≡ poolLimit) × (room ≤ length (now out)) ⌝ }
+    requires { ⌜ (length (now words) ≡ poolLimit) × (sheetRoom ≤ length (now out)) ⌝ }
 {
     let mut r = session::start();
     let mut turns = u64::MAX;

@@ -101,6 +101,12 @@ enum-told-4 c = search needs
 show-requires-2 : tie.Need-show-requires-2
 show-requires-2 c κs = search needs
 
+enum-told-5 : tie.Need-enum-told-5
+enum-told-5 c = search needs
+
+show-requires-3 : tie.Need-show-requires-3
+show-requires-3 c κs = search needs
+
 same-length : tie.Need-same-length
 same-length c = search needs
 
@@ -173,6 +179,12 @@ same-length-10 c = search needs
 returns-10 : tie.Need-returns-10
 returns-10 c = rw (c .before .before .enum-told4 .given .1) (c .show2 .ensures)
 
+same-length-11 : tie.Need-same-length-11
+same-length-11 c = search needs
+
+returns-11 : tie.Need-returns-11
+returns-11 c = rw (c .before .before .enum-told5 .given .1) (c .show3 .ensures)
+
 pub call-spec : {M : Type 1} → statement M
 call-spec =
     tie.close
@@ -205,6 +217,8 @@ call-spec =
     show-requires
     enum-told-4
     show-requires-2
+    enum-told-5
+    show-requires-3
     same-length
     returns
     same-length-2
@@ -224,4 +238,6 @@ call-spec =
     same-length-9
     returns-9
     same-length-10
-    returns-10)
+    returns-10
+    same-length-11
+    returns-11)

@@ -12,10 +12,10 @@ use Rattle.cost.proofs.counted.Reads as counted-reads
 use Rattle.std.proofs.num.wrapping_add_u32.Reads as wrapping-add-u32-reads
 
 abbrev Inv-loop : tie.InvT-loop
-Inv-loop pool₀ kept reg call act keys s sum₀ i₀ pool sum i = (i ≤ 1000) × (length pool ≡ length pool₀)
+Inv-loop pool₀ kept out₀ reg call act keys s sum₀ i₀ pool out sum i = (i ≤ 1000) × (length pool ≡ length pool₀) × (length out ≡ length out₀)
 
 abbrev μ-loop : tie.MeasureT-loop
-μ-loop pool₀ kept reg call act keys s sum₀ i₀ pool sum i = 1000 - i
+μ-loop pool₀ kept out₀ reg call act keys s sum₀ i₀ pool out sum i = 1000 - i
 
 loop-holds : tie.Need-loop-holds Inv-loop μ-loop
 loop-holds c = search needs
@@ -44,6 +44,9 @@ loop-again c = search needs
 same-length : tie.Need-same-length Inv-loop μ-loop
 same-length c = search needs
 
+same-length-2 : tie.Need-same-length-2 Inv-loop μ-loop
+same-length-2 c = search needs
+
 returns : tie.Need-returns Inv-loop μ-loop
 returns c = search needs
 
@@ -62,4 +65,5 @@ repeat-spec =
     loop-less
     loop-again
     same-length
+    same-length-2
     returns)

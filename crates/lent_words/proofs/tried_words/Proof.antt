@@ -15,8 +15,8 @@ use Rattle.lent_words.proofs.tried_words.Reads as reads
 use Rattle.lent_words.proofs.tried_words.Lts as lts
 
 -- a command that isn't P
-others : (lent : ℕ) (c : Command) → OneOf (1 ∷ 2 ∷ 3 ∷ 4 ∷ 5 ∷ 6 ∷ 7 ∷ 8 ∷ 9 ∷ []) (tagOf the-type c) → lent ≡ triedWords lent c
-others lent (command.SetUp n) h = absurd (miss (1 ∷ 2 ∷ 3 ∷ 4 ∷ 5 ∷ 6 ∷ 7 ∷ 8 ∷ 9 ∷ []) 0 tt h)
+others : (lent : ℕ) (c : Command) → OneOf (1 ∷ 2 ∷ 3 ∷ 4 ∷ 5 ∷ 6 ∷ 7 ∷ 8 ∷ 9 ∷ 10 ∷ []) (tagOf the-type c) → lent ≡ triedWords lent c
+others lent (command.SetUp n) h = absurd (miss (1 ∷ 2 ∷ 3 ∷ 4 ∷ 5 ∷ 6 ∷ 7 ∷ 8 ∷ 9 ∷ 10 ∷ []) 0 tt h)
 others lent (command.Insert k v) h = refl
 others lent (command.Delete k) h = refl
 others lent command.Write h = refl
@@ -25,6 +25,7 @@ others lent (command.BeginNext s k) h = refl
 others lent (command.Turn s) h = refl
 others lent (command.GiveUp s) h = refl
 others lent command.Show h = refl
+others lent command.Page h = refl
 others lent command.Ill h = refl
 
 enum-known-c : tie.Need-enum-known-c

@@ -1,3 +1,4 @@
+use mathlib.Core.Path.{_∙_}
 use Rattle.answer_lines.specs.Text.{says}
 use Rattle.lent_words.specs.Lent.{triedWords, tried-fits, kept-fits}
 use borrow.Author.Needs.{needs}
@@ -26,11 +27,13 @@ write-line-requires c κs = search needs
 after-requires : tie.Need-after-requires
 after-requires c κs =
     let c8 = c .before .before .before .before .before .before .before .before in
-    let c13 = c8 .before .before .before .before .before in
-    let a = c13 .args in
-    let p = c8 .perform in
-    let h = c13 .pre .0 .lent in
-    rw (p .ensures .1 .1 .0) (kept-fits (a .s .lent) (triedWords (a .s .lent) (a .c)) (says (p .result .said)) h (tried-fits (a .s .lent) (a .c) h))
+    let c9 = c8 .before in
+    let c14 = c9 .before .before .before .before .before in
+    let a = c14 .args in
+    let p = c9 .perform in
+    let h = c14 .pre .0 .lent in
+    let f = kept-fits (a .s .lent) (triedWords (a .s .lent) (a .c)) (says (p .result .said)) h (tried-fits (a .s .lent) (a .c) h) in
+    (rw (p .ensures .1 .1 .0) f, c8 .words .given ∙ c14 .pre .1)
 
 same-length : tie.Need-same-length
 same-length c = search needs

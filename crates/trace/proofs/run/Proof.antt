@@ -1,7 +1,7 @@
 use Prim.Native.Nat.{_≤_}
 use mathlib.Core.Path.{_≡_, refl, _∙_}
 use lib.ListN.{length}
-use Rattle.texts.specs.Line.{room}
+use Rattle.page.specs.Sheets.{sheetRoom}
 use Rattle.session.specs.Steps.{Sound, workLeft, at-least, at-most, falls}
 use Rattle.trace.proofs.run.Statement.{statement}
 use Rattle.trace.proofs.run.Tie as tie
@@ -14,10 +14,10 @@ use Rattle.spec.specs.Numbers.{poolLimit}
 
 abbrev Inv-loop : tie.InvT-loop
 Inv-loop words₀ out₀ input run₀ words out run = Sound
-    (run .session) × (run .from ≤ length input) × (room ≤ length out) × (length words ≡ poolLimit) × (length words ≡ length words₀) × (length out ≡ length out₀)
+    (run .session) × (run .from ≤ length input) × (sheetRoom ≤ length out) × (length words ≡ poolLimit) × (length words ≡ length words₀) × (length out ≡ length out₀)
 
 abbrev μ-loop : tie.MeasureT-loop
-μ-loop words₀ out₀ input run₀ words out run = workLeft (run .session .pending) (length input) (run .from)
+μ-loop words₀ out₀ input run₀ words out run = workLeft run (length input)
 
 loop-holds : tie.Need-loop-holds Inv-loop μ-loop
 loop-holds c = let p = c .before .before .before .pre in (p .0, at-least _, p .2, p .1, refl, refl)

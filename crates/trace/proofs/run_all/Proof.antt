@@ -2,7 +2,7 @@ use Prim.Native.Nat.{_≤_}
 use mathlib.Core.Path.{_≡_, refl, _∙_}
 use lib.ListN.{length}
 use borrow.Author.Needs.{needs}
-use Rattle.texts.specs.Line.{room}
+use Rattle.page.specs.Sheets.{sheetRoom}
 use Rattle.session.specs.Steps.{Sound, at-most}
 use Rattle.trace.proofs.run_all.Statement.{statement}
 use Rattle.trace.proofs.run_all.Tie as tie
@@ -18,7 +18,7 @@ use Rattle.spec.specs.Numbers.{poolLimit}
 
 abbrev Inv-loop : tie.InvT-loop
 Inv-loop words₀ input₀ out₀ r₀ turns₀ t9 words input out r turns = Sound
-    (r .session) × (room ≤ length out) × (length words ≡ poolLimit) × (length words ≡ length words₀) × (length input ≡ length input₀) × (length out ≡ length out₀)
+    (r .session) × (sheetRoom ≤ length out) × (length words ≡ poolLimit) × (length words ≡ length words₀) × (length input ≡ length input₀) × (length out ≡ length out₀)
 
 abbrev μ-loop : tie.MeasureT-loop
 μ-loop words₀ input₀ out₀ r₀ turns₀ t9 words input out r turns = turns

@@ -1,0 +1,4 @@
+pub mod Page
+pub mod Examples
+pub mod Sheets
+pub mod Exact

@@ -1,0 +1,36 @@
+use mathlib.Core.Path.{_≡_, sym}
+use native.Mathlib.Omega.{arith}
+use lib.ListN.{length, take}
+use lib.Seq.{length-take-le}
+use Rattle.page.specs.Sheets.{sheet-room}
+use borrow.Author.Needs.{needs}
+use Rattle.session.proofs.put_sheet.Statement.{statement}
+use Rattle.session.proofs.put_sheet.Tie as tie
+use Rattle.session.proofs.put_sheet.Reads as reads
+use Rattle.session.proofs.put_sheet.Lts as lts
+use Rattle.page.proofs.put_sheet.Reads as put-sheet-reads
+
+slice-aggregate-put-sheet : tie.Need-slice-aggregate-put-sheet
+slice-aggregate-put-sheet c =
+    let c4 = c .before .before .before .before in
+    let a = c4 .args in sym (length-take-le (a .lent) (a .words .now) (omega (arith, c4 .pre)))
+
+put-sheet-requires : tie.Need-put-sheet-requires
+put-sheet-requires c κs =
+    let c4 = c .before .before .before .before in
+    let a = c4 .args in
+    let h : length (take (a .lent) (a .words .now)) ≡ a .lent = length-take-le (a .lent) (a .words .now) (omega (arith, c4 .pre)) in
+    (omega (arith, h, c4 .pre), omega (arith, sheet-room (take (a .lent) (a .words .now)) (a .last), c4 .pre))
+
+sub-t13 : tie.Need-sub-t13
+sub-t13 c = search needs
+
+same-length : tie.Need-same-length
+same-length c = search needs
+
+returns : tie.Need-returns
+returns c = search needs
+
+pub put-sheet-spec : {M : Type 1} → statement M
+put-sheet-spec =
+    tie.close (tie.spec slice-aggregate-put-sheet put-sheet-requires sub-t13 same-length returns)
