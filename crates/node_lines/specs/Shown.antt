@@ -1,9 +1,9 @@
 -- 01, 'Examples': the lines that T adds.
-use Prim.Native.Nat.{ℕ}
+use Prim.Native.Nat.{ℕ, zero, suc}
 use mathlib.Core.Bool.{cond}
 use mathlib.Core.List.{List, [], _∷_, _++_, map, append-assoc}
 use lib.Dec.{eqb}
-use Rattle.spec.specs.Pool.{word, keyWord, recordWord, colourWord, leftWord, rightWord, standingWord, standingLinked}
+use Rattle.spec.specs.Pool.{word, keyWord, recordWord, colourWord, leftWord, rightWord, standingWord, standingLinked, nodes}
 use Rattle.texts.specs.Ascii.{tab}
 use Rattle.texts.specs.Decimal.{decimal}
 use Rattle.texts.specs.Line.{line}
@@ -17,6 +17,15 @@ nodeLine p n =
 -- a line for each linked node
 unfoldable pub nodeShown : List ℕ → ℕ → List ℕ
 nodeShown p n = cond (eqb (word p n standingWord) standingLinked) (nodeLine p n) []
+
+-- those of k nodes, from node n on
+unfoldable pub shownFrom : List ℕ → (n k : ℕ) → List ℕ
+shownFrom p n zero = []
+shownFrom p n (suc k) = nodeShown p n ++ shownFrom p (suc n) k
+
+-- T's lines: 'a line for each linked node in rising number'
+unfoldable pub nodesShown : List ℕ → List ℕ
+nodesShown p = shownFrom p 1 (nodes p)
 
 -- six fields, three at a time
 pub put-six : (f g h : List ℕ) {a b c t : List ℕ} {i j k : ℕ}

@@ -16,7 +16,7 @@ use Rattle.spec.specs.Pool.{word, keyWord, recordAt, child, nodes}
 use Rattle.texts.specs.Ascii.{blank, newline}
 use Rattle.texts.specs.Column.{rightIn, right-length}
 use Rattle.texts.specs.Decimal.{decimal}
-use Rattle.texts.specs.Put.{Put, put-as, put-both, put-nothing}
+use Rattle.texts.specs.Put.{Put, PutPart, put-as, put-both, part-none, part-put, part-all}
 use Rattle.page_order.specs.Listed.{listed}
 use Rattle.page_order.specs.Ranks.{rankBase, nodeOf, Rising, ranksAfter}
 use Rattle.page_order.specs.Laws.{lastOr, last-least, after-rising, after-next, ranks-listed, lines-most}
@@ -272,44 +272,30 @@ pub lines-next : (p xs : List ℕ) (i : ℕ) → i < length xs
     → linesOf p (map nodeOf (take (i + 1) xs)) ≡ linesOf p (map nodeOf (take i xs)) ++ pageLine p (nodeOf (getD xs i 0))
 lines-next p xs i h = rw (add-one i) (lines-more p xs i h)
 
--- A page of which `left` sheets are still to be put, from the one after `last` on.
-pub record Printed (p before : List ℕ) (at left next last : ℕ) (after : List ℕ) : Type 0 where
-  pub done : List ℕ
-  pub long : length after ≡ length before
-  pub put : Put before at done after next
-  pub whole : done ++ sheetsAfter p left last ≡ page p
-
+-- A page put sheet by sheet.
 next-sheets : (p : List ℕ) (k last : ℕ) → sheetsAfter p (suc k) last ≡ sheetAfter p last ++ sheetsAfter p k (lastAfter p last)
 unfolding sheetsAfter
 next-sheets p k last = refl
 
+one-more : (p : List ℕ) (left last : ℕ) → 0 < left → sheetsAfter p left last ≡ sheetAfter p last ++ sheetsAfter p (left - 1) (lastAfter p last)
+one-more p left last h = let e : left ≡ suc (left - 1) = omega arith in ap (λ k. sheetsAfter p k last) e ∙ next-sheets p (left - 1) last
+
+pub sheet-part : (p : List ℕ) (left last : ℕ) {i j : ℕ} {a b : List ℕ} → 0 < left → Put a i (sheetAfter p last) b j
+    → PutPart a i (sheetsAfter p left last) b j (sheetsAfter p (left - 1) (lastAfter p last))
+sheet-part p left last h q = rw (one-more p left last h) (part-put (sheetsAfter p (left - 1) (lastAfter p last)) q)
+
 module _ (p a : List ℕ) (at : ℕ) where
-  pub printed-start : length p ≤ poolLimit → at ≤ length a → Printed p a at (sheets p) at 0 a
-  printed-start h g = record { done = []; long = refl; put = put-nothing a at g; whole = sym (page-sheets p (omega arith)) }
+  pub page-start : length p ≤ poolLimit → at ≤ length a → PutPart a at (page p) a at (sheetsAfter p (sheets p) 0)
+  page-start h g = rw (sym (page-sheets p (omega arith))) (part-none a at (page p) g)
 
-  module _ {left next last : ℕ} {b : List ℕ} (t : Printed p a at left next last b) where
-    one-more : 0 < left → sheetsAfter p left last ≡ sheetAfter p last ++ sheetsAfter p (left - 1) (lastAfter p last)
-    one-more h = let e : left ≡ suc (left - 1) = omega arith in ap (λ k. sheetsAfter p k last) e ∙ next-sheets p (left - 1) last
-
-    pub printed-room : 0 < left → at + length (page p) ≤ length a → next + length (sheetAfter p last) ≤ length b
-    printed-room h g =
+  module _ (left last : ℕ) {next : ℕ} {b : List ℕ} (t : PutPart a at (page p) b next (sheetsAfter p left last)) where
+    pub sheet-fits : length b ≡ length a → 0 < left → at + length (page p) ≤ length a → next + length (sheetAfter p last) ≤ length b
+    sheet-fits e h g =
         let rest = sheetsAfter p (left - 1) (lastAfter p last) in
-        let m : length (page p) ≡ length (t .done) + (length (sheetAfter p last) + length rest) =
-        rw (sym (t .whole), one-more h, length-append (t .done) (sheetAfter p last ++ rest), length-append (sheetAfter p last) rest) in
-        omega (arith, m, t .long, t .put .ends)
+        let m : length (page p) ≡ length (t .written) + (length (sheetAfter p last) + length rest) =
+        rw (sym (t .whole), one-more p left last h, length-append (t .written) (sheetAfter p last ++ rest), length-append (sheetAfter p last) rest) in
+        omega (arith, m, e, t .put .ends)
 
-    pub printed-next : {next′ : ℕ} {c : List ℕ} → 0 < left → Put b next (sheetAfter p last) c next′ → length c ≡ length b
-        → Printed p a at (left - 1) next′ (lastAfter p last) c
-    printed-next h q l = record {
-      done = t .done ++ sheetAfter p last;
-      long = l ∙ t .long;
-      put = put-both (t .put) q;
-      whole = append-assoc (t .done) (sheetAfter p last) (sheetsAfter p (left - 1) (lastAfter p last)) ∙ rw (sym (one-more h)) (t .whole);
-    }
-
-    pub printed-end : left ≤ 0 → Put a at (page p) b next
+    pub page-end : left ≤ 0 → Put a at (page p) b next
     unfolding sheetsAfter
-    printed-end h =
-        let e : left ≡ 0 = omega arith in
-        let w : t .done ≡ page p = sym (append-nil (t .done)) ∙ (rw e at (t .whole)) in
-        rw (sym w) (t .put)
+    page-end h = let e : left ≡ 0 = omega arith in part-all (rw e at t)

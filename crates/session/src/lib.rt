@@ -1,16 +1,23 @@
-// A run of the program trace: lines read from bytes, their commands run on the lent words, and the answers' lines written to a buffer.
+// A run of the program trace: lines read from bytes, their commands run on the lent words, and what they print written to a buffer.
 use answer_lines::Said;
 use command_fields::Command;
 use command_lines::Piece;
 use command_lines::Reading;
 use datatypes::Register;
 ghost use mathlib.Core.Path.{_≡_};
-ghost use Prim.Native.Nat.{_≤_, _<_, _+_, _-_, _*_};
-ghost use lib.ListN.{length};
-ghost use Rattle.texts.specs.Line.{room};
-ghost use Rattle.page.specs.Sheets.{mostSheets, sheetRoom};
-ghost use Rattle.session.specs.Steps.{pieces, Fits, Sound, workLeft, Onward};
+ghost use mathlib.Core.Bool.{false, cond};
+ghost use mathlib.Core.List.{List};
+ghost use Prim.Native.Nat.{ℕ, _≤_, _<_, _+_, _-_, _*_};
+ghost use lib.ListN.{length, take};
 ghost use Rattle.spec.specs.Numbers.{nodeWords, poolLimit};
+ghost use Rattle.texts.specs.Line.{room};
+ghost use Rattle.texts.specs.Put.{Put, PutPart};
+ghost use Rattle.command_lines.specs.declared.Reading.the-variants.{Fresh};
+ghost use Rattle.answer_lines.specs.Text.{says, badLine};
+ghost use Rattle.page.specs.Sheets.{mostSheets, sheetRoom};
+ghost use Rattle.session.specs.declared.Rest.the-variants.{Nodes, Sheets};
+ghost use Rattle.session.specs.Output.{atStart, nextNumber, added, isIll, lineAfter, outputFrom};
+ghost use Rattle.session.specs.Steps.{begun, pieces, Fits, Sound, restOf, due, Prints, partRead, stopped, withRest, keptOf, Answered, workLeft, Onward};
 
 // What is still to be written after an answer's line: nothing, so many of the pool's last nodes (T), or so many sheets of the page after the
 // line of a rank (L).
@@ -52,6 +59,7 @@ fn pieces(rest: Rest) -> usize
 // Starts a run: no words lent, no call made, no byte read.
 pub fn start() -> Run
     ensures { λ r. ⌜ Sound (r .session) × (r .from ≡ 0) × (r .at ≡ 0) ⌝ }
+    ensures { λ r. ⌜ ((words later : List ℕ) → due words r later ≡ outputFrom (atStart words) Fresh later) ⌝ }
 {
     let register = fresh::fresh_register(0);
     let reading = command_lines::start();
@@ -70,10 +78,22 @@ pub fn start() -> Run
     }
 }
 
+// the number of the call after so many
+fn next_number(number: u64) -> u64
+    ensures { λ r. ⌜ r ≡ nextNumber number ⌝ }
+{
+    if number < u64::MAX {
+        number + 1
+    } else {
+        number
+    }
+}
+
 // what is to be written after a command's answer
 fn to_write(words: &[u32], lent: usize, c: Command, said: Said) -> Rest
     requires { ⌜ (lent ≤ poolLimit) × (length (now words) ≡ poolLimit) ⌝ }
     ensures { λ r. ⌜ Fits lent r ⌝ }
+    ensures { λ r. ⌜ restOf (take lent (now (words .entry))) r ≡ added (take lent (now (words .entry))) c (says said) ⌝ }
 {
     if let Said::Ok = said {
         if let Command::Show = c {
@@ -86,31 +106,6 @@ fn to_write(words: &[u32], lent: usize, c: Command, said: Said) -> Rest
     Rest::Nothing
 }
 
-// what a run keeps after a command's answer
-fn after(words: &[u32], number: u64, lent: usize, c: Command, said: Said) -> Session
-    requires { ⌜ (lent ≤ poolLimit) × (length (now words) ≡ poolLimit) ⌝ }
-    ensures { λ r. ⌜ Sound r ⌝ }
-{
-    let reading = command_lines::start();
-    let rest = to_write(words, lent, c, said);
-    Session {
-        lent,
-        number,
-        reading,
-        rest,
-        ended: false,
-    }
-}
-
-// the number of the call after so many
-fn next_number(number: u64) -> u64 {
-    if number < u64::MAX {
-        number + 1
-    } else {
-        number
-    }
-}
-
 // A piece written: the position after it, and what is still to be written.
 struct Written {
     next: usize,
@@ -121,7 +116,8 @@ struct Written {
 fn put_node(words: &[u32], out: &mut [u8], at: usize, lent: usize, nodes: usize) -> Written
     requires { ⌜ (lent ≤ poolLimit) × (nodes * nodeWords ≤ lent) × (0 < nodes) ⌝ }
     requires { ⌜ (length (now words) ≡ poolLimit) × (at + sheetRoom ≤ length (now out)) ⌝ }
-    ensures { λ r. ⌜ Fits lent (r .rest) × (pieces (r .rest) ≡ nodes - 1) × (r .next ≤ length (now (out .exit))) ⌝ }
+    ensures { λ r. ⌜ Fits lent (r .rest) × (pieces (r .rest) ≡ nodes - 1) ⌝ }
+    ensures { λ r. ⌜ PutPart (now (out .entry)) at (restOf (take lent (now (words .entry))) (Nodes nodes)) (now (out .exit)) (r .next) (restOf (take lent (now (words .entry))) (r .rest)) ⌝ }
 {
     let node = lent / numbers::NODE_WORDS - nodes + 1;
     let next = node_lines::write_node(out, at, &words[..lent], node as u32);
@@ -140,7 +136,8 @@ fn put_sheet(
 ) -> Written
     requires { ⌜ (lent ≤ poolLimit) × (sheets ≤ mostSheets) × (0 < sheets) ⌝ }
     requires { ⌜ (length (now words) ≡ poolLimit) × (at + sheetRoom ≤ length (now out)) ⌝ }
-    ensures { λ r. ⌜ Fits lent (r .rest) × (pieces (r .rest) ≡ sheets - 1) × (r .next ≤ length (now (out .exit))) ⌝ }
+    ensures { λ r. ⌜ Fits lent (r .rest) × (pieces (r .rest) ≡ sheets - 1) ⌝ }
+    ensures { λ r. ⌜ PutPart (now (out .entry)) at (restOf (take lent (now (words .entry))) (Sheets sheets last)) (now (out .exit)) (r .next) (restOf (take lent (now (words .entry))) (r .rest)) ⌝ }
 {
     let sheet = page::put_sheet(out, at, &words[..lent], last);
     let rest = Rest::Sheets(sheets - 1, sheet.last);
@@ -154,7 +151,8 @@ fn put_sheet(
 fn put_piece(words: &[u32], out: &mut [u8], at: usize, lent: usize, rest: Rest) -> Written
     requires { ⌜ (lent ≤ poolLimit) × Fits lent rest × (0 < pieces rest) ⌝ }
     requires { ⌜ (length (now words) ≡ poolLimit) × (at + sheetRoom ≤ length (now out)) ⌝ }
-    ensures { λ r. ⌜ Fits lent (r .rest) × (pieces (r .rest) ≡ pieces rest - 1) × (r .next ≤ length (now (out .exit))) ⌝ }
+    ensures { λ r. ⌜ Fits lent (r .rest) × (pieces (r .rest) ≡ pieces rest - 1) ⌝ }
+    ensures { λ r. ⌜ PutPart (now (out .entry)) at (restOf (take lent (now (words .entry))) rest) (now (out .exit)) (r .next) (restOf (take lent (now (words .entry))) (r .rest)) ⌝ }
 {
     match rest {
         Rest::Nothing => Written { next: at, rest },
@@ -163,61 +161,34 @@ fn put_piece(words: &[u32], out: &mut [u8], at: usize, lent: usize, rest: Rest) 
     }
 }
 
-// a session with another rest
-fn with_rest(s: Session, rest: Rest) -> Session
-    ensures { λ r. ⌜ (r .lent ≡ s .lent) × (r .rest ≡ rest) ⌝ }
+// a run after a piece
+fn with_rest(r: Run, at: usize, rest: Rest) -> Run
+    ensures { λ q. ⌜ q ≡ withRest r at rest ⌝ }
 {
+    let register = r.register;
+    let s = r.session;
     let reading = s.reading;
-    Session {
+    let session = Session {
         lent: s.lent,
         number: s.number,
         reading,
         rest,
         ended: s.ended,
-    }
-}
-
-// A run after some bytes, its positions, and the command of the line that they end, if it is well-formed.
-struct Read {
-    session: Session,
-    from: usize,
-    at: usize,
-    found: bool,
-    command: Command,
-}
-
-// a whole line; an ill-formed one ends the run, and the rest of the input is passed over
-fn whole_line(out: &mut [u8], at: usize, s: Session, c: Command, next: usize, end: usize) -> Read
-    requires { ⌜ Sound s × (next ≤ end) × (at + room ≤ length (now out)) ⌝ }
-    ensures { λ r. ⌜ Sound (r .session) × (r .session .rest ≡ s .rest) × (next ≤ r .from) × (r .from ≤ end) ⌝ }
-    ensures { λ r. ⌜ r .at ≤ length (now (out .exit)) ⌝ }
-{
-    let mut session = s;
-    if let Command::Ill = c {
-        session.ended = true;
-        let written = answer_lines::write_bad(out, at, next_number(s.number));
-        return Read {
-            session,
-            from: end,
-            at: written,
-            found: false,
-            command: c,
-        };
-    }
-    Read {
+    };
+    Run {
+        register,
         session,
-        from: next,
+        from: r.from,
         at,
-        found: true,
-        command: c,
     }
 }
 
-// a line that the input has not ended yet
-fn part_line(at: usize, s: Session, reading: Reading, end: usize) -> Read
-    requires { ⌜ Sound s ⌝ }
-    ensures { λ r. ⌜ Sound (r .session) × (r .session .rest ≡ s .rest) × (r .from ≡ end) × (r .at ≡ at) ⌝ }
+// a run after bytes that end no line
+fn part_line(r: Run, reading: Reading, next: usize) -> Run
+    ensures { λ q. ⌜ q ≡ partRead r reading next ⌝ }
 {
+    let register = r.register;
+    let s = r.session;
     let rest = s.rest;
     let session = Session {
         lent: s.lent,
@@ -226,87 +197,90 @@ fn part_line(at: usize, s: Session, reading: Reading, end: usize) -> Read
         rest,
         ended: s.ended,
     };
-    Read {
+    Run {
+        register,
         session,
-        from: end,
-        at,
-        found: false,
-        command: Command::Ill,
+        from: next,
+        at: r.at,
     }
+}
+
+// an ill-formed line: it ends the run
+fn bad_line(out: &mut [u8], r: Run, next: usize) -> Run
+    requires { ⌜ r .at + room ≤ length (now out) ⌝ }
+    ensures { λ q. ⌜ Put (now (out .entry)) (r .at) (badLine (nextNumber (r .session .number))) (now (out .exit)) (q .at) ⌝ }
+    ensures { λ q. ⌜ q ≡ stopped r next (q .at) ⌝ }
+{
+    let register = r.register;
+    let mut session = r.session;
+    let at = answer_lines::write_bad(out, r.at, next_number(session.number));
+    session.ended = true;
+    Run {
+        register,
+        session,
+        from: next,
+        at,
+    }
+}
+
+// a command's line
+fn answer(words: &mut [u32], out: &mut [u8], r: Run, c: Command, next: usize) -> Run
+    requires { ⌜ Sound (r .session) × (length (now words) ≡ poolLimit) × (r .at + room ≤ length (now out)) ⌝ }
+    ensures { λ q. ⌜ Sound (q .session) × (q .from ≡ next) ⌝ }
+    ensures { λ q. ⌜ Answered (now (words .entry)) (now (out .entry)) r c (now (words .exit)) (now (out .exit)) q ⌝ }
+{
+    let s = r.session;
+    let number = next_number(s.number);
+    let register = r.register;
+    let done = commands::perform(words, s.lent, register, c);
+    let said = done.said;
+    let at = answer_lines::write_line(out, r.at, number, answer_lines::letter_of(c), said);
+    let lent = done.lent;
+    let rest = to_write(words, lent, c, said);
+    let reading = command_lines::start();
+    let session = Session {
+        lent,
+        number,
+        reading,
+        rest,
+        ended: false,
+    };
+    let left = done.register;
+    Run {
+        register: left,
+        session,
+        from: next,
+        at,
+    }
+}
+
+// a whole line
+fn whole_line(words: &mut [u32], out: &mut [u8], r: Run, c: Command, next: usize) -> Run
+    requires { ⌜ Sound (r .session) × (length (now words) ≡ poolLimit) × (r .at + room ≤ length (now out)) ⌝ }
+    requires { ⌜ pieces (r .session .rest) ≤ 0 ⌝ }
+    ensures { λ q. ⌜ Sound (q .session) × (q .from ≡ next) × (q .at ≤ length (now (out .exit))) ⌝ }
+    ensures { λ q. ⌜ ((later : List ℕ) → PutPart (now (out .entry)) (r .at) (lineAfter (keptOf (now (words .entry)) r) c later) (now (out .exit)) (q .at) (due (now (words .exit)) q later)) ⌝ }
+{
+    if let Command::Ill = c {
+        return bad_line(out, r, next);
+    }
+    answer(words, out, r, c, next)
 }
 
 // the input's next bytes, up to a newline
-fn read_line(out: &mut [u8], at: usize, s: Session, input: &[u8], from: usize) -> Read
-    requires { ⌜ Sound s × (at + room ≤ length (now out)) × (from < length (now input)) ⌝ }
-    ensures { λ r. ⌜ Sound (r .session) × (r .session .rest ≡ s .rest) × (from < r .from) × (r .from ≤ length (now (input .entry))) ⌝ }
-    ensures { λ r. ⌜ r .at ≤ length (now (out .exit)) ⌝ }
-{
-    let reading = s.reading;
-    let scanned = command_lines::scan(input, from, reading);
-    let piece = scanned.piece;
-    match piece {
-        Piece::Whole(c) => whole_line(out, at, s, c, scanned.next, input.len()),
-        Piece::Part(r) => part_line(at, s, r, scanned.next),
-    }
-}
-
-// A run after a call, and the position after its line.
-struct Answered {
-    register: Register,
-    session: Session,
-    at: usize,
-}
-
-fn answer(
-    words: &mut [u32],
-    out: &mut [u8],
-    at: usize,
-    s: Session,
-    register: Register,
-    c: Command,
-) -> Answered
-    requires { ⌜ Sound s × (length (now words) ≡ poolLimit) × (at + room ≤ length (now out)) ⌝ }
-    ensures { λ r. ⌜ Sound (r .session) × (r .at ≤ length (now (out .exit))) ⌝ }
-{
-    let number = next_number(s.number);
-    let p = commands::perform(words, s.lent, register, c);
-    let said = p.said;
-    let end = answer_lines::write_line(out, at, number, answer_lines::letter_of(c), said);
-    let left = p.register;
-    let session = after(words, number, p.lent, c, said);
-    Answered {
-        register: left,
-        session,
-        at: end,
-    }
-}
-
-// the input's next bytes, and the answer if they end a command's line
 fn next_line(words: &mut [u32], out: &mut [u8], r: Run, input: &[u8]) -> Run
     requires { ⌜ Sound (r .session) × (length (now words) ≡ poolLimit) × (r .at + room ≤ length (now out)) × (r .from < length (now input)) ⌝ }
+    requires { ⌜ (pieces (r .session .rest) ≤ 0) × (r .session .ended ≡ false) ⌝ }
     ensures { λ q. ⌜ Sound (q .session) × (q .at ≤ length (now (out .exit))) × (r .from < q .from) × (q .from ≤ length (now (input .entry))) ⌝ }
+    ensures { λ q. ⌜ Prints (now (input .entry)) (now (words .entry)) (now (out .entry)) r (now (words .exit)) (now (out .exit)) q ⌝ }
 {
-    let register = r.register;
     let s = r.session;
-    let read = read_line(out, r.at, s, input, r.from);
-    let before = read.session;
-    if read.found {
-        let c = read.command;
-        let answered = answer(words, out, r.at, before, register, c);
-        let kept = answered.register;
-        let session = answered.session;
-        return Run {
-            register: kept,
-            session,
-            from: read.from,
-            at: answered.at,
-        };
-    }
-    Run {
-        register,
-        session: before,
-        from: read.from,
-        at: read.at,
+    let reading = s.reading;
+    let scanned = command_lines::scan(input, r.from, reading);
+    let piece = scanned.piece;
+    match piece {
+        Piece::Whole(c) => whole_line(words, out, r, c, scanned.next),
+        Piece::Part(so_far) => part_line(r, so_far, scanned.next),
     }
 }
 
@@ -316,20 +290,14 @@ fn step(words: &mut [u32], out: &mut [u8], r: Run, input: &[u8]) -> Run
     requires { ⌜ (r .from ≤ length (now input)) × (0 < workLeft r (length (now input))) ⌝ }
     ensures { λ q. ⌜ Sound (q .session) × (q .at ≤ length (now (out .exit))) × (q .from ≤ length (now (input .entry))) ⌝ }
     ensures { λ q. ⌜ workLeft q (length (now (input .entry))) < workLeft r (length (now (input .entry))) ⌝ }
+    ensures { λ q. ⌜ Prints (now (input .entry)) (now (words .entry)) (now (out .entry)) r (now (words .exit)) (now (out .exit)) q ⌝ }
 {
     let s = r.session;
     let rest = s.rest;
     if 0 < pieces(rest) {
         let written = put_piece(words, out, r.at, s.lent, rest);
         let later = written.rest;
-        let session = with_rest(s, later);
-        let register = r.register;
-        return Run {
-            register,
-            session,
-            from: r.from,
-            at: written.next,
-        };
+        return with_rest(r, written.next, later);
     }
     next_line(words, out, r, input)
 }
@@ -343,17 +311,22 @@ pub fn left(r: Run, input: &[u8]) -> usize
     let s = r.session;
     let rest = s.rest;
     let count = pieces(rest);
-    if count == 0 {
-        return input.len() - r.from;
+    if count != 0 {
+        return count;
     }
-    count
+    if s.ended {
+        return 0;
+    }
+    input.len() - r.from
 }
 
-// Runs on through an input, as far as there is room for the output. With room for any piece it makes progress.
+// Runs on through an input, as far as there is room for the output. With room for any piece it makes progress. What it puts is the beginning of
+// what documents 01 and 02 print of the input (specs, Output), wherever one input ends and the next begins.
 pub fn advance(words: &mut [u32], out: &mut [u8], r: Run, input: &[u8]) -> Run
     requires { ⌜ Sound (r .session) × (length (now words) ≡ poolLimit) × (r .at ≤ length (now out)) × (r .from ≤ length (now input)) ⌝ }
     ensures { λ q. ⌜ Sound (q .session) × (q .at ≤ length (now (out .exit))) × (q .from ≤ length (now (input .entry))) ⌝ }
     ensures { λ q. ⌜ Onward (length (now (input .entry))) (length (now (out .entry))) r q ⌝ }
+    ensures { λ q. ⌜ Prints (now (input .entry)) (now (words .entry)) (now (out .entry)) r (now (words .exit)) (now (out .exit)) q ⌝ }
 {
     let mut run = r;
     while 0 < left(run, input) {
@@ -366,7 +339,9 @@ pub fn advance(words: &mut [u32], out: &mut [u8], r: Run, input: &[u8]) -> Run
 }
 
 // Answers whether a line has begun that the input does not end.
-pub fn unfinished(s: Session) -> bool {
+pub fn unfinished(s: Session) -> bool
+    ensures { λ r. ⌜ r ≡ cond (s .ended) false (begun (s .reading)) ⌝ }
+{
     if s.ended {
         return false;
     }

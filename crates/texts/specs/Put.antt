@@ -31,6 +31,34 @@ put-as e p = rw e at p
 pub put-nothing : (a : List ℕ) (i : ℕ) → i ≤ length a → Put a i [] a i
 put-nothing a i h = record { ends = omega arith; within = h; bytes = sym (append-nil (take i a)) }
 
+-- Of the text `due` the beginning is put, and `left` is still to come.
+pub record PutPart (before : List ℕ) (at : ℕ) (due after : List ℕ) (next : ℕ) (left : List ℕ) : Type 0 where
+  pub written : List ℕ
+  pub put : Put before at written after next
+  pub whole : written ++ left ≡ due
+
+-- nothing yet; a text with what stands after it; one part after another; the same with more text after it; the last part
+pub part-none : (a : List ℕ) (i : ℕ) (d : List ℕ) → i ≤ length a → PutPart a i d a i d
+part-none a i d h = record { written = []; put = put-nothing a i h; whole = refl }
+
+pub part-put : {a b s : List ℕ} {i j : ℕ} (t : List ℕ) → Put a i s b j → PutPart a i (s ++ t) b j t
+part-put {s = s} t p = record { written = s; put = p; whole = refl }
+
+pub part-both : {a b c d e f : List ℕ} {i j k : ℕ} → PutPart a i d b j e → PutPart b j e c k f → PutPart a i d c k f
+part-both {f = f} p q =
+    record {
+      written = p .written ++ q .written;
+      put = put-both (p .put) (q .put);
+      whole = append-assoc (p .written) (q .written) f ∙ rw (q .whole) (p .whole);
+    }
+
+pub part-before : {a b d e : List ℕ} {i j : ℕ} (t : List ℕ) → PutPart a i d b j e → PutPart a i (d ++ t) b j (e ++ t)
+part-before {e = e} t p =
+    record { written = p .written; put = p .put; whole = sym (append-assoc (p .written) e t) ∙ rw (p .whole) }
+
+pub part-all : {a b d : List ℕ} {i j : ℕ} → PutPart a i d b j [] → Put a i d b j
+part-all p = put-as (sym (append-nil (p .written)) ∙ p .whole) (p .put)
+
 -- a text put a byte at a time: one more, all
 module _ (a : List ℕ) (i : ℕ) (s b : List ℕ) (k : ℕ) where
   pub put-next : k < length s → i + k < length b → Put a i (take k s) b (i + k)

@@ -1,6 +1,8 @@
-use mathlib.Core.Path.{sym}
+use mathlib.Core.Path.{_≡_, refl, sym}
 use native.Mathlib.Omega.{arith}
+use lib.ListN.{length, take}
 use lib.Seq.{length-take-le}
+use Rattle.session.specs.Steps.{node-part}
 use borrow.Author.Needs.{needs}
 use Rattle.session.proofs.put_node.Statement.{statement}
 use Rattle.session.proofs.put_node.Tie as tie
@@ -32,7 +34,11 @@ same-length : tie.Need-same-length
 same-length c = search needs
 
 returns : tie.Need-returns
-returns c = search needs
+returns c =
+    let c7 = c .before .before .before .before .before .before .before in
+    let a = c7 .args in
+    let h : length (take (a .lent) (a .words .now)) ≡ a .lent = length-take-le (a .lent) (a .words .now) (omega (arith, c7 .pre)) in
+    ((omega (arith, c7 .pre), refl), node-part (take (a .lent) (a .words .now)) (a .nodes) _ (c .before .before .write-node .ensures) (c7 .pre .0 .2) (omega (arith, h, c7 .pre)) (omega (arith, h, c7 .pre)))
 
 pub put-node-spec : {M : Type 1} → statement M
 put-node-spec =

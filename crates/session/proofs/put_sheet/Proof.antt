@@ -1,8 +1,8 @@
-use mathlib.Core.Path.{_≡_, sym}
+use mathlib.Core.Path.{_≡_, refl, sym}
 use native.Mathlib.Omega.{arith}
 use lib.ListN.{length, take}
 use lib.Seq.{length-take-le}
-use Rattle.page.specs.Sheets.{sheet-room}
+use Rattle.page.specs.Sheets.{sheet-room, sheet-part}
 use borrow.Author.Needs.{needs}
 use Rattle.session.proofs.put_sheet.Statement.{statement}
 use Rattle.session.proofs.put_sheet.Tie as tie
@@ -29,7 +29,11 @@ same-length : tie.Need-same-length
 same-length c = search needs
 
 returns : tie.Need-returns
-returns c = search needs
+returns c =
+    let c7 = c .before .before .before .before .before .before .before in
+    let a = c7 .args in
+    let s = c .before .before .put-sheet .ensures in
+    ((omega (arith, c7 .pre), refl), rw (s .1) (sheet-part (take (a .lent) (a .words .now)) (a .sheets) (a .last) (c7 .pre .0 .2) (s .0)))
 
 pub put-sheet-spec : {M : Type 1} → statement M
 put-sheet-spec =

@@ -37,7 +37,7 @@ loop-less c =
     let c9 = c6 .before .before .before in
     let c10 = c9 .before in
     let c11 = c10 .before in
-    let a = c6 .advance in falls (a .ensures .1 (c11 .loop .inv .2)) (c10 .left .ensures .0) (c9 .if1 .taken)
+    let a = c6 .advance in falls (a .ensures .1 .0 (c11 .loop .inv .2)) (c10 .left .ensures .0) (c9 .if1 .taken)
 
 loop-again : tie.Need-loop-again Inv-loop μ-loop
 loop-again c =

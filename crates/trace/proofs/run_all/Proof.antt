@@ -27,7 +27,7 @@ start-requires : tie.Need-start-requires Inv-loop μ-loop
 start-requires c κs = search needs
 
 loop-holds : tie.Need-loop-holds Inv-loop μ-loop
-loop-holds c = (c .start .ensures .0, c .before .before .before .before .pre .1, c .before .before .before .before .pre .0, refl, refl, refl)
+loop-holds c = (c .start .ensures .0 .0, c .before .before .before .before .pre .1, c .before .before .before .before .pre .0, refl, refl, refl)
 
 read-requires : tie.Need-read-requires Inv-loop μ-loop
 read-requires c κs = search needs
