@@ -16,8 +16,8 @@ ghost use Rattle.command_lines.specs.declared.Reading.the-variants.{Fresh};
 ghost use Rattle.answer_lines.specs.Text.{says, badLine};
 ghost use Rattle.page.specs.Sheets.{mostSheets, sheetRoom};
 ghost use Rattle.session.specs.declared.Rest.the-variants.{Nodes, Sheets};
-ghost use Rattle.session.specs.Output.{atStart, nextNumber, added, isIll, lineAfter, outputFrom};
-ghost use Rattle.session.specs.Steps.{begun, pieces, Fits, Sound, restOf, due, Prints, partRead, stopped, withRest, keptOf, Answered, workLeft, Onward};
+ghost use Rattle.session.specs.Output.{atStart, nextNumber, added, outputFrom};
+ghost use Rattle.session.specs.Steps.{begun, pieces, Fits, Sound, restOf, due, Prints, partRead, stopped, withRest, Answered, workLeft, Onward};
 
 // What is still to be written after an answer's line: nothing, so many of the pool's last nodes (T), or so many sheets of the page after the
 // line of a rank (L).
@@ -254,19 +254,6 @@ fn answer(words: &mut [u32], out: &mut [u8], r: Run, c: Command, next: usize) ->
     }
 }
 
-// a whole line
-fn whole_line(words: &mut [u32], out: &mut [u8], r: Run, c: Command, next: usize) -> Run
-    requires { ⌜ Sound (r .session) × (length (now words) ≡ poolLimit) × (r .at + room ≤ length (now out)) ⌝ }
-    requires { ⌜ pieces (r .session .rest) ≤ 0 ⌝ }
-    ensures { λ q. ⌜ Sound (q .session) × (q .from ≡ next) × (q .at ≤ length (now (out .exit))) ⌝ }
-    ensures { λ q. ⌜ ((later : List ℕ) → PutPart (now (out .entry)) (r .at) (lineAfter (keptOf (now (words .entry)) r) c later) (now (out .exit)) (q .at) (due (now (words .exit)) q later)) ⌝ }
-{
-    if let Command::Ill = c {
-        return bad_line(out, r, next);
-    }
-    answer(words, out, r, c, next)
-}
-
 // the input's next bytes, up to a newline
 fn next_line(words: &mut [u32], out: &mut [u8], r: Run, input: &[u8]) -> Run
     requires { ⌜ Sound (r .session) × (length (now words) ≡ poolLimit) × (r .at + room ≤ length (now out)) × (r .from < length (now input)) ⌝ }
@@ -279,7 +266,12 @@ fn next_line(words: &mut [u32], out: &mut [u8], r: Run, input: &[u8]) -> Run
     let scanned = command_lines::scan(input, r.from, reading);
     let piece = scanned.piece;
     match piece {
-        Piece::Whole(c) => whole_line(words, out, r, c, scanned.next),
+        Piece::Whole(c) => {
+            if let Command::Ill = c {
+                return bad_line(out, r, scanned.next);
+            }
+            answer(words, out, r, c, scanned.next)
+        }
         Piece::Part(so_far) => part_line(r, so_far, scanned.next),
     }
 }
