@@ -7,7 +7,7 @@ use mathlib.Core.Logic.{_⊎_, inl, ⊎-elim}
 use native.Mathlib.Omega.{arith}
 use lib.Dec.{eqb}
 use lib.ListN.{length, take, drop}
-use lib.Seq.{drop-drop}
+use lib.Seq.{drop-drop, length-take-le}
 use Rattle.base.specs.Walk.{cond-both}
 use Rattle.spec.specs.Numbers.{nodeWords, poolLimit}
 use Rattle.spec.specs.Pool.{nodes}
@@ -20,11 +20,10 @@ use Rattle.command_lines.specs.declared.Reading.the-variants.{Fresh, Letter, On
 use Rattle.command_lines.specs.declared.Piece.{Piece}
 use Rattle.command_lines.specs.declared.Piece.the-variants.{Whole, Part}
 use Rattle.command_lines.specs.declared.Scanned.{Scanned}
-use Rattle.command_lines.specs.Machine.{taken, finished}
+use Rattle.command_lines.specs.Machine.{taken}
 use Rattle.command_lines.specs.Cut.{cut, cutFrom, cut-after, cut-within}
 use Rattle.answer_lines.specs.Text.{letterOf, lineOf, badLine}
 use Rattle.node_lines.specs.Shown.{nodeShown, shownFrom, nodesShown}
-use Rattle.page.specs.Page.{page}
 use Rattle.page.specs.Sheets.{mostSheets, sheetRoom, sheetsAfter}
 use Rattle.session.specs.declared.Rest.{Rest}
 use Rattle.session.specs.declared.Rest.the-variants.{Nothing, Nodes, Sheets}
@@ -56,6 +55,9 @@ Fits lent (Sheets k last) = k ≤ mostSheets
 pub record Sound (s : Session) : Type 0 where
   pub lent : s .lent ≤ poolLimit
   pub rest : Fits (s .lent) (s .rest)
+
+pub lent-length : (words : List ℕ) (lent : ℕ) → lent ≤ poolLimit → length words ≡ poolLimit → length (take lent words) ≡ lent
+lent-length words lent h e = length-take-le lent words (omega (arith, h, e))
 
 -- what is still to be written of a pool's nodes
 abbrev pub restOf : List ℕ → Rest → List ℕ

@@ -52,7 +52,9 @@ same-length : tie.Need-same-length Inv-loop μ-loop
 same-length c = c .before .loop .inv .0
 
 returns : tie.Need-returns Inv-loop μ-loop
-returns c = let a = c .before .before .before .before .before .args in page-end (a .pool .now) (a .out .now) (a .at) (c .before .loop .left) (c .before .loop .last) (c .before .loop .inv .1) (c .loop-test .left)
+returns c =
+    let a = c .before .before .before .before .before .args in
+    let l = c .before .loop in page-end (a .pool .now) (a .out .now) (a .at) (l .left) (l .last) (l .inv .1) (c .loop-test .left)
 
 pub put-page-spec : {M : Type 1} → statement M
 put-page-spec =

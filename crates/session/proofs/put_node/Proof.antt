@@ -1,8 +1,7 @@
-use mathlib.Core.Path.{_≡_, refl, sym}
+use mathlib.Core.Path.{refl, sym}
 use native.Mathlib.Omega.{arith}
-use lib.ListN.{length, take}
-use lib.Seq.{length-take-le}
-use Rattle.session.specs.Steps.{node-part}
+use lib.ListN.{take}
+use Rattle.session.specs.Steps.{lent-length, node-part}
 use borrow.Author.Needs.{needs}
 use Rattle.session.proofs.put_node.Statement.{statement}
 use Rattle.session.proofs.put_node.Tie as tie
@@ -19,7 +18,7 @@ add-node c = search needs
 slice-aggregate-write-node : tie.Need-slice-aggregate-write-node
 slice-aggregate-write-node c =
     let c4 = c .before .before .before .before in
-    let a = c4 .args in sym (length-take-le (a .lent) (a .words .now) (omega (arith, c4 .pre)))
+    let a = c4 .args in sym (lent-length (a .words .now) (a .lent) (c4 .pre .0 .0) (c4 .pre .1 .0))
 
 cast-write-node : tie.Need-cast-write-node
 cast-write-node c = search needs
@@ -37,8 +36,9 @@ returns : tie.Need-returns
 returns c =
     let c7 = c .before .before .before .before .before .before .before in
     let a = c7 .args in
-    let h : length (take (a .lent) (a .words .now)) ≡ a .lent = length-take-le (a .lent) (a .words .now) (omega (arith, c7 .pre)) in
-    ((omega (arith, c7 .pre), refl), node-part (take (a .lent) (a .words .now)) (a .nodes) _ (c .before .before .write-node .ensures) (c7 .pre .0 .2) (omega (arith, h, c7 .pre)) (omega (arith, h, c7 .pre)))
+    let h = lent-length (a .words .now) (a .lent) (c7 .pre .0 .0) (c7 .pre .1 .0) in
+    let w = c .before .before .write-node .ensures in
+    ((omega (arith, c7 .pre), refl), node-part (take (a .lent) (a .words .now)) (a .nodes) _ w (c7 .pre .0 .2) (omega (arith, h, c7 .pre)) (omega (arith, h, c7 .pre)))
 
 pub put-node-spec : {M : Type 1} → statement M
 put-node-spec =

@@ -1,8 +1,8 @@
-use mathlib.Core.Path.{_≡_, refl, sym}
+use mathlib.Core.Path.{refl, sym}
 use native.Mathlib.Omega.{arith}
-use lib.ListN.{length, take}
-use lib.Seq.{length-take-le}
+use lib.ListN.{take}
 use Rattle.page.specs.Sheets.{sheet-room, sheet-part}
+use Rattle.session.specs.Steps.{lent-length}
 use borrow.Author.Needs.{needs}
 use Rattle.session.proofs.put_sheet.Statement.{statement}
 use Rattle.session.proofs.put_sheet.Tie as tie
@@ -13,13 +13,13 @@ use Rattle.page.proofs.put_sheet.Reads as put-sheet-reads
 slice-aggregate-put-sheet : tie.Need-slice-aggregate-put-sheet
 slice-aggregate-put-sheet c =
     let c4 = c .before .before .before .before in
-    let a = c4 .args in sym (length-take-le (a .lent) (a .words .now) (omega (arith, c4 .pre)))
+    let a = c4 .args in sym (lent-length (a .words .now) (a .lent) (c4 .pre .0 .0) (c4 .pre .1 .0))
 
 put-sheet-requires : tie.Need-put-sheet-requires
 put-sheet-requires c κs =
     let c4 = c .before .before .before .before in
     let a = c4 .args in
-    let h : length (take (a .lent) (a .words .now)) ≡ a .lent = length-take-le (a .lent) (a .words .now) (omega (arith, c4 .pre)) in
+    let h = lent-length (a .words .now) (a .lent) (c4 .pre .0 .0) (c4 .pre .1 .0) in
     (omega (arith, h, c4 .pre), omega (arith, sheet-room (take (a .lent) (a .words .now)) (a .last), c4 .pre))
 
 sub-t13 : tie.Need-sub-t13

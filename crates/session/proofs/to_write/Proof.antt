@@ -3,8 +3,7 @@ use mathlib.Core.Path.{_≡_, refl, sym}
 use mathlib.Core.Bool.{false}
 use mathlib.Core.List.{List, [], _∷_}
 use native.Mathlib.Omega.{arith}
-use lib.ListN.{length, take}
-use lib.Seq.{length-take-le}
+use lib.ListN.{take}
 use types.Run.{OneOf, miss}
 use denote.Enum.Declared.{tagOf}
 use Rattle.command_fields.proofs.Command.{the-type as a-command}
@@ -16,7 +15,7 @@ use Rattle.answer_lines.specs.declared.Said.the-variants as said
 use Rattle.answer_lines.specs.Text.{says}
 use Rattle.page.specs.Sheets.{page-sheets}
 use Rattle.session.specs.Output.{isOk, listing}
-use Rattle.session.specs.Steps.{rest-nodes}
+use Rattle.session.specs.Steps.{lent-length, rest-nodes}
 use borrow.Author.Needs.{needs}
 use Rattle.session.proofs.to_write.Statement.{statement}
 use Rattle.session.proofs.to_write.Tie as tie
@@ -60,8 +59,9 @@ returns : tie.Need-returns
 returns c =
     let c5 = c .before .before .before .before .before in
     let a = c5 .args in
-    let h : length (take (a .lent) (a .words .now)) ≡ a .lent = length-take-le (a .lent) (a .words .now) (omega (arith, c5 .pre)) in
-    (omega (arith, c5 .pre), rw (c .enum-told2 .given .1, c .before .before .enum-told .given .1) (rest-nodes (take (a .lent) (a .words .now)) (a .lent / 8) (omega (arith, h))))
+    let h = lent-length (a .words .now) (a .lent) (c5 .pre .0) (c5 .pre .1) in
+    let told = c .before .before .enum-told .given .1 in
+    (omega (arith, c5 .pre), rw (c .enum-told2 .given .1, told) (rest-nodes (take (a .lent) (a .words .now)) (a .lent / 8) (omega (arith, h))))
 
 enum-told-3 : tie.Need-enum-told-3
 enum-told-3 c = search needs
@@ -69,21 +69,22 @@ enum-told-3 c = search needs
 slice-aggregate-sheets : tie.Need-slice-aggregate-sheets
 slice-aggregate-sheets c =
     let c7 = c .before .before .before .before .before .before .before in
-    let a = c7 .args in sym (length-take-le (a .lent) (a .words .now) (omega (arith, c7 .pre)))
+    let a = c7 .args in sym (lent-length (a .words .now) (a .lent) (c7 .pre .0) (c7 .pre .1))
 
 sheets-requires : tie.Need-sheets-requires
 sheets-requires c κs =
     let c7 = c .before .before .before .before .before .before .before in
     let a = c7 .args in
-    let h : length (take (a .lent) (a .words .now)) ≡ a .lent = length-take-le (a .lent) (a .words .now) (omega (arith, c7 .pre)) in omega (arith, h, c7 .pre)
+    let h = lent-length (a .words .now) (a .lent) (c7 .pre .0) (c7 .pre .1) in omega (arith, h, c7 .pre)
 
 returns-2 : tie.Need-returns-2
 returns-2 c =
     let c8 = c .before .before .before .before .before .before .before .before in
     let a = c8 .args in
-    let h : length (take (a .lent) (a .words .now)) ≡ a .lent = length-take-le (a .lent) (a .words .now) (omega (arith, c8 .pre)) in
+    let h = lent-length (a .words .now) (a .lent) (c8 .pre .0) (c8 .pre .1) in
     let s = c .sheets .ensures in
-    (s .1, rw (c .before .before .enum-told3 .given .1, c .before .before .before .before .before .enum-told .given .1, s .0) (sym (page-sheets (take (a .lent) (a .words .now)) (omega (arith, h, c8 .pre)))))
+    let told = c .before .before .before .before .before .enum-told .given .1 in
+    (s .1, rw (c .before .before .enum-told3 .given .1, told, s .0) (sym (page-sheets (take (a .lent) (a .words .now)) (omega (arith, h, c8 .pre)))))
 
 returns-3 : tie.Need-returns-3
 returns-3 c =
