@@ -11,13 +11,13 @@ ghost use Prim.Native.Nat.{ℕ, _≤_, _<_, _+_, _-_, _*_};
 ghost use lib.ListN.{length, take};
 ghost use Rattle.spec.specs.Numbers.{nodeWords, poolLimit};
 ghost use Rattle.texts.specs.Line.{room};
-ghost use Rattle.texts.specs.Put.{Put, PutPart};
+ghost use Rattle.texts.specs.Put.{PutPart};
 ghost use Rattle.command_lines.specs.declared.Reading.the-variants.{Fresh};
-ghost use Rattle.answer_lines.specs.Text.{says, badLine};
+ghost use Rattle.answer_lines.specs.Text.{says};
 ghost use Rattle.page.specs.Sheets.{mostSheets, sheetRoom};
 ghost use Rattle.session.specs.declared.Rest.the-variants.{Nodes, Sheets};
 ghost use Rattle.session.specs.Output.{atStart, nextNumber, added, outputFrom};
-ghost use Rattle.session.specs.Steps.{begun, pieces, Fits, Sound, restOf, due, Prints, partRead, stopped, withRest, Answered, workLeft, Onward};
+ghost use Rattle.session.specs.Steps.{begun, pieces, Fits, Sound, restOf, due, withRest, partRead, LineRead, Stepped, Answered, workLeft, Onward, Prints};
 
 // What is still to be written after an answer's line: nothing, so many of the pool's last nodes (T), or so many sheets of the page after the
 // line of a rank (L).
@@ -28,21 +28,20 @@ pub enum Rest {
 }
 
 // What a run keeps beside the register: the words lent (0 before the first accepted P), the calls so far, the line so far, what is still to
-// be written, and whether an ill-formed line has ended it.
+// be written, whether an ill-formed line has ended it, and its positions in the input and in the output.
 pub struct Session {
     pub lent: usize,
     pub number: u64,
     pub reading: Reading,
     pub rest: Rest,
     pub ended: bool,
+    pub from: usize,
+    pub at: usize,
 }
 
-// A run, with its positions in the input and in the output.
 pub struct Run {
     pub register: Register,
     pub session: Session,
-    pub from: usize,
-    pub at: usize,
 }
 
 // how many pieces, each a node's line or a sheet, are still to be written
@@ -58,8 +57,8 @@ fn pieces(rest: Rest) -> usize
 
 // Starts a run: no words lent, no call made, no byte read.
 pub fn start() -> Run
-    ensures { λ r. ⌜ Sound (r .session) × (r .from ≡ 0) × (r .at ≡ 0) ⌝ }
-    ensures { λ r. ⌜ ((words later : List ℕ) → due words r later ≡ outputFrom (atStart words) Fresh later) ⌝ }
+    ensures { λ r. ⌜ Sound (r .session) × (r .session .from ≡ 0) × (r .session .at ≡ 0) ⌝ }
+    ensures { λ r. ⌜ ((words later : List ℕ) → due words (r .register) (r .session) later ≡ outputFrom (atStart words) Fresh later) ⌝ }
 {
     let register = fresh::fresh_register(0);
     let reading = command_lines::start();
@@ -69,13 +68,10 @@ pub fn start() -> Run
         reading,
         rest: Rest::Nothing,
         ended: false,
-    };
-    Run {
-        register,
-        session,
         from: 0,
         at: 0,
-    }
+    };
+    Run { register, session }
 }
 
 // the number of the call after so many
@@ -161,80 +157,109 @@ fn put_piece(words: &[u32], out: &mut [u8], at: usize, lent: usize, rest: Rest) 
     }
 }
 
-// a run after a piece
-fn with_rest(r: Run, at: usize, rest: Rest) -> Run
-    ensures { λ q. ⌜ q ≡ withRest r at rest ⌝ }
+// a session after a piece
+fn with_rest(s: Session, at: usize, rest: Rest) -> Session
+    ensures { λ r. ⌜ r ≡ withRest s at rest ⌝ }
 {
-    let register = r.register;
-    let s = r.session;
     let reading = s.reading;
-    let session = Session {
+    Session {
         lent: s.lent,
         number: s.number,
         reading,
         rest,
         ended: s.ended,
-    };
-    Run {
-        register,
-        session,
-        from: r.from,
+        from: s.from,
         at,
     }
 }
 
-// a run after bytes that end no line
-fn part_line(r: Run, reading: Reading, next: usize) -> Run
-    ensures { λ q. ⌜ q ≡ partRead r reading next ⌝ }
+// a session after bytes that end no line
+fn part_line(s: Session, reading: Reading, next: usize) -> Session
+    ensures { λ r. ⌜ r ≡ partRead s reading next ⌝ }
 {
-    let register = r.register;
-    let s = r.session;
     let rest = s.rest;
-    let session = Session {
+    Session {
         lent: s.lent,
         number: s.number,
         reading,
         rest,
         ended: s.ended,
-    };
-    Run {
-        register,
-        session,
         from: next,
-        at: r.at,
+        at: s.at,
     }
 }
 
-// an ill-formed line: it ends the run
-fn bad_line(out: &mut [u8], r: Run, next: usize) -> Run
-    requires { ⌜ r .at + room ≤ length (now out) ⌝ }
-    ensures { λ q. ⌜ Put (now (out .entry)) (r .at) (badLine (nextNumber (r .session .number))) (now (out .exit)) (q .at) ⌝ }
-    ensures { λ q. ⌜ q ≡ stopped r next (q .at) ⌝ }
+// A step's session, and the command that is to be called next: Ill for none.
+struct Moved {
+    session: Session,
+    call: Command,
+}
+
+// a whole line; an ill-formed one ends the run
+fn whole_line(out: &mut [u8], s: Session, c: Command, next: usize) -> Moved
+    requires { ⌜ (s .at + room ≤ length (now out)) × (pieces (s .rest) ≤ 0) ⌝ }
+    ensures { λ r. ⌜ (r .call ≡ c) × LineRead (now (out .entry)) s c next (now (out .exit)) (r .session) ⌝ }
 {
-    let register = r.register;
-    let mut session = r.session;
-    let at = answer_lines::write_bad(out, r.at, next_number(session.number));
-    session.ended = true;
-    Run {
-        register,
-        session,
-        from: next,
-        at,
+    let mut session = s;
+    session.from = next;
+    if let Command::Ill = c {
+        session.at = answer_lines::write_bad(out, s.at, next_number(s.number));
+        session.ended = true;
+        return Moved { session, call: c };
+    }
+    Moved { session, call: c }
+}
+
+// the input's next bytes, up to a newline
+fn read_line(out: &mut [u8], s: Session, input: &[u8]) -> Moved
+    requires { ⌜ Sound s × (s .at + room ≤ length (now out)) × (s .from < length (now input)) ⌝ }
+    requires { ⌜ (pieces (s .rest) ≤ 0) × (s .ended ≡ false) ⌝ }
+    ensures { λ r. ⌜ ((words : List ℕ) → Stepped (now (input .entry)) words (now (out .entry)) s (now (out .exit)) (r .session) (r .call)) ⌝ }
+{
+    let reading = s.reading;
+    let scanned = command_lines::scan(input, s.from, reading);
+    let piece = scanned.piece;
+    match piece {
+        Piece::Whole(c) => whole_line(out, s, c, scanned.next),
+        Piece::Part(so_far) => {
+            let session = part_line(s, so_far, scanned.next);
+            Moved {
+                session,
+                call: Command::Ill,
+            }
+        }
     }
 }
 
-// a command's line
-fn answer(words: &mut [u32], out: &mut [u8], r: Run, c: Command, next: usize) -> Run
-    requires { ⌜ Sound (r .session) × (length (now words) ≡ poolLimit) × (r .at + room ≤ length (now out)) ⌝ }
-    ensures { λ q. ⌜ Sound (q .session) × (q .from ≡ next) ⌝ }
-    ensures { λ q. ⌜ Answered (now (words .entry)) (now (out .entry)) r c (now (words .exit)) (now (out .exit)) q ⌝ }
+// one step: a piece, or else a line read
+fn step(words: &[u32], out: &mut [u8], s: Session, input: &[u8]) -> Moved
+    requires { ⌜ Sound s × (length (now words) ≡ poolLimit) × (s .at + sheetRoom ≤ length (now out)) ⌝ }
+    requires { ⌜ (s .from ≤ length (now input)) × (0 < workLeft s (length (now input))) ⌝ }
+    ensures { λ r. ⌜ Stepped (now (input .entry)) (now (words .entry)) (now (out .entry)) s (now (out .exit)) (r .session) (r .call) ⌝ }
 {
-    let s = r.session;
+    let rest = s.rest;
+    if 0 < pieces(rest) {
+        let written = put_piece(words, out, s.at, s.lent, rest);
+        let later = written.rest;
+        let session = with_rest(s, written.next, later);
+        return Moved {
+            session,
+            call: Command::Ill,
+        };
+    }
+    read_line(out, s, input)
+}
+
+// a command's call, and its line
+fn answer(words: &mut [u32], out: &mut [u8], register: Register, s: Session, c: Command) -> Run
+    requires { ⌜ Sound s × (length (now words) ≡ poolLimit) × (s .at + room ≤ length (now out)) ⌝ }
+    ensures { λ q. ⌜ Sound (q .session) × (q .session .from ≡ s .from) ⌝ }
+    ensures { λ q. ⌜ Answered (now (words .entry)) (now (out .entry)) register s c (now (words .exit)) (now (out .exit)) (q .register) (q .session) ⌝ }
+{
     let number = next_number(s.number);
-    let register = r.register;
     let done = commands::perform(words, s.lent, register, c);
     let said = done.said;
-    let at = answer_lines::write_line(out, r.at, number, answer_lines::letter_of(c), said);
+    let at = answer_lines::write_line(out, s.at, number, answer_lines::letter_of(c), said);
     let lent = done.lent;
     let rest = to_write(words, lent, c, said);
     let reading = command_lines::start();
@@ -244,63 +269,22 @@ fn answer(words: &mut [u32], out: &mut [u8], r: Run, c: Command, next: usize) ->
         reading,
         rest,
         ended: false,
+        from: s.from,
+        at,
     };
     let left = done.register;
     Run {
         register: left,
         session,
-        from: next,
-        at,
     }
-}
-
-// the input's next bytes, up to a newline
-fn next_line(words: &mut [u32], out: &mut [u8], r: Run, input: &[u8]) -> Run
-    requires { ⌜ Sound (r .session) × (length (now words) ≡ poolLimit) × (r .at + room ≤ length (now out)) × (r .from < length (now input)) ⌝ }
-    requires { ⌜ (pieces (r .session .rest) ≤ 0) × (r .session .ended ≡ false) ⌝ }
-    ensures { λ q. ⌜ Sound (q .session) × (q .at ≤ length (now (out .exit))) × (r .from < q .from) × (q .from ≤ length (now (input .entry))) ⌝ }
-    ensures { λ q. ⌜ Prints (now (input .entry)) (now (words .entry)) (now (out .entry)) r (now (words .exit)) (now (out .exit)) q ⌝ }
-{
-    let s = r.session;
-    let reading = s.reading;
-    let scanned = command_lines::scan(input, r.from, reading);
-    let piece = scanned.piece;
-    match piece {
-        Piece::Whole(c) => {
-            if let Command::Ill = c {
-                return bad_line(out, r, scanned.next);
-            }
-            answer(words, out, r, c, scanned.next)
-        }
-        Piece::Part(so_far) => part_line(r, so_far, scanned.next),
-    }
-}
-
-// one step: a piece, or else a line
-fn step(words: &mut [u32], out: &mut [u8], r: Run, input: &[u8]) -> Run
-    requires { ⌜ Sound (r .session) × (length (now words) ≡ poolLimit) × (r .at + sheetRoom ≤ length (now out)) ⌝ }
-    requires { ⌜ (r .from ≤ length (now input)) × (0 < workLeft r (length (now input))) ⌝ }
-    ensures { λ q. ⌜ Sound (q .session) × (q .at ≤ length (now (out .exit))) × (q .from ≤ length (now (input .entry))) ⌝ }
-    ensures { λ q. ⌜ workLeft q (length (now (input .entry))) < workLeft r (length (now (input .entry))) ⌝ }
-    ensures { λ q. ⌜ Prints (now (input .entry)) (now (words .entry)) (now (out .entry)) r (now (words .exit)) (now (out .exit)) q ⌝ }
-{
-    let s = r.session;
-    let rest = s.rest;
-    if 0 < pieces(rest) {
-        let written = put_piece(words, out, r.at, s.lent, rest);
-        let later = written.rest;
-        return with_rest(r, written.next, later);
-    }
-    next_line(words, out, r, input)
 }
 
 // Answers what is left to do on an input: pieces to write, or else bytes to read.
-pub fn left(r: Run, input: &[u8]) -> usize
-    requires { ⌜ r .from ≤ length (now input) ⌝ }
-    ensures { λ n. ⌜ n ≤ workLeft r (length (now (input .entry))) ⌝ }
-    ensures { λ n. ⌜ (n ≡ 0 → workLeft r (length (now (input .entry))) ≡ 0) ⌝ }
+pub fn left(s: Session, input: &[u8]) -> usize
+    requires { ⌜ s .from ≤ length (now input) ⌝ }
+    ensures { λ n. ⌜ n ≤ workLeft s (length (now (input .entry))) ⌝ }
+    ensures { λ n. ⌜ (n ≡ 0 → workLeft s (length (now (input .entry))) ≡ 0) ⌝ }
 {
-    let s = r.session;
     let rest = s.rest;
     let count = pieces(rest);
     if count != 0 {
@@ -309,25 +293,37 @@ pub fn left(r: Run, input: &[u8]) -> usize
     if s.ended {
         return 0;
     }
-    input.len() - r.from
+    input.len() - s.from
 }
 
 // Runs on through an input, as far as there is room for the output. With room for any piece it makes progress. What it puts is the beginning of
-// what documents 01 and 02 print of the input (specs, Output), wherever one input ends and the next begins.
+// what documents 01 and 02 print of the input (specs, Output), wherever one input ends and the next begins. The register is moved by a call alone.
 pub fn advance(words: &mut [u32], out: &mut [u8], r: Run, input: &[u8]) -> Run
-    requires { ⌜ Sound (r .session) × (length (now words) ≡ poolLimit) × (r .at ≤ length (now out)) × (r .from ≤ length (now input)) ⌝ }
-    ensures { λ q. ⌜ Sound (q .session) × (q .at ≤ length (now (out .exit))) × (q .from ≤ length (now (input .entry))) ⌝ }
-    ensures { λ q. ⌜ Onward (length (now (input .entry))) (length (now (out .entry))) r q ⌝ }
-    ensures { λ q. ⌜ Prints (now (input .entry)) (now (words .entry)) (now (out .entry)) r (now (words .exit)) (now (out .exit)) q ⌝ }
+    requires { ⌜ Sound (r .session) × (length (now words) ≡ poolLimit) × (r .session .at ≤ length (now out)) × (r .session .from ≤ length (now input)) ⌝ }
+    ensures { λ q. ⌜ Sound (q .session) × (q .session .at ≤ length (now (out .exit))) × (q .session .from ≤ length (now (input .entry))) ⌝ }
+    ensures { λ q. ⌜ Onward (length (now (input .entry))) (length (now (out .entry))) (r .session) (q .session) ⌝ }
+    ensures { λ q. ⌜ Prints (now (input .entry)) (now (words .entry)) (now (out .entry)) (r .register) (r .session) (now (words .exit)) (now (out .exit)) (q .register) (q .session) ⌝ }
 {
-    let mut run = r;
-    while 0 < left(run, input) {
-        if out.len() - run.at < page::SHEET_ROOM {
-            return run;
+    let mut register = r.register;
+    let mut session = r.session;
+    while 0 < left(session, input) {
+        if out.len() - session.at < page::SHEET_ROOM {
+            return Run { register, session };
         }
-        run = step(words, out, run, input);
+        let after = step(words, out, session, input);
+        let read = after.session;
+        session = read;
+        let c = after.call;
+        if let Command::Ill = c {
+            continue;
+        }
+        let answered = answer(words, out, register, read, c);
+        let left = answered.register;
+        register = left;
+        let kept = answered.session;
+        session = kept;
     }
-    run
+    Run { register, session }
 }
 
 // Answers whether a line has begun that the input does not end.

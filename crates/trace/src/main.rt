@@ -22,11 +22,11 @@ fn run(words: &mut [u32], out: &mut [u8], r: Run, input: &[u8]) -> Run
     ensures { λ q. ⌜ Sound (q .session) ⌝ }
 {
     let mut run = r;
-    run.from = 0;
-    while 0 < session::left(run, input) {
-        run.at = 0;
+    run.session.from = 0;
+    while 0 < session::left(run.session, input) {
+        run.session.at = 0;
         run = session::advance(words, out, run, input);
-        write_out(out, run.at);
+        write_out(out, run.session.at);
     }
     run
 }

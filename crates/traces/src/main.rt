@@ -32,11 +32,11 @@ fn output(words: &mut [u32], out: &mut [u8], input: &[u8]) -> usize
     let s = r.session;
     if session::unfinished(s) {
         let mut last = r;
-        last.from = 0;
+        last.session.from = 0;
         let q = session::advance(words, out, last, b"\n");
-        return q.at;
+        return q.session.at;
     }
-    r.at
+    r.session.at
 }
 
 // the number of the line after a byte

@@ -29,13 +29,12 @@ write-line-requires c κs = search needs
 to-write-requires : tie.Need-to-write-requires
 to-write-requires c κs =
     let c8 = c .before .before .before .before .before .before .before .before in
-    let c15 = c8 .before .before .before .before .before .before .before in
-    let a = c15 .args in
-    let lent = a .r .session .lent in
+    let c13 = c8 .before .before .before .before .before in
+    let a = c13 .args in
     let p = c8 .perform in
-    let h = c15 .pre .0 .lent in
-    let f = kept-fits lent (triedWords lent (a .c)) (says (p .result .said)) h (tried-fits lent (a .c) h) in
-    (rw (p .ensures .1 .1 .0) f, c .before .before .before .before .before .before .before .words .given ∙ c15 .pre .1)
+    let h = c13 .pre .0 .lent in
+    let f = kept-fits (a .s .lent) (triedWords (a .s .lent) (a .c)) (says (p .result .said)) h (tried-fits (a .s .lent) (a .c) h) in
+    (rw (p .ensures .1 .1 .0) f, c .before .before .before .before .before .before .before .words .given ∙ c13 .pre .1)
 
 start-requires : tie.Need-start-requires
 start-requires c κs = search needs
@@ -50,20 +49,19 @@ returns : tie.Need-returns
 unfolding answerTo afterCommand
 returns c =
     let w = c .before .before .to-write in
-    let c7 = c .before .before .before .before .before .before .before in
-    let c11 = c7 .before .before .before .before in
-    let c14 = c11 .before .before .before in
-    let c18 = c14 .before .before .before .before in
+    let c6 = c .before .before .before .before .before .before in
+    let c11 = c6 .before .before .before .before .before in
+    let c16 = c11 .before .before .before .before .before in
     let p = c11 .perform .ensures in
-    let a = c18 .args in
-    let lent = a .r .session .lent in
-    let h = c18 .pre .0 .lent in
-    let f = kept-fits lent (triedWords lent (a .c)) (says (c11 .perform .result .said)) h (tried-fits lent (a .c) h) in (
+    let n = c11 .before .before .next-number .ensures in
+    let a = c16 .args in
+    let h = c16 .pre .0 .lent in
+    let f = kept-fits (a .s .lent) (triedWords (a .s .lent) (a .c)) (says (c11 .perform .result .said)) h (tried-fits (a .s .lent) (a .c) h) in (
       (record { lent = rw (p .1 .1 .0) f; rest = w .ensures .0 }, refl),
       record {
-        line = rw (c14 .next-number .ensures, c7 .letter-of .ensures, p .0) at (c .before .before .before .before .before .before .write-line .ensures);
+        line = rw (n, c6 .before .letter-of .ensures, p .0) at (c6 .write-line .ensures);
         adds = rw (p .0) at (w .ensures .1);
-        kept = rw (p .1 .1 .1, p .1 .0, p .1 .1 .0, p .0, c14 .next-number .ensures);
+        kept = rw (p .1 .1 .1, p .1 .0, p .1 .1 .0, p .0, n);
         reading = c .before .start .ensures;
         going = refl;
       },

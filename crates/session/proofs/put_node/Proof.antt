@@ -1,7 +1,7 @@
 use mathlib.Core.Path.{refl, sym}
 use native.Mathlib.Omega.{arith}
 use lib.ListN.{take}
-use Rattle.session.specs.Steps.{lent-length, node-part}
+use Rattle.session.specs.Laws.{lent-length, node-part}
 use borrow.Author.Needs.{needs}
 use Rattle.session.proofs.put_node.Statement.{statement}
 use Rattle.session.proofs.put_node.Tie as tie

@@ -2,7 +2,7 @@ use mathlib.Core.Path.{refl, sym}
 use native.Mathlib.Omega.{arith}
 use lib.ListN.{take}
 use Rattle.page.specs.Sheets.{sheet-room, sheet-part}
-use Rattle.session.specs.Steps.{lent-length}
+use Rattle.session.specs.Laws.{lent-length}
 use borrow.Author.Needs.{needs}
 use Rattle.session.proofs.put_sheet.Statement.{statement}
 use Rattle.session.proofs.put_sheet.Tie as tie

@@ -15,7 +15,7 @@ use Rattle.answer_lines.specs.declared.Said.the-variants as said
 use Rattle.answer_lines.specs.Text.{says}
 use Rattle.page.specs.Sheets.{page-sheets}
 use Rattle.session.specs.Output.{isOk, listing}
-use Rattle.session.specs.Steps.{lent-length, rest-nodes}
+use Rattle.session.specs.Laws.{lent-length, rest-nodes}
 use borrow.Author.Needs.{needs}
 use Rattle.session.proofs.to_write.Statement.{statement}
 use Rattle.session.proofs.to_write.Tie as tie

@@ -3,7 +3,8 @@ use mathlib.Core.Path.{_≡_, refl, _∙_}
 use lib.ListN.{length}
 use borrow.Author.Needs.{needs}
 use Rattle.page.specs.Sheets.{sheetRoom}
-use Rattle.session.specs.Steps.{Sound, at-most}
+use Rattle.session.specs.Steps.{Sound}
+use Rattle.session.specs.Laws.{at-most}
 use Rattle.trace.proofs.run_all.Statement.{statement}
 use Rattle.trace.proofs.run_all.Tie as tie
 use Rattle.trace.proofs.run_all.Reads as reads
