@@ -1,11 +1,13 @@
--- Worked lines, checked by computation: lines of 01's run, a next ticket, a refusal and an ill-formed line. Quoted `\t` is a tab.
+-- Worked lines, checked by computation: lines of 01's run, a next ticket, a refusal, an ill-formed line; the letters; L's lines. Quoted `\t` is a tab.
 use Prim.Native.Char.{code}
 use mathlib.Core.Path.{_≡_, refl}
+use mathlib.Core.List.{[], _∷_, map}
 use Rattle.datatypes.specs.declared.Link.the-variants.{Root, Left, Right}
 use Rattle.spec.specs.Calls.{ok, found, next, more, done, refused}
+use Rattle.command_fields.specs.declared.Command.the-variants as command
 use Rattle.texts.specs.Ascii.{text}
 use Rattle.texts.specs.Decimal.{digits, decimal}
-use Rattle.answer_lines.specs.Text.{linkText, lineOf, badLine}
+use Rattle.answer_lines.specs.Text.{linkText, letterOf, lineOf, badLine}
 
 line-1 : lineOf 1 (code "P") ok ≡ text "1\tP\tok\t-\t-\n"
 unfolding digits decimal lineOf
@@ -38,3 +40,17 @@ line-refused = refl
 line-bad : badLine 10 ≡ text "10\t-\tbad\t-\t-\n"
 unfolding digits decimal badLine
 line-bad = refl
+
+letters :
+    map letterOf (command.SetUp 8 ∷ command.Insert 3 30 ∷ command.Delete 3 ∷ command.Write ∷ command.Begin 0 1 ∷ command.BeginNext 0 1 ∷ command.Turn 0
+    ∷ command.GiveUp 0 ∷ command.Show ∷ command.Page ∷ command.Ill ∷ [])
+    ≡ text "PIDWBSRETL-"
+letters = refl
+
+line-page : lineOf 15 (letterOf command.Page) ok ≡ text "15\tL\tok\t-\t-\n"
+unfolding digits decimal lineOf
+line-page = refl
+
+line-no-page : lineOf 1 (letterOf command.Page) (refused 1) ≡ text "1\tL\tno\t-\t1\n"
+unfolding digits decimal lineOf
+line-no-page = refl

@@ -1,7 +1,10 @@
 -- Worked lines, checked by computation: 01's and 02's commands and the edges of 'ill-formed'. Quoted `\t` is a tab.
+use Prim.Native.Nat.{ℕ, zero, suc}
 use Prim.Native.String.{String}
 use mathlib.Core.Path.{_≡_, refl}
+use mathlib.Core.Bool.{Bool, true, false, cond}
 use mathlib.Core.List.{List, [], _∷_}
+use lib.ListN.{replicate}
 use Rattle.texts.specs.Ascii.{text}
 use Rattle.command_fields.specs.declared.Command.{Command}
 use Rattle.command_fields.specs.declared.Command.the-variants.{SetUp, Insert, Delete, Write, Begin, BeginNext, Turn, GiveUp, Show, Page, Ill}
@@ -19,7 +22,44 @@ well-formed = refl
 
 -- no letter; missing, extra and empty fields; a tab at the end; blanks, CR and other bytes; two letters; a small one; too large
 ill-formed :
-    commandsOf ("" ∷ "P" ∷ "P\t1\t2" ∷ "I\t1" ∷ "I\t\t1" ∷ "W\t" ∷ "L\t1" ∷ "P 8" ∷ "W\r" ∷ "P\t+8" ∷ "PP\t8" ∷ "p\t8" ∷ "P\t4294967296" ∷ [])
-    ≡ Ill ∷ Ill ∷ Ill ∷ Ill ∷ Ill ∷ Ill ∷ Ill ∷ Ill ∷ Ill ∷ Ill ∷ Ill ∷ Ill ∷ Ill ∷ []
+    commandsOf ("" ∷ "P" ∷ "P\t1\t2" ∷ "I\t1" ∷ "I\t\t1" ∷ "W\t" ∷ "P 8" ∷ "W\r" ∷ "P\t+8" ∷ "PP\t8" ∷ "p\t8" ∷ "P\t4294967296" ∷ [])
+    ≡ replicate 12 Ill
 unfolding commandsOf firstField otherFields isDigit allDigits valueAfter numberOf withNone withOne withTwo commandOf
 ill-formed = refl
+
+-- the same of L, which has no field
+ill-formed-page :
+    commandsOf ("L\t" ∷ "L\t1" ∷ "L\t1\t2" ∷ "L\t1\t2\t3" ∷ "L " ∷ "L\r" ∷ "LL" ∷ "l" ∷ " L" ∷ "\tL" ∷ []) ≡ replicate 10 Ill
+unfolding commandsOf firstField otherFields isDigit allDigits valueAfter numberOf withNone withOne withTwo commandOf
+ill-formed-page = refl
+
+-- Of all bytes these are the letters of a command with no field, with one and with two.
+isIll : Command → Bool
+isIll (SetUp n) = false
+isIll (Insert k v) = false
+isIll (Delete k) = false
+isIll Write = false
+isIll (Begin s k) = false
+isIll (BeginNext s k) = false
+isIll (Turn s) = false
+isIll (GiveUp s) = false
+isIll Show = false
+isIll Page = false
+isIll Ill = true
+
+-- the bytes from b on, so many of them, that begin a command's line with these bytes after it
+lettersFrom : (b count : ℕ) → List ℕ → List ℕ
+lettersFrom b zero t = []
+lettersFrom b (suc k) t = cond (isIll (commandOf (b ∷ t))) (lettersFrom (suc b) k t) (b ∷ lettersFrom (suc b) k t)
+
+letters-none : lettersFrom 0 256 [] ≡ text "LTW"
+unfolding isIll lettersFrom firstField otherFields isDigit allDigits valueAfter numberOf withNone withOne withTwo commandOf
+letters-none = refl
+
+letters-one : lettersFrom 0 256 (text "\t1") ≡ text "DEPR"
+unfolding isIll lettersFrom firstField otherFields isDigit allDigits valueAfter numberOf withNone withOne withTwo commandOf
+letters-one = refl
+
+letters-two : lettersFrom 0 256 (text "\t1\t2") ≡ text "BIS"
+unfolding isIll lettersFrom firstField otherFields isDigit allDigits valueAfter numberOf withNone withOne withTwo commandOf
+letters-two = refl

@@ -1,17 +1,18 @@
 -- Worked pages, checked by computation.
-use Prim.Native.Nat.{ℕ, zero, suc, _*_}
+use Prim.Native.Nat.{ℕ, zero, suc, _+_, _*_}
 use mathlib.Core.Path.{_≡_, refl}
 use mathlib.Core.Bool.{true}
 use mathlib.Core.List.{List, [], _∷_, _++_}
 use lib.Dec.{ltb}
 use borrow.Author.Tests.{ltb-true}
-use lib.ListN.{length, drop}
+use lib.ListN.{take, drop, replicate}
 use Rattle.spec.specs.Pool.{word, freshNodes, freshPool}
 use Rattle.texts.specs.Ascii.{text}
 use Rattle.texts.specs.Decimal.{digits, decimal, decimal-short}
 use Rattle.texts.specs.Column.{rightIn}
 use Rattle.page_order.specs.Listed.{before, insert, listedTo, listed}
-use Rattle.page.specs.Page.{formFeed, column, columns, headLine, pageLine, pageLines, page}
+use Rattle.page_order.specs.Large.{largePool, large-listed}
+use Rattle.page.specs.Page.{column, columns, headLine, pageLine, pageLines, page}
 
 -- a number of at most ten digits, for computation
 ten : (n : ℕ) → ltb n 10_000_000_000 ≡ true → decimal n ≡ digits 10 n
@@ -27,6 +28,7 @@ node k v l r c s = k ∷ v ∷ l ∷ r ∷ c ∷ s ∷ 0 ∷ 0 ∷ []
 free : List ℕ
 free = node 0 0 0 0 0 0
 
+-- an empty index: the head alone
 empty-page : page (freshPool 8) ≡ head
 unfolding head word freshNodes freshPool listedTo listed rightIn column columns headLine pageLines page
 empty-page = refl
@@ -43,23 +45,23 @@ three-page : page three
 unfolding head free three word digits decimal before insert listedTo listed rightIn column columns headLine pageLine pageLines page
 three-page = refl
 
--- keys rise, whatever the nodes' numbers; retired and free nodes have no line
-mixed-page : page (node 7 1 0 0 0 1 ++ (node 5 2 0 0 0 2 ++ (node 6 3 0 0 0 0 ++ (node 4 4 0 0 1 1 ++ node 9 5 0 0 0 1))))
+-- keys rise, whatever the nodes' numbers; retired and free nodes have no line; red nodes with children, on one side and on both
+mixed-page : page (node 7 1 4 0 1 1 ++ (node 5 2 0 0 0 2 ++ (node 6 3 0 0 0 0 ++ (node 4 4 1 5 1 1 ++ node 9 5 0 1 0 1))))
     ≡ head
-    ++ (text "   4           4           4  R     0     0\n"
-    ++ (text "   1           7           1  B     0     0\n"
-    ++ text "   5           9           5  B     0     0\n"))
+    ++ (text "   4           4           4  R     1     5\n"
+    ++ (text "   1           7           1  R     4     0\n"
+    ++ text "   5           9           5  B     0     1\n"))
 unfolding head word digits decimal before insert listedTo listed rightIn column columns headLine pageLine pageLines page
 mixed-page = refl
 
--- equal keys stand in rising node
-equal-page : page (node 8 3 0 0 0 1 ++ (node 5 2 0 0 0 1 ++ (node 8 1 0 0 1 1 ++ (node 2 7 0 0 0 1 ++ node 8 0 0 0 0 1))))
+-- equal keys stand in rising node, whatever record and colour
+equal-page : page (node 8 3 0 0 0 1 ++ (node 8 7 0 0 1 1 ++ (node 5 2 0 0 0 1 ++ (node 8 1 0 0 0 1 ++ node 2 7 0 0 0 1))))
     ≡ head
-    ++ (text "   4           2           7  B     0     0\n"
-    ++ (text "   2           5           2  B     0     0\n"
+    ++ (text "   5           2           7  B     0     0\n"
+    ++ (text "   3           5           2  B     0     0\n"
     ++ (text "   1           8           3  B     0     0\n"
-    ++ (text "   3           8           1  R     0     0\n"
-    ++ text "   5           8           0  B     0     0\n"))))
+    ++ (text "   2           8           7  R     0     0\n"
+    ++ text "   4           8           1  B     0     0\n"))))
 unfolding head word digits decimal before insert listedTo listed rightIn column columns headLine pageLine pageLines page
 equal-page = refl
 
@@ -89,20 +91,66 @@ each-page : page (node 9 10 1 12 0 1 ++ (node 99 100 123 999 0 1 ++ (node 999 10
 unfolding head word digits before insert listedTo listed rightIn column columns headLine pageLine pageLines page
 each-page = simp ten
 
--- k nodes with keys that rise from the one given
-rows : ℕ → ℕ → List ℕ
-rows zero key = []
-rows (suc k) key = node key 0 0 0 0 1 ++ rows k (suc key)
+-- nodes of one digit to four, in a pool of 1,023
+large-page : page largePool
+    ≡ head
+    ++ (text "1023           0           0  B     0     0\n"
+    ++ (text " 255           3           0  B     0     0\n"
+    ++ (text "   9           7           0  B     0     0\n"
+    ++ (text "  10           7           0  B     0     0\n"
+    ++ (text "  99           7           0  B     0     0\n"
+    ++ (text " 100           7           0  B     0     0\n"
+    ++ (text " 256           7           0  B     0     0\n"
+    ++ (text " 999           7           0  B     0     0\n"
+    ++ (text "1000           7           0  B     0     0\n"
+    ++ text "   1           9           0  B     0     0\n")))))))))
+unfolding head largePool word digits decimal rightIn column columns headLine pageLine pageLines page
+large-page = rw large-listed refl
 
--- 60 lines: the head and no form feed; 61: one before the second head; 120 and 121 likewise
-sixty-page : length (page (rows 60 1)) ≡ 61 * 44
-unfolding rows word digits decimal before insert listedTo listed rightIn column columns headLine pageLine pageLines page
+-- Sheets. A line and its newline are 44 bytes, a form feed is byte 12.
+-- k nodes after a free one, with keys that fall to 1,001: line i is that of key 1,000 + i
+fall : ℕ → List ℕ
+fall zero = []
+fall (suc k) = node (1001 + k) 0 0 0 0 1 ++ fall k
+
+-- 60 lines: from the last line on
+sixty-page : drop (60 * 44) (page (free ++ fall 60)) ≡ text "   2        1060           0  B     0     0\n"
+unfolding free fall word digits decimal before insert listedTo listed rightIn column columns headLine pageLine pageLines page
 sixty-page = refl
 
-sixty-one-page : drop (61 * 44) (page (rows 61 1)) ≡ formFeed ∷ (head ++ text "  61          61           0  B     0     0\n")
-unfolding head rows word digits decimal before insert listedTo listed rightIn column columns headLine pageLine pageLines page
+-- 61: from line 60 on; line 61 stands on a second sheet
+sixty-one-page : drop (60 * 44) (page (free ++ fall 61))
+    ≡ text "   3        1060           0  B     0     0\n" ++ (12 ∷ (head ++ text "   2        1061           0  B     0     0\n"))
+unfolding head free fall word digits decimal before insert listedTo listed rightIn column columns headLine pageLine pageLines page
 sixty-one-page = refl
 
-fifty-nine-page : drop (60 * 44) (page (rows 60 1)) ≡ text "  60          60           0  B     0     0\n"
-unfolding rows word digits decimal before insert listedTo listed rightIn column columns headLine pageLine pageLines page
-fifty-nine-page = refl
+-- 120: the last line of the second sheet
+second-full-page : drop (121 * 44 + 1) (page (free ++ fall 120)) ≡ text "   2        1120           0  B     0     0\n"
+unfolding free fall word digits decimal before insert listedTo listed rightIn column columns headLine pageLine pageLines page
+second-full-page = refl
+
+-- 121: from line 120 on; line 121 stands on a third sheet
+third-page : drop (121 * 44 + 1) (page (free ++ fall 121))
+    ≡ text "   3        1120           0  B     0     0\n" ++ (12 ∷ (head ++ text "   2        1121           0  B     0     0\n"))
+unfolding head free fall word digits decimal before insert listedTo listed rightIn column columns headLine pageLine pageLines page
+third-page = refl
+
+-- The most lines: those of nodes 1 to 1,023, of a pool without words, so that each word reads as 0. Of sheets 2 to 17 the form feed and the head, and then
+-- the last sheet.
+upFrom : (n count : ℕ) → List ℕ
+upFrom n zero = []
+upFrom n (suc k) = n ∷ upFrom (suc n) k
+
+sheetsOf : ℕ → List ℕ → List (List ℕ)
+sheetsOf zero t = t ∷ []
+sheetsOf (suc k) t = take 45 t ∷ sheetsOf k (drop (61 * 44 + 1) t)
+
+most-lines : sheetsOf 16 (drop (60 * 44) (pageLines [] 60 (upFrom 1 1023)))
+    ≡ replicate 16 (12 ∷ head)
+    ++ ((12 ∷ (head
+    ++ (text "1021           0           0  B     0     0\n"
+    ++ (text "1022           0           0  B     0     0\n"
+    ++ text "1023           0           0  B     0     0\n"))))
+    ∷ [])
+unfolding head upFrom sheetsOf word digits decimal rightIn column columns headLine pageLine pageLines
+most-lines = refl

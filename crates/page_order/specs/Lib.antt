@@ -1,4 +1,5 @@
 pub mod Listed
+pub mod Large
 pub mod Ranks
 pub mod Order
 pub mod Laws
