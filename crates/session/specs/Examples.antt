@@ -1,14 +1,16 @@
 -- Worked runs, checked by computation. Quoted `\t` is a tab. Runs with writes are stored (crate traces).
 use Prim.Native.Nat.{ℕ}
 use mathlib.Core.Path.{_≡_, refl}
-use mathlib.Core.List.{List, [], _∷_, _++_}
+use mathlib.Core.List.{List, [], _∷_, _++_, map}
 use lib.ListN.{replicate}
 use Rattle.base.specs.Walk.{allFrom, allIn}
 use Rattle.spec.specs.Pool.{word, nodeInRange, poolInRange, lengthRight}
 use Rattle.spec.specs.Register.{noReader, noWrite, withReader, storeInRange, registerInRange, freshRegister}
-use Rattle.spec.specs.Calls.{begin, writerTurn}
+use Rattle.spec.specs.Calls.{ok, begin, writerTurn}
 use Rattle.texts.specs.Ascii.{text}
 use Rattle.texts.specs.Decimal.{digits, decimal}
+use Rattle.command_fields.specs.declared.Command.{Command}
+use Rattle.command_fields.specs.declared.Command.the-variants as command
 use Rattle.command_fields.specs.Commands.{isDigit, withNone, withTwo}
 use Rattle.command_fields.specs.Taken.{withDigit, fieldTaken}
 use Rattle.command_lines.specs.declared.Reading.the-variants.{Fresh}
@@ -17,7 +19,7 @@ use Rattle.answer_lines.specs.Text.{lineOf, badLine}
 use Rattle.node_lines.specs.Shown.{nodesShown}
 use Rattle.page.specs.Page.{page}
 use Rattle.commands.specs.Performed.{shown, performed}
-use Rattle.session.specs.Output.{Kept, atStart, nextNumber, answerTo, afterCommand, callOutput, lineOutput, outputFrom}
+use Rattle.session.specs.Output.{Kept, atStart, nextNumber, answerTo, afterCommand, added, callOutput, lineOutput, outputFrom}
 
 -- Before P every call gives 1, L and T too, which then add nothing; after an ill-formed line, here one with a blank, nothing is read.
 before-set-up : outputFrom (atStart (replicate 64 0)) Fresh (text "L\nT\nW\nL \nW\n")
@@ -44,7 +46,7 @@ kept root =
       number = 14;
     }
 
--- T's lines and L's page after the line of each; the other commands add nothing.
+-- T's lines and L's page after the line of each, and nothing after another
 shown-run : outputFrom (kept 3) Fresh (text "T\nL\nB\t0\t1\n")
     ≡ text "15\tT\tok\t-\t-\n" ++ (nodesShown pool ++ (text "16\tL\tok\t-\t-\n" ++ (page pool ++ text "17\tB\tok\t-\t-\n")))
 unfolding allFrom allIn word nodeInRange poolInRange lengthRight withReader storeInRange registerInRange begin digits decimal isDigit withNone withTwo
@@ -56,3 +58,11 @@ refused-run : outputFrom (kept 9) Fresh (text "T\nL\n") ≡ text "15\tT\tno\t-\t
 unfolding allFrom allIn word nodeInRange poolInRange lengthRight storeInRange registerInRange digits decimal withNone taken lineOf shown performed
     nextNumber answerTo afterCommand callOutput lineOutput outputFrom
 refused-run = refl
+
+-- the other commands add nothing
+none-added :
+    map (λ (c : Command). added pool c ok)
+    (command.SetUp 8 ∷ command.Insert 1 2 ∷ command.Delete 1 ∷ command.Write ∷ command.Begin 0 1 ∷ command.BeginNext 0 1 ∷ command.Turn 0 ∷ command.GiveUp 0
+    ∷ command.Ill ∷ [])
+    ≡ replicate 9 []
+none-added = refl
