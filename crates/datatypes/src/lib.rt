@@ -82,8 +82,9 @@ pub enum Kind {
     Next,
 }
 
-// A reader slot's record: reading or not, the kind of search, the given key, the node it is at (0 before its first turn); and of a search for
-// the next ticket whether it remembers one, the best so far, with its key and record (`best`, `value`).
+// A reader slot's record: reading or not, the kind of search, the given key, the node it is at (0 before its first turn); of a search for the
+// next ticket whether it remembers one, the best so far, with its key and record (`best`, `value`); and how many nodes its turns have compared
+// (document 02, C-17).
 pub struct Reader {
     pub reading: bool,
     pub kind: Kind,
@@ -92,6 +93,7 @@ pub struct Reader {
     pub node: u32,
     pub best: u32,
     pub value: u32,
+    pub compared: u32,
 }
 
 // The register: root, free queue, counts, readers, awaited slots (one bit for each slot), the write in hand.
@@ -185,8 +187,16 @@ pub struct WriterReply {
     pub register: Register,
 }
 
-// What a reader's turn gives back.
+// What a reader's turn gives back; `compared` is how many nodes the slot's reading has compared, this turn's included, and 0 of a refused turn.
 pub struct ReaderReply {
     pub answer: ReaderAnswer,
     pub register: Register,
+    pub compared: u32,
+}
+
+// A camera's tally (document 02, C-17): its lookups and searches answered, the nodes that they compared, and the longest count of one of them.
+pub struct Tally {
+    pub answered: u32,
+    pub compared: u32,
+    pub longest: u32,
 }

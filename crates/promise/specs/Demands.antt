@@ -1,7 +1,7 @@
 -- Demands 2 and 3 as statements about whole lists of calls, in the words of 01. To check them no proof need be read: what they name is
 -- defined in crate `spec` (the calls, the plain list, the free queue), in crate `sequential` (the sequential tree), in Run, and in crate
 -- `base` (Lists: `_∈_`, Distinct). S is where the run starts: in 01's demands a pool of N nodes just set up (`Promise`, at the end).
-use Prim.Native.Nat.{ℕ, _+_, _<_, _≤_}
+use Prim.Native.Nat.{ℕ, _+_, _*_, _^_, _<_, _≤_}
 use mathlib.Core.Path.{_≡_}
 use mathlib.Core.Logic.{_≢_, _⊎_, _↔_}
 use mathlib.Core.Bool.{Bool, true, false, cond, not}
@@ -26,10 +26,10 @@ use Rattle.spec.specs.Pool.{standingFree, standingLinked, standingRetired, blac
 use Rattle.spec.specs.Register.{State, state, withReader, readerOf, storeOf, linkNode, hasSlot, begunReader}
 use Rattle.spec.specs.Turn.{profile}
 use Rattle.spec.specs.Calls.{Answer, go, absent, found, next, more, done, wait, refused, Outcome, unless, Call, writing, call, reading, writeInHand}
-use Rattle.spec.specs.Calls.{_gives_, wrongLength, outOfRange, slotTooHigh, readerStep, readerTurn}
+use Rattle.spec.specs.Calls.{_gives_, wrongLength, outOfRange, slotTooHigh, readerStep, readerTurn, turnCount}
 use Rattle.spec.specs.PlainList.{Ticket, carriedOut, noticeOf, recordFor, acceptedWrites}
 use Rattle.spec.specs.FreeQueue.{Queue}
-use Rattle.promise.specs.Run.{Start, justSetUp, Reads, callAt, indexAfter, plainAfter, ticketsAfter, Gives, Turns, Reading, Lookup, NextSearch}
+use Rattle.promise.specs.Run.{Start, justSetUp, Reads, callAt, indexAfter, plainAfter, ticketsAfter, Gives, Turns, Reading, Lookup, NextSearch, comparedIn}
 
 -- 'Lookup': found means that at one of the lookup's moments the plain list has the wanted key with just this record, absent that at one of
 -- them it doesn't have the key.
@@ -224,12 +224,27 @@ fullyTestedTurn st s =
 abbrev pub TurnsAlike : Start → List Call → Type 0
 TurnsAlike S cs = (j s : ℕ) → readerTurn (indexAfter S cs j) s ≡ fullyTestedTurn (indexAfter S cs j) s
 
+-- 02, C-17: how many nodes a lookup, or a search for the next ticket, reads. Its reading was begun by call i and has not ended when call j comes.
+pub record CountsRight (S : Start) (cs : List Call) : Type 0 where
+  -- no node is compared twice, by call j neither
+  pub once : (κ : Kind) (s k i j : ℕ) → Reading S cs κ s k i j → Distinct (comparedIn S cs s i (j + 1))
+  -- the slot's record counts the nodes compared; the reply of its turn that is call j counts this turn's too
+  pub counts : (κ : Kind) (s k i j : ℕ) → Reading S cs κ s k i j → readerOf (indexAfter S cs j .register) s .compared ≡ length (comparedIn S cs s i j)
+  pub replies : (κ : Kind) (s k i j : ℕ) (a : Answer) → Reading S cs κ s k i j → Turns S cs s j a → turnCount (indexAfter S cs j) s ≡ length (comparedIn S cs s i (j + 1))
+  -- the count never passes N, in a record or in the reply of a turn, of any slot after any call
+  pub most : (j s : ℕ) → (readerOf (indexAfter S cs j .register) s .compared ≤ S .size) × (turnCount (indexAfter S cs j) s ≤ S .size)
+  -- with no write in hand at any moment from begin to call j, and n keys held, the count h of a turn that is call j, its answer's among them:
+  -- 2 to the power h is at most (n + 1) squared
+  pub low : (κ : Kind) (s k i j : ℕ) → Reading S cs κ s k i j → ((t : ℕ) → i < t → t ≤ j → writeInHand (indexAfter S cs t) ≡ false)
+      → let n = indexAfter S cs j .register .held in 2 ^ turnCount (indexAfter S cs j) s ≤ (n + 1) * (n + 1)
+
 -- What holds of every list of calls from a start; for which starts: `promise-from` (crate theorem).
 pub record PromiseFrom (S : Start) (cs : List Call) : Type 0 where
   pub demand2 : Demand2 S cs
   pub demand3 : Demand3 S cs
   pub never : NeverMet S cs
   pub alike : TurnsAlike S cs
+  pub counted : CountsRight S cs
 
 -- What `promise` (crate theorem) says of every N from 8 to 1,023 and every list of calls: they start on a pool of N nodes just set up, with
 -- no ticket and the tree `leaf`.

@@ -4,16 +4,18 @@
 use Prim.Native.Nat.{ℕ, zero, suc, _<_}
 use mathlib.Core.Path.{_≡_}
 use mathlib.Core.Logic.{_⊎_}
-use mathlib.Core.Bool.{true}
-use mathlib.Core.List.{List, [], _∷_}
+use mathlib.Core.Bool.{true, cond}
+use mathlib.Core.List.{List, [], _∷_, _++_}
 use mathlib.Core.Option.{Option, none, some}
+use lib.Dec.{eqb, ltb}
 use Rattle.datatypes.specs.declared.Kind.{Kind}
 use Rattle.datatypes.specs.declared.Kind.the-variants as kind
+use Rattle.datatypes.specs.declared.Reader.{Reader}
 use Rattle.sequential.specs.Tree.{Tree, leaf}
 use Rattle.spec.specs.Pool.{nodes}
-use Rattle.spec.specs.Register.{State, fresh}
-use Rattle.spec.specs.Calls.{Answer, ok, absent, found, next, Call, beginning, turning, givingUp, call, reading, setUp}
-use Rattle.spec.specs.PlainList.{Ticket, Plain, noneAccepted, noticeOf, feed}
+use Rattle.spec.specs.Register.{State, fresh, readerOf}
+use Rattle.spec.specs.Calls.{Answer, ok, absent, found, next, Call, inserting, deleting, writing, beginning, turning, givingUp, call, reading, setUp}
+use Rattle.spec.specs.PlainList.{Ticket, Plain, noneAccepted, Notice, turnedDown, waited, carriedOut, noticeOf, feed}
 
 -- Where a run starts: N, pool and register, the sequential tree that stands there, and the plain list's tickets. 01's own start is `justSetUp N`.
 pub record Start : Type 0 where
@@ -58,6 +60,25 @@ thenPerhaps m (some c) = thenCall m c
 -- slot s is reading
 abbrev pub Reads : State → ℕ → Type 0
 Reads st s = reading st s ≡ true
+
+-- 02, C-17: the nodes compared for slot s after a call, those before it being `before` and the slot's record x. A turn of the slot that isn't
+-- refused compares the node that the record names, if it names one; no other call compares for it.
+abbrev pub withNamed : List ℕ → Reader → List ℕ
+withNamed before x = cond (eqb (x .node) 0) before (before ++ x .node ∷ [])
+
+abbrev pub thenCompared : List ℕ → ℕ → Reader → Notice → Call → List ℕ
+thenCompared before s x turnedDown c = before
+thenCompared before s x waited c = before
+thenCompared before s x carriedOut (turning t) = cond (eqb t s) (withNamed before x) before
+thenCompared before s x carriedOut (inserting k v) = before
+thenCompared before s x carriedOut (deleting k) = before
+thenCompared before s x carriedOut writing = before
+thenCompared before s x carriedOut (beginning κ t k) = before
+thenCompared before s x carriedOut (givingUp t) = before
+
+abbrev pub perhapsCompared : List ℕ → ℕ → State → Option Call → List ℕ
+perhapsCompared before s st none = before
+perhapsCompared before s st (some c) = thenCompared before s (readerOf (st .register) s) (noticeOf (call st c .answer)) c
 
 -- The run of a list of calls from a start.
 module _ (S : Start) (cs : List Call) where
@@ -106,3 +127,8 @@ module _ (S : Start) (cs : List Call) where
 
   abbrev pub NextSearch : ℕ → ℕ → ℕ → ℕ → Type 0
   NextSearch s g i j = Reading kind.Next s g i j
+
+  -- 02, C-17: the nodes compared for slot s by the calls after call i and before call j, in order
+  unfoldable pub comparedIn : ℕ → ℕ → ℕ → List ℕ
+  comparedIn s i zero = []
+  comparedIn s i (suc j) = cond (ltb i j) (perhapsCompared (comparedIn s i j) s (indexAfter j) (callAt cs j)) []

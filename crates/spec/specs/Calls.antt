@@ -1,6 +1,6 @@
 -- 01, 'Calls' and 'When a call is turned down': each call as its tests in order, with the number of each cause, and then what it does. 02, C-11:
 -- a slot may search for the next ticket. C-12: a reader's turn tests the register and one node. C-13: insert of a held key replaces its record, and
--- no cause has the number 8.
+-- no cause has the number 8. C-17: a reader's turn counts the nodes compared.
 use Prim.Native.Nat.{ℕ, _-_}
 use mathlib.Core.Bool.{Bool, true, false, cond, not, _&&_}
 use mathlib.Core.List.{List, [], _∷_}
@@ -20,7 +20,7 @@ use Rattle.datatypes.specs.declared.ReaderAnswer.{ReaderAnswer}
 use Rattle.datatypes.specs.declared.ReaderAnswer.the-variants as reader
 use Rattle.spec.specs.Numbers.{slots, pathBound, reserve, freeForInsert, freeForDelete}
 use Rattle.spec.specs.Pool.{word, child, recordAt, keyWord, nodes, nodeInRange, poolInRange, lengthRight}
-use Rattle.spec.specs.Register.{State, state, fresh, begunReader, movedReader, remembering, withReader, withWrite, readerOf, storeOf, registerInRange, writeOf, lessFirst}
+use Rattle.spec.specs.Register.{State, state, fresh, begunReader, movedReader, remembering, counting, withReader, withWrite, readerOf, storeOf, registerInRange, writeOf, lessFirst}
 use Rattle.spec.specs.Free.{endReading}
 use Rattle.spec.specs.Search.{towards, seek}
 use Rattle.spec.specs.Plan.{Plan, insertPlan, replacePlan, deletePlan}
@@ -241,11 +241,11 @@ atNode kind.Lookup st s x =
     (loaded st s x (childFor p x))
 atNode kind.Next st s x = loaded st s (afterComparing (st .pool) x) (childFor (st .pool) x)
 
--- Reader's turn. Before any node: load the root. At a node: by the kind of search.
+-- Reader's turn. Before any node: load the root. At a node: compare it, which counts one more (02, C-17), and go on by the kind of search.
 unfoldable pub readerStep : State → ℕ → Outcome
 readerStep st s =
     let x = readerOf (st .register) s in
-    cond (eqb (x .node) 0) (loaded st s x (st .register .root)) (atNode (x .kind) st s x)
+    cond (eqb (x .node) 0) (loaded st s x (st .register .root)) (atNode (x .kind) st s (counting x))
 
 abbrev pub readerTests : State → ℕ → List Test
 readerTests st s =
@@ -257,6 +257,13 @@ readerTests st s =
 
 unfoldable pub readerTurn : State → ℕ → Outcome
 readerTurn st s = unless (readerTests st s) st (readerStep st s)
+
+-- 02, C-17: how many nodes a reading has compared after the turn of a slot with the record x; and what the turn's reply says, 0 if it is refused.
+abbrev pub comparedBy : Reader → ℕ
+comparedBy x = cond (eqb (x .node) 0) (x .compared) (counting x .compared)
+
+unfoldable pub turnCount : State → ℕ → ℕ
+turnCount st s = cond (eqb (firstOf (readerTests st s)) 0) (comparedBy (readerOf (st .register) s)) 0
 
 -- Give up ends the reading.
 abbrev pub giveUpTests : State → ℕ → List Test

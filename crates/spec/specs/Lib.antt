@@ -7,4 +7,5 @@ pub mod Search
 pub mod Plan
 pub mod Turn
 pub mod Calls
+pub mod Tally
 pub mod PlainList

@@ -22,6 +22,10 @@ slots = 32
 abbrev pub wordBits : ℕ
 wordBits = 32
 
+-- 02, C-17: a count and a sum of 32 bits stay at the largest value.
+abbrev pub largestWord : ℕ
+largestWord = 4294967295
+
 -- 'Calls': a path from the root has at most 64 nodes.
 abbrev pub pathBound : ℕ
 pathBound = 64

@@ -15,7 +15,7 @@ use Rattle.datatypes.specs.declared.Kind.{Kind}
 use Rattle.datatypes.specs.declared.Kind.the-variants as kind
 use Rattle.datatypes.specs.declared.Reader.{Reader}
 use Rattle.datatypes.specs.declared.Register.{Register}
-use Rattle.spec.specs.Numbers.{slots, mostStores}
+use Rattle.spec.specs.Numbers.{slots, largestWord, mostStores}
 use Rattle.spec.specs.Pool.{word, setWord, leftWord, rightWord, freshPool}
 
 -- a pool with its register
@@ -26,21 +26,41 @@ pub record State : Type 0 where
 abbrev pub state : List ℕ → Register → State
 state p r = record { pool = p; register = r }
 
--- A reader record: of a slot that doesn't read, all 0. Of one that reads: its kind of search, the key given to it and the node that it is at, 0
--- before any; and (02, C-11) of a search for the next ticket whether it remembers a ticket, with its key (the best so far) and its record.
-abbrev pub noReader : Reader
-noReader = record { reading = false; kind = kind.Lookup; remembers = false; key = 0; node = 0; best = 0; value = 0 }
+-- A count at an end of its range goes no further; at 0 the difference stays 0.
+abbrev pub countUp : ℕ → ℕ → ℕ
+countUp capacity n = cond (ltb n capacity) (n + 1) n
 
--- as begin makes it; after a turn that loaded node n; with the key k and its record v remembered
+abbrev pub countDown : ℕ → ℕ
+countDown n = n - 1
+
+-- A reader record: of a slot that doesn't read, all 0. Of one that reads: its kind of search, the key given to it and the node that it is at, 0
+-- before any; (02, C-11) of a search for the next ticket whether it remembers a ticket, with its key (the best so far) and its record; and
+-- (02, C-17) how many nodes its turns have compared.
+abbrev pub noReader : Reader
+noReader = record { reading = false; kind = kind.Lookup; remembers = false; key = 0; node = 0; best = 0; value = 0; compared = 0 }
+
+-- as begin makes it; after a turn that loaded node n; with the key k and its record v remembered; with one more node compared
 abbrev pub begunReader : Kind → ℕ → Reader
-begunReader κ k = record { reading = true; kind = κ; remembers = false; key = k; node = 0; best = 0; value = 0 }
+begunReader κ k = record { reading = true; kind = κ; remembers = false; key = k; node = 0; best = 0; value = 0; compared = 0 }
 
 abbrev pub movedReader : Reader → ℕ → Reader
 movedReader x n =
-    record { reading = true; kind = x .kind; remembers = x .remembers; key = x .key; node = n; best = x .best; value = x .value }
+    record { reading = true; kind = x .kind; remembers = x .remembers; key = x .key; node = n; best = x .best; value = x .value; compared = x .compared }
 
 abbrev pub remembering : Reader → ℕ → ℕ → Reader
-remembering x k v = record { reading = true; kind = x .kind; remembers = true; key = x .key; node = x .node; best = k; value = v }
+remembering x k v = record { reading = true; kind = x .kind; remembers = true; key = x .key; node = x .node; best = k; value = v; compared = x .compared }
+
+abbrev pub counting : Reader → Reader
+counting x = record {
+  reading = x .reading;
+  kind = x .kind;
+  remembers = x .remembers;
+  key = x .key;
+  node = x .node;
+  best = x .best;
+  value = x .value;
+  compared = countUp largestWord (x .compared);
+}
 
 abbrev pub vacant : Store
 vacant = record { link = Root; step = Vacant }
@@ -76,13 +96,6 @@ readerOf r s = getD (r .readers) s noReader
 
 abbrev pub storeOf : Register → ℕ → Store
 storeOf r i = getD (r .write .stores) i vacant
-
--- A count at an end of its range goes no further; at 0 the difference stays 0.
-abbrev pub countUp : ℕ → ℕ → ℕ
-countUp capacity n = cond (ltb n capacity) (n + 1) n
-
-abbrev pub countDown : ℕ → ℕ
-countDown n = n - 1
 
 -- the node that a link holds, and the state with a link changed
 unfoldable pub nodeAt : List ℕ → ℕ → Link → ℕ
