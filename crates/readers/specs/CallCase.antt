@@ -13,7 +13,7 @@ use Rattle.datatypes.specs.declared.Kind.the-variants as kind
 use Rattle.datatypes.specs.declared.Reader.{Reader}
 use Rattle.spec.specs.Numbers.{slots}
 use Rattle.spec.specs.Pool.{word, keyWord, recordAt}
-use Rattle.spec.specs.Register.{State, state, readerOf, storeOf, withReader, withWrite, writeOf, begunReader, movedReader}
+use Rattle.spec.specs.Register.{State, state, readerOf, storeOf, withReader, withWrite, writeOf, begunReader, movedReader, counting}
 use Rattle.spec.specs.Free.{endReading}
 use Rattle.spec.specs.Turn.{stepFinds, stepMade}
 use Rattle.spec.specs.Calls.{ok, go, absent, wait, found, next, refused, Outcome, outcome, Test, _gives_, firstOf, unless}
@@ -24,14 +24,15 @@ use Rattle.spec.specs.Calls.{beginning, turning, givingUp, call, wrongLength, o
 use Rattle.promise.specs.Run.{Reads}
 use Rattle.readers.specs.Descends.{step-root, step-found, step-child, step-next, load-none, load-some}
 
--- the node n that slot s loads next, the root or the child by comparing; and the record y that it has compared with, what it remembers included
+-- the node n that slot s loads next, the root or the child by comparing; and the record y that it has compared with, what it remembers and
+-- counts included
 pub data Loads (st : State) (s : ℕ) (y : Reader) (n : ℕ) : Type 0 where
   atRoot : readerOf (st .register) s .node ≡ 0 → y ≡ readerOf (st .register) s → n ≡ st .register .root → Loads st s y n
   lookingUp : readerOf (st .register) s .kind ≡ kind.Lookup → readerOf (st .register) s .node ≢ 0
       → readerOf (st .register) s .key ≢ word (st .pool) (readerOf (st .register) s .node) keyWord
-      → y ≡ readerOf (st .register) s → n ≡ childFor (st .pool) (readerOf (st .register) s) → Loads st s y n
+      → y ≡ counting (readerOf (st .register) s) → n ≡ childFor (st .pool) (readerOf (st .register) s) → Loads st s y n
   searching : readerOf (st .register) s .kind ≡ kind.Next → readerOf (st .register) s .node ≢ 0
-      → y ≡ afterComparing (st .pool) (readerOf (st .register) s) → n ≡ childFor (st .pool) (readerOf (st .register) s) → Loads st s y n
+      → y ≡ afterComparing (st .pool) (counting (readerOf (st .register) s)) → n ≡ childFor (st .pool) (readerOf (st .register) s) → Loads st s y n
 
 pub record Passed (st : State) (s : ℕ) : Type 0 where
   pub low : s < slots

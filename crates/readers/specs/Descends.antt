@@ -15,7 +15,7 @@ use Rattle.datatypes.specs.declared.Kind.the-variants as kind
 use Rattle.datatypes.specs.declared.Reader.{Reader}
 use Rattle.spec.specs.Numbers.{slots}
 use Rattle.spec.specs.Pool.{word, child, keyWord, recordAt}
-use Rattle.spec.specs.Register.{State, state, readerOf, withReader, begunReader, movedReader}
+use Rattle.spec.specs.Register.{State, state, readerOf, withReader, begunReader, movedReader, counting}
 use Rattle.spec.specs.Free.{endReading}
 use Rattle.spec.specs.Search.{towards}
 use Rattle.spec.specs.Calls.{Answer, go, found, outcome, emptyAnswer, loaded, childFor, afterComparing, readerStep}
@@ -39,12 +39,12 @@ module _ (st : State) (s : ℕ) (x : Reader) (at : readerOf (st .register) s ≡
   step-found κ d e = rw (at, κ, ne-eqb (x .node) 0 d, eq-eqb (x .key) (word (st .pool) (x .node) keyWord) e)
 
   pub step-child : x .kind ≡ kind.Lookup → x .node ≢ 0 → x .key ≢ word (st .pool) (x .node) keyWord
-      → readerStep st s ≡ loaded st s x (childFor (st .pool) x)
+      → readerStep st s ≡ loaded st s (counting x) (childFor (st .pool) x)
   unfolding readerStep
   step-child κ d e = rw (at, κ, ne-eqb (x .node) 0 d, ne-eqb (x .key) (word (st .pool) (x .node) keyWord) e)
 
   pub step-next : x .kind ≡ kind.Next → x .node ≢ 0
-      → readerStep st s ≡ loaded st s (afterComparing (st .pool) x) (childFor (st .pool) x)
+      → readerStep st s ≡ loaded st s (afterComparing (st .pool) (counting x)) (childFor (st .pool) x)
   unfolding readerStep
   step-next κ d = rw (at, κ, ne-eqb (x .node) 0 d)
 
@@ -129,39 +129,47 @@ module _ (st : State) (perSlot : length (st .register .readers) ≡ slots) where
       let o = e ∙ load-some (posed x) 0 y c d in
       goes x a (ap (λ o. o .answer) o) (subst (λ z. Going st z a) (sym (ap (λ o. readerOf (o .after .register) 0) o ∙ again x (movedReader y c))) g)
 
-  -- A lookup.
+  -- A lookup of the key k, whatever its record counts.
   module _ (k : ℕ) where
-    abbrev looking : ℕ → Reader
-    looking n = movedReader (begunReader kind.Lookup k) n
+    record Looking (x : Reader) : Type 0 where
+      kind : x .kind ≡ kind.Lookup
+      key : x .key ≡ k
 
-    -- a link is loaded that unfolds to t
-    going-load : (n c : ℕ) (t : Linked) → turnOf st (looking n) ≡ loaded (posed (looking n)) 0 (looking n) c → Rep (st .pool) c t
-        → ((c ≢ 0) → Going st (looking c) (answerOf (find t k))) → Going st (looking n) (answerOf (find t k))
-    going-load n c nil e r next = going-none (looking n) (looking n) c e r
-    going-load n c (cell N l r) e h next =
+    -- a link is loaded that unfolds to t, by the record y
+    going-load : (x y : Reader) (c : ℕ) (t : Linked) → Looking y → turnOf st x ≡ loaded (posed x) 0 y c → Rep (st .pool) c t
+        → (c ≢ 0 → Going st (movedReader y c) (answerOf (find t k))) → Going st x (answerOf (find t k))
+    going-load x y c nil i e r next = subst (λ κ. Going st x (emptyAnswer κ y)) (i .kind) (going-none x y c e r)
+    going-load x y c (cell N l r) i e h next =
         let d : c ≢ 0 = (let i = h .0 .is in let j = h .0 .within .low in omega arith) in
-        going-some (looking n) (looking n) c (answerOf (find (cell N l r) k)) e d (next d)
+        going-some x y c (answerOf (find (cell N l r) k)) e d (next d)
 
-    going : (t : Linked) (n : ℕ) → Rep (st .pool) n t → n ≢ 0 → Going st (looking n) (answerOf (find t k))
-    going nil n h d = absurd (d h)
-    going (cell N l r) n h d =
+    going : (t : Linked) (x : Reader) → Looking x → Rep (st .pool) (x .node) t → x .node ≢ 0 → Going st x (answerOf (find t k))
+    going nil x i h d = absurd (d h)
+    going (cell N l r) x i h d =
         let p = st .pool in
+        let n = x .node in
+        let c = childFor p x in
         let w = h .0 in
         let key : word p n keyWord ≡ N .key = rw (w .is) (w .key-is) in
         let val : recordAt p n ≡ N .val = rw (w .is) (w .val-is) in
-        let step : k ≢ word p n keyWord → turnOf st (looking n) ≡ loaded (posed (looking n)) 0 (looking n) (child p (towards p k n) n) =
-        λ e. step-child (posed (looking n)) 0 (looking n) (there (looking n)) refl d e in
-        let left : ltb k (word p n keyWord) ≡ true → Rep p (child p (towards p k n) n) l = λ e. rw (e, w .is) (h .1) in
-        let right : ltb k (word p n keyWord) ≡ false → Rep p (child p (towards p k n) n) r = λ e. rw (e, w .is) (h .2) in
+        let wanted : x .key ≡ k = i .key in
+        let on : Looking (counting x) = record { kind = i .kind; key = i .key } in
+        let moved : Looking (movedReader (counting x) c) = record { kind = i .kind; key = i .key } in
+        let step : x .key ≢ word p n keyWord → turnOf st x ≡ loaded (posed x) 0 (counting x) c = λ e. step-child (posed x) 0 x (there x) (i .kind) d e in
+        let left : ltb (x .key) (word p n keyWord) ≡ true → Rep p c l = λ e. rw (e, w .is) (h .1) in
+        let right : ltb (x .key) (word p n keyWord) ≡ false → Rep p c r = λ e. rw (e, w .is) (h .2) in
         tri-case L k (N .key)
-        (λ o e. rw e (going-load n (child p (towards p k n) n) l (step (omega arith)) (left (lt-ltb k (word p n keyWord) (omega arith)))
-        (going l (child p (towards p k n) n) (left (lt-ltb k (word p n keyWord) (omega arith))))))
-        (λ o e. rw e (ends (looking n) (found (N .val)) (ap (λ x. x .answer) (step-found (posed (looking n)) 0 (looking n) (there (looking n)) refl d (omega arith)) ∙ ap found val)))
-        (λ o e. rw e (going-load n (child p (towards p k n) n) r (step (omega arith)) (right (le-ltb k (word p n keyWord) (omega arith)))
-        (going r (child p (towards p k n) n) (right (le-ltb k (word p n keyWord) (omega arith))))))
+        (λ o e. let u = left (lt-ltb (x .key) (word p n keyWord) (omega arith)) in
+        rw e (going-load x (counting x) c l on (step (omega arith)) u (going l (movedReader (counting x) c) moved u)))
+        (λ o e. rw e (ends x (found (N .val)) (ap (λ y. y .answer) (step-found (posed x) 0 x (there x) (i .kind) d (omega arith)) ∙ ap found val)))
+        (λ o e. let u = right (le-ltb (x .key) (word p n keyWord) (omega arith)) in
+        rw e (going-load x (counting x) c r on (step (omega arith)) u (going r (movedReader (counting x) c) moved u)))
 
     -- from the root: what the whole tree has
     pub going-root : (T : Linked) → Rep (st .pool) (st .register .root) T → Going st (begunReader kind.Lookup k) (answerOf (find T k))
     unfolding withReader
     going-root T h =
-        going-load 0 (st .register .root) T (step-root (posed (looking 0)) 0 (looking 0) (there (looking 0)) refl) h (λ d. going T (st .register .root) h d)
+        let x = begunReader kind.Lookup k in
+        let c = st .register .root in
+        going-load x x c T (record { kind = refl; key = refl }) (step-root (posed x) 0 x (there x) refl) h
+        (λ d. going T (movedReader x c) (record { kind = refl; key = refl }) h d)

@@ -12,7 +12,7 @@ use Rattle.datatypes.specs.declared.Kind.the-variants as kind
 use Rattle.datatypes.specs.declared.Reader.{Reader}
 use Rattle.spec.specs.Numbers.{slots}
 use Rattle.spec.specs.Pool.{word, keyWord}
-use Rattle.spec.specs.Register.{State, begunReader, movedReader, withReader}
+use Rattle.spec.specs.Register.{State, begunReader, movedReader, counting, withReader}
 use Rattle.spec.specs.Calls.{Answer, absent, next, emptyAnswer, loaded, childFor, afterComparing}
 use Rattle.spec.specs.PlainList.{Ticket as Listed, recordFor}
 use Rattle.promise.specs.Demands.{turnOf, Going, NextTicket, isNext, noNext}
@@ -59,20 +59,20 @@ module _ (st : State) (perSlot : length (st .register .readers) ≡ slots) (g : 
     remembers : RememberedHeld A g (rememberedBy x)
 
   -- it has compared its node and loads the child, which unfolds to u
-  on : (x : Reader) (t u : Linked) → x .node ≢ 0 → At x t → Rep (st .pool) (childFor (st .pool) x) u → At (movedReader (afterComparing (st .pool) x) (childFor (st .pool) x)) u
+  on : (x : Reader) (t u : Linked) → x .node ≢ 0 → At x t → Rep (st .pool) (childFor (st .pool) x) u → At (movedReader (afterComparing (st .pool) (counting x)) (childFor (st .pool) x)) u
   on x t u d a h = record {
     unfolds = h;
-    kind = comparing-fields (st .pool) x .0 ∙ a .kind;
-    key = comparing-fields (st .pool) x .1 ∙ a .key;
-    closes = rw (comparing-notes (st .pool) x, a .key) (turn-closes (st .pool) A (x .node) g (rememberedBy x) d (a .closes));
-    remembers = rw (comparing-notes (st .pool) x, a .key) (turn-remembers (st .pool) A (x .node) g (rememberedBy x) d (a .closes) (a .remembers));
+    kind = comparing-fields (st .pool) (counting x) .0 ∙ a .kind;
+    key = comparing-fields (st .pool) (counting x) .1 ∙ a .key;
+    closes = rw (comparing-notes (st .pool) (counting x), a .key) (turn-closes (st .pool) A (x .node) g (rememberedBy x) d (a .closes));
+    remembers = rw (comparing-notes (st .pool) (counting x), a .key) (turn-remembers (st .pool) A (x .node) g (rememberedBy x) d (a .closes) (a .remembers));
   }
 
   node-comes : (x : Reader) (t u : Linked) → x .node ≢ 0 → At x t → Rep (st .pool) (childFor (st .pool) x) u → ((y : Reader) → y .node ≢ 0 → At y u → Comes y) → Comes x
   node-comes x t u d a h further =
       let p = st .pool in
       let c = childFor p x in
-      let y = afterComparing p x in
+      let y = afterComparing p (counting x) in
       let b = on x t u d a h in
       load-comes x y c (step-next (posed st perSlot x) 0 x (there st perSlot x) (a .kind) d) (b .kind)
       (λ z. turn-answers p A c g (rememberedBy y) z (b .closes) (b .remembers)) (λ z. further (movedReader y c) z b)
