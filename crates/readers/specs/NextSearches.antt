@@ -4,7 +4,7 @@
 -- (c) the nodes compared so far and those still to come, but for the ones that are linked no longer, stand in this order on the root's own
 -- way, and what is remembered at each is at most what the root's way remembers there.
 use Prim.Native.Nat.{ℕ, _<_, _≤_}
-use mathlib.Core.Path.{_≡_, refl, sym, _∙_, subst}
+use mathlib.Core.Path.{_≡_, refl, sym, ap, _∙_, subst}
 use mathlib.Core.Logic.{_≢_, ⊎-elim}
 use mathlib.Core.Bool.{Bool, true, false, cond}
 use mathlib.Core.List.{List, [], _∷_, _++_, append-assoc}
@@ -25,7 +25,7 @@ use Rattle.tree.specs.Linked.{Linked, nil, cell, find, nodes}
 use Rattle.tree.specs.Graft.{All}
 use Rattle.tree.specs.Tickets.{Tickets, tickets-map, True}
 use Rattle.tree.specs.Marked.{_≺_, ≺-≼, Mark, met, nums, nums-append, ThinM, thinM-refl, thinM-trans, thinM-members}
-use Rattle.tree.specs.NextWay.{goes-case, way, above, way-nil, way-cell, above-nil, above-cell, way-nodes}
+use Rattle.tree.specs.NextWay.{goes-case, way, above, way-nil, way-cell, above-nil, above-cell, way-nodes, way-nums}
 use Rattle.tree.specs.NextGraft.{Trails, above-after, trails-after, all-way, graft-tickets, graft-has}
 use Rattle.tree.specs.Steady.{Sure}
 use Rattle.heap.specs.Rep.{Rep, rep-unique, not-below}
@@ -36,7 +36,7 @@ use Rattle.readers.specs.Lookups.{Unlinked, Store, new, whole-after, unf
 not-there : (m : ℕ) (t : Linked) (g : ℕ) (a : Option ℕ) → occ m (nodes t) ≡ 0 → ¬ (m ∈ nums (way t g a))
 not-there m t g a z i = let b = in-occ m (nodes t) (way-nodes t g a m i) in absurd (omega arith)
 
-way-once : (p : List ℕ) (t : Linked) (n g : ℕ) (m : Option ℕ) → Rep p n t → Distinct (nums (way t g m))
+pub way-once : (p : List ℕ) (t : Linked) (n g : ℕ) (m : Option ℕ) → Rep p n t → Distinct (nums (way t g m))
 way-once p nil n g m h = simp way-nil tt
 way-once p (cell N l r) n g m h =
     let b = not-below p n N l r h in
@@ -83,7 +83,7 @@ pub record OnTrail (p : List ℕ) (root : ℕ) (seen : List Mark) (n g : ℕ) (m
   pub trails : Trails (Unlinked p) seen tree m whole g
 
 -- what has been seen or is still to come matters
-member : (U : ℕ → Type 0) (seen : List Mark) (t : Linked) (g : ℕ) (m : Option ℕ) → ((i : ℕ) → i ∈ nums seen → U i) → All U t → (i : ℕ) → i ∈ nums (seen ++ way t g m) → U i
+pub member : (U : ℕ → Type 0) (seen : List Mark) (t : Linked) (g : ℕ) (m : Option ℕ) → ((i : ℕ) → i ∈ nums seen → U i) → All U t → (i : ℕ) → i ∈ nums (seen ++ way t g m) → U i
 member U seen t g m usable u i x = ⊎-elim (usable i) (all-way U t g m i u) (in-append i (nums seen) (nums (way t g m)) .0 (rw (nums-append seen (way t g m)) at x))
 
 module _ {p q : List ℕ} {U : ℕ → Type 0} {d : ℕ} {s : Side} {b root : ℕ} {T T′ : Linked} (h : Store p q U d s b root T T′) where
@@ -227,6 +227,13 @@ moved p A n g r (cell N x y) d h =
       held-on = λ i. i .2;
       noted-on = λ _ j. rw z j;
     })
+
+-- the nodes still to come: this one, and those from the child on
+pub visits-next : (p : List ℕ) (n g : ℕ) (t u : Linked) → n ≢ 0 → Rep p n t → Rep p (child p (towards p g n) n) u → nums (way t g none) ≡ n ∷ nums (way u g none)
+visits-next p n g t u d h i =
+    let x = moved p (λ k o. Unit {0}) n g Nothing t d h in
+    let same : x .on ≡ u = rep-unique p (x .on) u _ _ refl (x .unfolds) i in
+    ap nums (x .way-on) ∙ ap (n ∷_) (way-nums (x .on) g (keyIn (noting p g n Nothing)) none ∙ ap (λ y. nums (way y g none)) same)
 
 -- (a), (b) and (c) go on
 pub turn-closes : (p : List ℕ) (A : ℕ → Option ℕ → Type 0) (n g : ℕ) (r : Remembered) → n ≢ 0 → Closes p A n g (keyIn r)

@@ -1,19 +1,16 @@
 -- Linked trees without their numbers: sequential trees, with colours read off the nodes. Order, height and red-black facts of linked
 -- trees are those of the erased ones.
-use Prim.Native.Nat.{ℕ, _≤_}
+use Prim.Native.Nat.{ℕ, suc, max}
 use mathlib.Core.Path.{_≡_, refl, ap, _∙_}
 use mathlib.Core.Logic.{inl, inr}
 use mathlib.Core.List.{List, [], _∷_}
-use native.Mathlib.Omega.{arith}
-use lib.ListN.{length}
 use Rattle.datatypes.specs.declared.Side.{Side}
 use Rattle.datatypes.specs.declared.Side.the-variants.{L, R}
 use Rattle.sequential.specs.Tree as Seq
 use Rattle.sequential.specs.Tree.{Colour, Tree, leaf, node, mk}
-use Rattle.tree.specs.Order.{tri-case}
 use Rattle.tree.specs.Height.{height}
 use Rattle.base.specs.Lists.{_∈_, in-append}
-use Rattle.tree.specs.Linked.{Node, Linked, nil, cell, at, find, path, nodes}
+use Rattle.tree.specs.Linked.{Node, Linked, nil, cell, at, find, nodes}
 use Rattle.tree.specs.Zipper.{Frame, hole, plug, Into}
 use Rattle.tree.specs.Descent as Descent
 
@@ -49,10 +46,11 @@ erase-agree f g (cell N l r) h =
     let b = erase-agree f g r (λ n i. h n (inr (in-append n (nodes l) (nodes r) .1 (inr i)))) in
     cc (h (N .num) (inl refl))
 
--- a path is no longer than the tree is high (nothing cites it yet: for request C-17, with Height.height-bound)
-pub path-height : (f : ℕ → Colour) (t : Linked) (q : ℕ) → length (path t q) ≤ height (erase f t)
-path-height f nil q = omega arith
-path-height f (cell N l r) q =
-    let a = path-height f l q in
-    let b = path-height f r q in
-    tri-case L q (N .key) (λ _ e. rw e (omega arith)) (λ _ e. rw e (omega arith)) (λ _ e. rw e (omega arith))
+-- the nodes on the longest way down
+abbrev pub tall : Linked → ℕ
+tall nil = 0
+tall (cell N l r) = suc (max (tall l) (tall r))
+
+pub erase-height : (f : ℕ → Colour) (t : Linked) → height (erase f t) ≡ tall t
+erase-height f nil = refl
+erase-height f (cell N l r) = rw (erase-height f l, erase-height f r)

@@ -1,4 +1,4 @@
--- The height of a red-black tree, by its size: at most 20 with 1,023 keys. For the bound of 64 nodes on a path.
+-- The height of a red-black tree, by its size: at most 20 with 1,023 keys. For the bound of 64 nodes on a path, and for a lookup's count (C-17).
 use Prim.Native.Nat.{ℕ, suc, _+_, _*_, _^_, _<_, _≤_, max}
 use mathlib.Core.Path.{_≡_, refl}
 use native.Mathlib.Omega.{arith}
@@ -36,7 +36,6 @@ black-height rb-leaf = omega arith
 black-height (rb-red a b) = let x = black-height a in let y = black-height b in omega arith
 black-height (rb-black {c = c} {d = d} a b) = let x = black-height a in let y = black-height b in omega (arith, extra-le c, extra-le d)
 
--- (nothing cites it yet: request C-17 states it of a lookup's count)
 pub height-bound : (t : Tree) → RedBlack t → 2 ^ height t ≤ suc (size t) * suc (size t)
 height-bound t (h, r) = le-trans (pow-mono {j = h + h} (omega (arith, black-height r))) (rw (pow-add 2 h h) (mul-le-mul (black-size r) (black-size r)))
 

@@ -71,7 +71,7 @@ thinM-nil [] = done
 thinM-nil (met n b ∷ ys) = more (thinM-nil ys)
 
 -- without what is remembered
-thinM-thin : {P : ℕ → Type 0} {xs ys : List Mark} → ThinM P xs ys → Thin P (nums xs) (nums ys)
+pub thinM-thin : {P : ℕ → Type 0} {xs ys : List Mark} → ThinM P xs ys → Thin P (nums xs) (nums ys)
 thinM-thin done = Plain.done
 thinM-thin (keep h t) = Plain.keep (thinM-thin t)
 thinM-thin (more t) = Plain.more (thinM-thin t)

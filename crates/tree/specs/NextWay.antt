@@ -177,3 +177,9 @@ way-nodes (cell N l r) g m n (inl e) = inl e
 way-nodes (cell N l r) g m n (inr h) =
     inr (in-append n (nodes l) (nodes r) .1
     (goes-case L g (N .key) (λ _ e. inl (way-nodes l g (some (N .key)) n (rw e at h))) (λ _ e. inr (way-nodes r g m n (rw e at h)))))
+
+-- what is remembered at the start does not change which nodes it visits
+pub way-nums : (t : Linked) (g : ℕ) (a b : Option ℕ) → nums (way t g a) ≡ nums (way t g b)
+unfolding way
+way-nums nil g a b = refl
+way-nums (cell N l r) g a b = goes-case L g (N .key) (λ _ e. rw e) (λ _ e. rw e (ap (N .num ∷_) (way-nums r g a b)))
