@@ -176,13 +176,16 @@ comparing-notes p x = go (ltb (x .key) (word p (x .node) keyWord))
     go true = refl
     go false = refl
 
-pub comparing-fields : (p : List ℕ) (x : Reader) → (afterComparing p x .kind ≡ x .kind) × (afterComparing p x .key ≡ x .key)
+pub comparing-fields : (p : List ℕ) (x : Reader)
+    → (afterComparing p x .kind ≡ x .kind) × (afterComparing p x .key ≡ x .key) × (afterComparing p x .compared ≡ x .compared)
 comparing-fields p x = go (ltb (x .key) (word p (x .node) keyWord))
   where
-    go : (b : Bool) → (cond b (remembering x (word p (x .node) keyWord) (recordAt p (x .node))) x .kind ≡ x .kind)
-        × (cond b (remembering x (word p (x .node) keyWord) (recordAt p (x .node))) x .key ≡ x .key)
-    go true = (refl, refl)
-    go false = (refl, refl)
+    y : Bool → Reader
+    y b = cond b (remembering x (word p (x .node) keyWord) (recordAt p (x .node))) x
+
+    go : (b : Bool) → (y b .kind ≡ x .kind) × (y b .key ≡ x .key) × (y b .compared ≡ x .compared)
+    go true = (refl, refl, refl)
+    go false = (refl, refl, refl)
 
 -- the ticket remembered is greater than the given key and may have been held
 abbrev pub RememberedHeld : (ℕ → Option ℕ → Type 0) → ℕ → Remembered → Type 0

@@ -3,6 +3,7 @@ use Prim.Native.Nat.{ℕ, _<_}
 use mathlib.Core.Path.{_≡_, refl, sym, ap, _∙_, subst}
 use mathlib.Core.Bool.{false≢true}
 use mathlib.Core.Option.{Option, some}
+use mathlib.Core.List.{List, []}
 use mathlib.Core.Logic.{_≢_, _⊎_, inl, inr}
 use native.Mathlib.Omega.{arith}
 use native.Mathlib.Decide.{ℕ-discrete}
@@ -96,16 +97,16 @@ keyOfAnswer (done l n) = 0
 keyOfAnswer (refused n) = 0
 
 begun-stand : (st : State) (A : ℕ → Option ℕ → Type 0) (κ μ : Kind) (s k t j : ℕ) → t ≡ s → j ≡ k → μ ≡ κ → t < length (st .register .readers)
-    → StandAt (state (st .pool) (withReader (st .register) t (begunReader μ j))) A κ s k
+    → StandAt (state (st .pool) (withReader (st .register) t (begunReader μ j))) A κ s k []
 begun-stand st A κ μ s k t j e f g u =
     let after = state (st .pool) (withReader (st .register) t (begunReader μ j)) in
-    subst (λ m. StandAt after A κ m k) e (subst (λ m. StandAt after A κ t m) f (subst (λ m. StandAt after A m t j) g
-    (subst (λ y. Stand (st .pool) (after .register .root) (after .register .awaited) y A μ t j)
+    subst (λ m. StandAt after A κ m k []) e (subst (λ m. StandAt after A κ t m []) f (subst (λ m. StandAt after A m t j []) g
+    (subst (λ y. Stand (st .pool) (after .register .root) (after .register .awaited) y A μ t j [])
     (sym (reader-same (st .register) t (begunReader μ j) u)) (stand-begin _ _ _ A μ t j))))
 
 -- an accepted begin
 pub begun-right : (st : State) (c : Call) (o : Outcome) (A : ℕ → Option ℕ → Type 0) (κ : Kind) (s k : ℕ) → CallCase st c o → Safe st → BeginsBy c (o .answer) κ s k
-    → (s < slots) × StandAt (o .after) A κ s k
+    → (s < slots) × StandAt (o .after) A κ s k []
 begun-right st c o A κ s k (refuses d n) safe (e, a) = absurd (let z = ap toldOf a in omega arith)
 begun-right st c o A κ s k (plansInsert j v f) safe (e, a) = absurd (let z = ap kindOf e in omega arith)
 begun-right st c o A κ s k (plansDelete j f) safe (e, a) = absurd (let z = ap kindOf e in omega arith)
@@ -157,33 +158,33 @@ ended-before st c a t s u h i e = elim (ℕ-discrete t s) [
 
 -- The turn of slot s, by what it does; the state stays as it is here.
 module _ (W : State → Plain → Linked → Type 0) (writer : Writer W) (st : State) (x : Plain) (h : Sound W writer st x) (A : ℕ → Option ℕ → Type 0)
-    (was : (q : ℕ) → A q (recordFor q (x .tickets))) (s k : ℕ) (u : s < slots) where
+    (was : (q : ℕ) → A q (recordFor q (x .tickets))) (s k : ℕ) (u : s < slots) (seen : List ℕ) where
   -- found: in a lookup, and right
-  pub found-right : (κ : Kind) (v : ℕ) (o : Outcome) → CallCase st (turning s) o → o .answer ≡ found v → StandAt st A κ s k → (κ ≡ kind.Lookup) × A k (some v)
+  pub found-right : (κ : Kind) (v : ℕ) (o : Outcome) → CallCase st (turning s) o → o .answer ≡ found v → StandAt st A κ s k seen → (κ ≡ kind.Lookup) × A k (some v)
   found-right κ v o (refuses d n) a g = absurd (let z = ap toldOf a in omega arith)
   found-right κ v o (loads t m n p l f) a g = absurd (let z = ap toldOf a in omega arith)
   found-right κ v o (misses t m n p l f i) a g = absurd (let z = ap toldOf a in omega arith)
   found-right κ v o (meets t m n p l f i e) a g = absurd (let z = ap toldOf a in omega arith)
   found-right κ v o (finds t p i d f) a g =
       let e : kind.Lookup ≡ κ = sym i ∙ g .kind in
-      (sym e, subst (λ w. A k (some w)) (ap recordOfAnswer a) (stand-found W writer st x h A was s k u d f (subst (λ μ. StandAt st A μ s k) (sym e) g)))
+      (sym e, subst (λ w. A k (some w)) (ap recordOfAnswer a) (stand-found W writer st x h A was s k u seen d f (subst (λ μ. StandAt st A μ s k seen) (sym e) g)))
 
   -- absent: nothing loaded, nothing to answer
-  pub absent-right : (κ : Kind) (o : Outcome) → CallCase st (turning s) o → o .answer ≡ absent → StandAt st A κ s k → EmptyRight κ A k Nothing
+  pub absent-right : (κ : Kind) (o : Outcome) → CallCase st (turning s) o → o .answer ≡ absent → StandAt st A κ s k seen → EmptyRight κ A k Nothing
   absent-right κ o (refuses d n) a g = absurd (let z = ap toldOf a in omega arith)
   absent-right κ o (loads t m n p l f) a g = absurd (let z = ap toldOf a in omega arith)
-  absent-right κ o (misses t m n p l f i) a g = stand-absent W writer st x h A was s k u κ m n l f i g
+  absent-right κ o (misses t m n p l f i) a g = stand-absent W writer st x h A was s k u seen κ m n l f i g
   absent-right κ o (meets t m n p l f i e) a g = absurd (let z = ap toldOf a in omega arith)
   absent-right κ o (finds t p i d f) a g = absurd (let z = ap toldOf a in omega arith)
 
   -- the next ticket: in a search for it, and right
-  pub next-right : (κ : Kind) (j v : ℕ) (o : Outcome) → CallCase st (turning s) o → o .answer ≡ next j v → StandAt st A κ s k → (κ ≡ kind.Next) × Answered A k (Ticket j v)
+  pub next-right : (κ : Kind) (j v : ℕ) (o : Outcome) → CallCase st (turning s) o → o .answer ≡ next j v → StandAt st A κ s k seen → (κ ≡ kind.Next) × Answered A k (Ticket j v)
   next-right κ j v o (refuses d n) a g = absurd (let z = ap toldOf a in omega arith)
   next-right κ j v o (loads t m n p l f) a g = absurd (let z = ap toldOf a in omega arith)
   next-right κ j v o (misses t m n p l f i) a g = absurd (let z = ap toldOf a in omega arith)
   next-right κ j v o (meets t m n p l f i e) a g =
-      let y : kind.Next ≡ κ = sym i ∙ load-fields W writer st x h A was s k u m n l .0 ∙ g .kind in
-      let r = stand-next-ticket W writer st x h A was s k u m n l f e (subst (λ μ. StandAt st A μ s k) (sym y) g) in
+      let y : kind.Next ≡ κ = sym i ∙ load-fields W writer st x h A was s k u seen m n l .0 ∙ g .kind in
+      let r = stand-next-ticket W writer st x h A was s k u seen m n l f e (subst (λ μ. StandAt st A μ s k seen) (sym y) g) in
       (sym y, subst (λ q. Answered A k (Ticket q v)) (ap keyOfAnswer a) (subst (λ q. Answered A k (Ticket (m .best) q)) (ap recordOfAnswer a) r))
   next-right κ j v o (finds t p i d f) a g = absurd (let z = ap toldOf a in omega arith)
 

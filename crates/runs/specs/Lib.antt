@@ -1,6 +1,7 @@
 pub mod Writer
 pub mod Sound
 pub mod Redirected
+pub mod Seen
 pub mod LookupSlot
 pub mod NextSlot
 pub mod Slot

@@ -6,16 +6,17 @@ use mathlib.Core.Option.{Option, none, some}
 use mathlib.Core.Logic.{_⊎_, inl, inr}
 use native.Mathlib.Omega.{arith}
 use native.Mathlib.Decide.{ℕ-discrete}
+use borrow.Author.Tests.{lt-ltb, le-ltb}
 use Rattle.datatypes.specs.declared.Kind.{Kind}
 use Rattle.datatypes.specs.declared.Kind.the-variants as kind
-use Rattle.spec.specs.Numbers.{slots}
-use Rattle.spec.specs.Pool.{standingWord}
+use Rattle.spec.specs.Numbers.{slots, largestWord}
+use Rattle.spec.specs.Pool.{nodes, standingWord}
 use Rattle.spec.specs.Register.{State, begunReader}
 use Rattle.spec.specs.Calls.{Answer, ok, absent, found, next, Call, beginning, turning, givingUp, call}
 use Rattle.spec.specs.PlainList.{Plain, recordFor}
 use Rattle.laws.specs.Words.{word-none}
 use Rattle.tree.specs.Linked.{Linked}
-use Rattle.promise.specs.Run.{Start, Reads, Moment, thenPerhaps, callAt, after, indexAfter, plainAfter, ticketsAfter, Gives, Ends, Reading}
+use Rattle.promise.specs.Run.{Start, Reads, Moment, thenPerhaps, callAt, after, indexAfter, plainAfter, ticketsAfter, Gives, Ends, Reading, perhapsCompared, comparedIn}
 use Rattle.promise.specs.Demands.{AtOneMoment, LookupsRight, NextSearchesRight, Going, answerOf, TreeHolds, Reaches, NodesKept, Demand3}
 use Rattle.readers.specs.Reach.{Kept, kept-stands}
 use Rattle.readers.specs.QueueExact.{QueueExact}
@@ -24,6 +25,7 @@ use Rattle.readers.specs.Descends.{going-root}
 use Rattle.readers.specs.NextDescends.{going-next}
 use Rattle.readers.specs.CallCase.{kindNumber, call-case}
 use Rattle.readers.specs.Safe.{Safe, safe-reach}
+use Rattle.ranges.specs.Calls.{Ranged, ranged-next}
 use Rattle.runs.specs.Writer.{Writer}
 use Rattle.runs.specs.Sound.{Sound, sound-next, Starts}
 use Rattle.runs.specs.Slot.{StandAt, EmptyRight, stand-more}
@@ -64,6 +66,28 @@ module _ (W : State → Plain → Linked → Type 0) (writer : Writer W) (S : St
   sound-at zero = starts .sound
   sound-at (suc j) = sound-perhaps (after S cs j) (callAt cs j) (sound-at j)
 
+  -- the ranges hold at each moment; so the pool keeps its N nodes
+  ranged-perhaps : (m : Moment) (c : Option Call) → Ranged (S .size) (m .index) → Ranged (S .size) (thenPerhaps m c .index)
+  ranged-perhaps m none h = h
+  ranged-perhaps m (some c) h = ranged-next (S .size) (m .index) c (call (m .index) c) (call-case (m .index) c) h
+
+  pub ranged-at : (j : ℕ) → Ranged (S .size) (at j)
+  unfolding after
+  ranged-at zero = starts .ranged
+  ranged-at (suc j) = ranged-perhaps (after S cs j) (callAt cs j) (ranged-at j)
+
+  pub fits : (j : ℕ) → nodes (at j .pool) ≤ largestWord
+  fits j = let a = ranged-at j .within .size in let b = starts .most in omega arith
+
+  -- the nodes compared for a slot: none by the call that begins its reading, and then call by call
+  pub compared-begun : (s i : ℕ) → comparedIn S cs s i (suc i) ≡ []
+  unfolding comparedIn
+  compared-begun s i = rw (le-ltb i i (omega arith))
+
+  pub compared-next : (s i j : ℕ) → i < j → comparedIn S cs s i (suc j) ≡ perhapsCompared (comparedIn S cs s i j) s (at j) (callAt cs j)
+  unfolding comparedIn
+  compared-next s i j u = rw (lt-ltb i j u)
+
   -- the answers possible for each key k at the moments of a reading begun by call i, up to moment j
   abbrev Possible : ℕ → ℕ → ℕ → Option ℕ → Type 0
   Possible i j k o = (t : ℕ) × (i < t) × (t ≤ j) × (recordFor k (ticketsAfter S cs t) ≡ o)
@@ -86,28 +110,32 @@ module _ (W : State → Plain → Linked → Type 0) (writer : Writer W) (S : St
   shorter κ s k i j m a b l = record { begins = l .begins; later = a; lasts = λ t u v. l .lasts t u (omega arith) }
 
   -- A slot stands right at each moment of its reading.
-  stand-perhaps : (κ : Kind) (s k i j : ℕ) (c : Option Call) → callAt cs j ≡ c → i < j → s < slots → ¬ (Ends S cs s j) → StandAt (at j) (Possible i j) κ s k
-      → ((q : ℕ) → Possible i (suc j) q (recordFor q (thenPerhaps (after S cs j) c .plain .tickets))) → StandAt (thenPerhaps (after S cs j) c .index) (Possible i (suc j)) κ s k
-  stand-perhaps κ s k i j none e u low lasts g p = stand-more _ _ _ _ (Possible i j) (Possible i (suc j)) κ s k (later i j) g
-  stand-perhaps κ s k i j (some c) e u low lasts g p =
-      stand-next W writer (at j) (list j) c (call (at j) c) (call-case (at j) c) (sound-at j) (Possible i j) (Possible i (suc j)) κ s k low (later i j) (now i j u) p
-      (λ x. lasts (ends-at s j c e x)) g
+  stand-perhaps : (κ : Kind) (s k i j : ℕ) (seen : List ℕ) (c : Option Call) → callAt cs j ≡ c → i < j → s < slots → ¬ (Ends S cs s j) → StandAt (at j) (Possible i j) κ s k seen
+      → ((q : ℕ) → Possible i (suc j) q (recordFor q (thenPerhaps (after S cs j) c .plain .tickets)))
+      → StandAt (thenPerhaps (after S cs j) c .index) (Possible i (suc j)) κ s k (perhapsCompared seen s (at j) c)
+  stand-perhaps κ s k i j seen none e u low lasts g p = stand-more _ _ _ _ (Possible i j) (Possible i (suc j)) κ s k seen (later i j) g
+  stand-perhaps κ s k i j seen (some c) e u low lasts g p =
+      stand-next W writer (at j) (list j) c (call (at j) c) (call-case (at j) c) (sound-at j) (Possible i j) (Possible i (suc j)) κ s k seen low (later i j) (now i j u) p
+      (λ x. lasts (ends-at s j c e x)) (fits j) g
 
   begin-perhaps : (κ : Kind) (s k i : ℕ) (c : Option Call) → callAt cs i ≡ c → Gives S cs i (beginning κ s k) ok
-      → (s < slots) × StandAt (thenPerhaps (after S cs i) c .index) (Possible i (suc i)) κ s k
+      → (s < slots) × StandAt (thenPerhaps (after S cs i) c .index) (Possible i (suc i)) κ s k []
   begin-perhaps κ s k i none e g = absurd (let z : _≡_ {A = ℕ} 0 1 = (let x = sym e ∙ g .0 in cc) in omega arith)
   begin-perhaps κ s k i (some c) e g =
       begun-right (at i) c (call (at i) c) (Possible i (suc i)) κ s k (call-case (at i) c) (sound-at i .safe) (by-call S cs i c (beginning κ s k) ok e g)
 
-  pub stands : (κ : Kind) (s k i j : ℕ) → Reading S cs κ s k i j → (s < slots) × StandAt (at j) (Possible i j) κ s k
+  pub stands : (κ : Kind) (s k i j : ℕ) → Reading S cs κ s k i j → (s < slots) × StandAt (at j) (Possible i j) κ s k (comparedIn S cs s i j)
   unfolding after
   stands κ s k i zero l = absurd (let z = l .later in omega arith)
   stands κ s k i (suc j) l = elim (ℕ-discrete i j) [
-    | yes e ↦ subst (λ m. (s < slots) × StandAt (thenPerhaps (after S cs m) (callAt cs m) .index) (Possible i (suc m)) κ s k) e (begin-perhaps κ s k i (callAt cs i) refl (l .begins))
+    | yes e ↦
+        subst (λ m. (s < slots) × StandAt (thenPerhaps (after S cs m) (callAt cs m) .index) (Possible i (suc m)) κ s k (comparedIn S cs s i (suc m))) e
+        (rw (compared-begun s i) (begin-perhaps κ s k i (callAt cs i) refl (l .begins)))
     | no d ↦
         (let u : i < j = (let z = l .later in omega arith) in
         let g = stands κ s k i j (shorter κ s k i (suc j) j u (omega arith) l) in
-        (g .0, stand-perhaps κ s k i j (callAt cs j) refl u (g .0) (l .lasts j u (omega arith)) (g .1) (now i (suc j) (omega arith))))
+        rw (compared-next s i j u)
+        (g .0, stand-perhaps κ s k i j (comparedIn S cs s i j) (callAt cs j) refl u (g .0) (l .lasts j u (omega arith)) (g .1) (now i (suc j) (omega arith))))
   ]
 
   -- the other way: a reading slot is in a reading
@@ -160,17 +188,17 @@ module _ (W : State → Plain → Linked → Type 0) (writer : Writer W) (S : St
     found-turn : (v : ℕ) → Gives S cs j (turning s) (found v) → (κ ≡ kind.Lookup) × Possible i j k (some v)
     found-turn v g =
         let z = stands κ s k i j l in
-        found-right W writer (at j) (list j) (sound-at j) (Possible i j) (now i j (l .later)) s k (z .0) κ v (call (at j) (turning s)) (call-case (at j) (turning s)) (g .1) (z .1)
+        found-right W writer (at j) (list j) (sound-at j) (Possible i j) (now i j (l .later)) s k (z .0) (comparedIn S cs s i j) κ v (call (at j) (turning s)) (call-case (at j) (turning s)) (g .1) (z .1)
 
     absent-turn : Gives S cs j (turning s) absent → EmptyRight κ (Possible i j) k Nothing
     absent-turn g =
         let z = stands κ s k i j l in
-        absent-right W writer (at j) (list j) (sound-at j) (Possible i j) (now i j (l .later)) s k (z .0) κ (call (at j) (turning s)) (call-case (at j) (turning s)) (g .1) (z .1)
+        absent-right W writer (at j) (list j) (sound-at j) (Possible i j) (now i j (l .later)) s k (z .0) (comparedIn S cs s i j) κ (call (at j) (turning s)) (call-case (at j) (turning s)) (g .1) (z .1)
 
     next-turn : (q v : ℕ) → Gives S cs j (turning s) (next q v) → (κ ≡ kind.Next) × Answered (Possible i j) k (Ticket q v)
     next-turn q v g =
         let z = stands κ s k i j l in
-        next-right W writer (at j) (list j) (sound-at j) (Possible i j) (now i j (l .later)) s k (z .0) κ q v (call (at j) (turning s)) (call-case (at j) (turning s)) (g .1) (z .1)
+        next-right W writer (at j) (list j) (sound-at j) (Possible i j) (now i j (l .later)) s k (z .0) (comparedIn S cs s i j) κ q v (call (at j) (turning s)) (call-case (at j) (turning s)) (g .1) (z .1)
 
   widen : (i j k : ℕ) (o : Option ℕ) → Possible i j k o → AtOneMoment S cs k i j o
   widen i j k o p = (p .0, p .1, (let a = p .2 in omega arith), p .3)

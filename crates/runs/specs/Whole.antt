@@ -23,11 +23,11 @@ use Rattle.promise.specs.Demands.{Leads, Stands, standingAt, StoresOne, Demand2
 use Rattle.readers.specs.Reach.{leads-in, in-leads}
 use Rattle.readers.specs.CallCase.{call-case}
 use Rattle.ranges.specs.Fits.{colour-fits}
-use Rattle.ranges.specs.Calls.{Ranged, ranged-in, named-in, ranged-next}
+use Rattle.ranges.specs.Calls.{Ranged, ranged-in, named-in}
 use Rattle.runs.specs.Writer.{Writer}
 use Rattle.runs.specs.Sound.{Sound, Starts}
 use Rattle.runs.specs.Starts.{exact-right}
-use Rattle.runs.specs.Theorem.{sound-at, demand3}
+use Rattle.runs.specs.Theorem.{sound-at, ranged-at, demand3}
 use Rattle.runs.specs.Rest.{Completes, wait-right, refused-by, not-one, not-two, not-twelve, length-right, none-awaited, turn-clear, turn-goes}
 use Rattle.runs.specs.Standings.{stands-one, retired-held, all-counted}
 use Rattle.runs.specs.OneStore.{more-left, done-left, Tells, store-one}
@@ -76,15 +76,8 @@ module _ (W : State → Plain → Linked → Type 0) (writer : Writer W) (comple
   started zero = refl
   started (suc j) = started-perhaps (after S cs j) (callAt cs j) ∙ started j
 
-  -- the ranges hold at each moment
-  ranged-perhaps : (x : Moment) (c : Option Call) → Ranged (S .size) (x .index) → Ranged (S .size) (thenPerhaps x c .index)
-  ranged-perhaps x none h = h
-  ranged-perhaps x (some c) h = ranged-next (S .size) (x .index) c (call (x .index) c) (call-case (x .index) c) h
-
   pub ranged : (j : ℕ) → Ranged (S .size) (at j)
-  unfolding after
-  ranged zero = starts .ranged
-  ranged (suc j) = ranged-perhaps (after S cs j) (callAt cs j) (ranged j)
+  ranged j = ranged-at W writer S starts cs j
 
   -- the pool keeps its length
   lent : (j : ℕ) → wrongLength (at j) ≡ false
