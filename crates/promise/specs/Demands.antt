@@ -231,8 +231,10 @@ pub record CountsRight (S : Start) (cs : List Call) : Type 0 where
   -- the slot's record counts the nodes compared; the reply of its turn that is call j counts this turn's too
   pub counts : (κ : Kind) (s k i j : ℕ) → Reading S cs κ s k i j → readerOf (indexAfter S cs j .register) s .compared ≡ length (comparedIn S cs s i j)
   pub replies : (κ : Kind) (s k i j : ℕ) (a : Answer) → Reading S cs κ s k i j → Turns S cs s j a → turnCount (indexAfter S cs j) s ≡ length (comparedIn S cs s i (j + 1))
-  -- the count never passes N, in a record or in the reply of a turn, of any slot after any call
-  pub most : (j s : ℕ) → (readerOf (indexAfter S cs j .register) s .compared ≤ S .size) × (turnCount (indexAfter S cs j) s ≤ S .size)
+  -- the count never passes N, in the record of a slot that reads or in the reply of its turn, after any call; the turn of a slot that doesn't read is
+  -- refused, and counts nothing
+  pub most : (j s : ℕ) → s < slots → Reads (indexAfter S cs j) s
+      → (readerOf (indexAfter S cs j .register) s .compared ≤ S .size) × (turnCount (indexAfter S cs j) s ≤ S .size)
   -- with no write in hand at any moment from begin to call j, and n keys held, the count h of a turn that is call j, its answer's among them:
   -- 2 to the power h is at most (n + 1) squared
   pub low : (κ : Kind) (s k i j : ℕ) → Reading S cs κ s k i j → ((t : ℕ) → i < t → t ≤ j → writeInHand (indexAfter S cs t) ≡ false)

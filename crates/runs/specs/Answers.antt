@@ -26,7 +26,7 @@ use Rattle.readers.specs.Safe.{Safe, end-reader, end-own}
 use Rattle.runs.specs.Writer.{Writer, afterStore}
 use Rattle.runs.specs.Sound.{Sound}
 use Rattle.runs.specs.Slot.{Stand, StandAt, EmptyRight, stand-begin, load-fields, stand-absent, stand-next-ticket, stand-found}
-use Rattle.runs.specs.Follow.{BeginsBy, EndsBy}
+use Rattle.runs.specs.Follow.{BeginsBy, EndsBy, stand-own}
 
 -- which slot a call names, and which call it is
 abbrev pub slotOf : Call → ℕ
@@ -96,31 +96,27 @@ keyOfAnswer (more l n) = 0
 keyOfAnswer (done l n) = 0
 keyOfAnswer (refused n) = 0
 
-begun-stand : (st : State) (A : ℕ → Option ℕ → Type 0) (κ μ : Kind) (s k t j : ℕ) → t ≡ s → j ≡ k → μ ≡ κ → t < length (st .register .readers)
-    → StandAt (state (st .pool) (withReader (st .register) t (begunReader μ j))) A κ s k []
-begun-stand st A κ μ s k t j e f g u =
-    let after = state (st .pool) (withReader (st .register) t (begunReader μ j)) in
-    subst (λ m. StandAt after A κ m k []) e (subst (λ m. StandAt after A κ t m []) f (subst (λ m. StandAt after A m t j []) g
-    (subst (λ y. Stand (st .pool) (after .register .root) (after .register .awaited) y A μ t j [])
-    (sym (reader-same (st .register) t (begunReader μ j) u)) (stand-begin _ _ _ A μ t j))))
+-- an accepted begin: what it leaves, and that the slot stands right
+pub begun-is : (st : State) (c : Call) (o : Outcome) (κ : Kind) (s k : ℕ) → CallCase st c o → BeginsBy c (o .answer) κ s k
+    → (s < slots) × (o .after ≡ state (st .pool) (withReader (st .register) s (begunReader κ k)))
+begun-is st c o κ s k (refuses d n) (e, a) = absurd (let z = ap toldOf a in omega arith)
+begun-is st c o κ s k (plansInsert j v f) (e, a) = absurd (let z = ap kindOf e in omega arith)
+begun-is st c o κ s k (plansDelete j f) (e, a) = absurd (let z = ap kindOf e in omega arith)
+begun-is st c o κ s k (waits f) (e, a) = absurd (let z = ap kindOf e in omega arith)
+begun-is st c o κ s k (stores f g i) (e, a) = absurd (let z = ap kindOf e in omega arith)
+begun-is st c o κ s k (begins μ t j u f) (e, a) =
+    (subst (λ m. m < slots) (ap slotOf e) u, ap (λ d. state (st .pool) (withReader (st .register) (slotOf d) (begunReader (searchOf d) (keyOfCall d)))) e)
+begun-is st c o κ s k (loads t m n p l f) (e, a) = absurd (let z = ap kindOf e in omega arith)
+begun-is st c o κ s k (misses t m n p l f g) (e, a) = absurd (let z = ap kindOf e in omega arith)
+begun-is st c o κ s k (meets t m n p l f g i) (e, a) = absurd (let z = ap kindOf e in omega arith)
+begun-is st c o κ s k (finds t p f g i) (e, a) = absurd (let z = ap kindOf e in omega arith)
+begun-is st c o κ s k (leaves t p) (e, a) = absurd (let z = ap kindOf e in omega arith)
 
--- an accepted begin
 pub begun-right : (st : State) (c : Call) (o : Outcome) (A : ℕ → Option ℕ → Type 0) (κ : Kind) (s k : ℕ) → CallCase st c o → Safe st → BeginsBy c (o .answer) κ s k
     → (s < slots) × StandAt (o .after) A κ s k []
-begun-right st c o A κ s k (refuses d n) safe (e, a) = absurd (let z = ap toldOf a in omega arith)
-begun-right st c o A κ s k (plansInsert j v f) safe (e, a) = absurd (let z = ap kindOf e in omega arith)
-begun-right st c o A κ s k (plansDelete j f) safe (e, a) = absurd (let z = ap kindOf e in omega arith)
-begun-right st c o A κ s k (waits f) safe (e, a) = absurd (let z = ap kindOf e in omega arith)
-begun-right st c o A κ s k (stores f g i) safe (e, a) = absurd (let z = ap kindOf e in omega arith)
-begun-right st c o A κ s k (begins μ t j u f) safe (e, a) =
-    let y = ap slotOf e in
-    let z = ap keyOfCall e in
-    (subst (λ m. m < slots) y u, begun-stand st A κ μ s k t j y z (ap searchOf e) (rw (safe .owned .perSlot) u))
-begun-right st c o A κ s k (loads t m n p l f) safe (e, a) = absurd (let z = ap kindOf e in omega arith)
-begun-right st c o A κ s k (misses t m n p l f g) safe (e, a) = absurd (let z = ap kindOf e in omega arith)
-begun-right st c o A κ s k (meets t m n p l f g i) safe (e, a) = absurd (let z = ap kindOf e in omega arith)
-begun-right st c o A κ s k (finds t p f g i) safe (e, a) = absurd (let z = ap kindOf e in omega arith)
-begun-right st c o A κ s k (leaves t p) safe (e, a) = absurd (let z = ap kindOf e in omega arith)
+begun-right st c o A κ s k z safe e =
+    let b = begun-is st c o κ s k z e in
+    (b .0, subst (λ y. StandAt y A κ s k []) (sym (b .1)) (stand-own st A κ s k [] (begunReader κ k) (b .0) safe (stand-begin _ _ _ A κ s k)))
 
 -- a call that does not end the reading of slot s, by its answer, by which call it is, by its slot
 not-told : (c : Call) (a : Answer) (s : ℕ) → toldOf a ≢ 0 → toldOf a ≢ 2 → toldOf a ≢ 4 → toldOf a ≢ 8 → ¬ (EndsBy c a s)

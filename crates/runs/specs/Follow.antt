@@ -53,14 +53,14 @@ unfolding withWrite
 stand-write st A κ s k seen w h = h
 
 -- the slot's own record
-stand-own : (st : State) (A : ℕ → Option ℕ → Type 0) (κ : Kind) (s k : ℕ) (seen : List ℕ) (x : Reader) → s < slots → Safe st
+pub stand-own : (st : State) (A : ℕ → Option ℕ → Type 0) (κ : Kind) (s k : ℕ) (seen : List ℕ) (x : Reader) → s < slots → Safe st
     → Stand (st .pool) (st .register .root) (st .register .awaited) x A κ s k seen → StandAt (state (st .pool) (withReader (st .register) s x)) A κ s k seen
 unfolding withReader
 stand-own st A κ s k seen x u safe h =
     subst (λ y. Stand (st .pool) (st .register .root) (st .register .awaited) y A κ s k seen) (sym (reader-same (st .register) s x (rw (safe .owned .perSlot) u))) h
 
 -- Another slot ends.
-ended-awaited : (st : State) (t : ℕ) → (ended st t .register .awaited ≡ dropSlot (st .register .awaited) t) × (ended st t .register .root ≡ st .register .root)
+pub ended-awaited : (st : State) (t : ℕ) → (ended st t .register .awaited ≡ dropSlot (st .register .awaited) t) × (ended st t .register .root ≡ st .register .root)
 unfolding withReader withAwaited
 ended-awaited st t = (refl, refl)
 

@@ -6,12 +6,14 @@ pub mod LookupSlot
 pub mod NextSlot
 pub mod Slot
 pub mod Follow
+pub mod Low
 pub mod Starts
 pub mod Begin
 pub mod Answers
 pub mod Theorem
 pub mod Facts
 pub mod Rest
+pub mod Counts
 pub mod Standings
 pub mod OneStore
 pub mod Whole

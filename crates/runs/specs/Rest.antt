@@ -1,6 +1,6 @@
 -- The other promises about runs: the free queue, waits, writes done within seven stores, the tree at rest, and that 1, 2 and 12 are never met.
 -- What of them is the writer's side alone is asked as `Completes`.
-use Prim.Native.Nat.{ℕ, _+_, _%_, _<_, _≤_}
+use Prim.Native.Nat.{ℕ, _+_, _*_, _^_, _%_, _<_, _≤_}
 use mathlib.Core.Path.{_≡_, refl, sym, ap, _∙_}
 use mathlib.Core.Bool.{Bool, true, false, cond, not, _&&_, false≢true}
 use mathlib.Core.List.{List, [], _∷_}
@@ -8,7 +8,7 @@ use mathlib.Core.Logic.{_≢_, _⊎_, inl, inr, ⊎-elim}
 use native.Mathlib.Omega.{arith}
 use lib.Dec.{eqb}
 use lib.ListN.{drop, length}
-use borrow.Author.Tests.{not-false, eqb-true, eqb-false, eq-eqb, le-leb}
+use borrow.Author.Tests.{not-false, eqb-true, eqb-false, eq-eqb, le-leb, lt-leb}
 use Rattle.sequential.specs.Delete.{changedBy}
 use Rattle.spec.specs.Numbers.{nodeWords, leastNodes, mostNodes, slots, mostStores, freeForInsert, freeForDelete}
 use Rattle.spec.specs.Pool.{word, colourWord, nodes, lengthRight}
@@ -22,6 +22,7 @@ use Rattle.base.specs.Lists.{Distinct}
 use Rattle.laws.specs.Slots.{no-slot, some-slot}
 use Rattle.laws.specs.Turns.{and-false}
 use Rattle.tree.specs.Linked.{Linked, nodes as treeNodes}
+use Rattle.tree.specs.Erase.{tall}
 use Rattle.promise.specs.Run.{Reads, after}
 use Rattle.promise.specs.Demands.{Stands}
 use Rattle.readers.specs.Words.{Whole}
@@ -164,6 +165,8 @@ pub record Completes (W : State → Plain → Linked → Type 0) : Type 0 where
       → Stands (st .pool) (st .register .root) (changedBy (x .started) (acceptedWrites x))
   -- at rest each node of the tree stands in it once, one for each key held
   pub counts : (st : State) (x : Plain) (T : Linked) → W st x T → writeInHand st ≡ false → Distinct (treeNodes T) × (length (treeNodes T) ≡ st .register .held)
+  -- and the tree is as high as a red-black tree of so many keys may be
+  pub low : (st : State) (x : Plain) (T : Linked) → W st x T → writeInHand st ≡ false → 2 ^ tall T ≤ (st .register .held + 1) * (st .register .held + 1)
   pub few : (st : State) (x : Plain) (T : Linked) → W st x T → writeInHand st ≡ true → x .made + st .register .write .count ≤ mostStores
   pub insertGoes : (st : State) (x : Plain) (T : Linked) (k v : ℕ) → Safe st → W st x T → writeInHand st ≡ false
       → (tooDeep (placeOf st k) ≡ false) × (fewerFree st freeForInsert ≡ false → insertAt st k v (placeOf st k) .possible ≡ true)
@@ -232,6 +235,17 @@ none-awaited st h f =
 -- a turn that passes its tests, no slot being awaited, makes a store
 pub turn-clear : (st : State) → wrongLength st ≡ false → outOfRange st ≡ false → writeInHand st ≡ true → firstFinds st ≡ true → firstOf (writerTests st) ≡ 0
 turn-clear st a b w f = all-clear (writerTests st) (a, (b, (not-true (writeInHand st) w, (and-false (not (waiting st)) (not (firstFinds st)) (not-true (firstFinds st) f), tt))))
+
+-- a turn of a reading slot passes its tests, and isn't refused
+pub reader-clear : (st : State) (s : ℕ) → wrongLength st ≡ false → namedOutOfRange st s ≡ false → s < slots → Reads st s → firstOf (readerTests st s) ≡ 0
+reader-clear st s a b u r = all-clear (readerTests st s) (a, (b, (lt-leb slots s u, (not-true (reading st s) r, tt))))
+
+pub reader-goes : (st : State) (s : ℕ) (o : Outcome) → CallCase st (turning s) o → firstOf (readerTests st s) ≡ 0 → noticeOf (o .answer) ≡ carriedOut
+reader-goes st s o (refuses d x) e = absurd (x e)
+reader-goes st s o (loads t r n p l f) e = refl
+reader-goes st s o (misses t r n p l f g) e = refl
+reader-goes st s o (meets t r n p l f g i) e = refl
+reader-goes st s o (finds t p κ d f) e = refl
 
 pub turn-goes : (st : State) (c : Call) (o : Outcome) → CallCase st c o → firstOf (testsOf st c) ≡ 0 → st .register .awaited ≡ 0 → noticeOf (o .answer) ≡ carriedOut
 turn-goes st c o (refuses d x) e z = absurd (x e)

@@ -2,12 +2,13 @@
 -- the ends of other slots; and that what it answers is right.
 use Prim.Native.Nat.{ℕ, _<_, _≤_}
 use mathlib.Core.Path.{_≡_, refl, sym, ap, _∙_}
-use mathlib.Core.Bool.{true, false}
+use mathlib.Core.Bool.{Bool, true, false, cond}
 use mathlib.Core.List.{List, [], _∷_, _++_}
 use mathlib.Core.Option.{Option, none, some}
 use mathlib.Core.Logic.{_≢_}
 use native.Mathlib.Omega.{arith}
 use native.Mathlib.Decide.{ℕ-discrete}
+use lib.Dec.{eqb}
 use lib.ListN.{length, length-append}
 use borrow.Author.Tests.{eq-eqb, ne-eqb, lt-ltb}
 use Rattle.datatypes.specs.declared.Kind.{Kind}
@@ -98,6 +99,13 @@ named-none seen x e = rw (eq-eqb (x .node) 0 e)
 pub named-one : (seen : List ℕ) (x : Reader) → x .node ≢ 0 → withNamed seen x ≡ seen ++ x .node ∷ []
 named-one seen x d = rw (ne-eqb (x .node) 0 d)
 
+pub named-longer : (seen : List ℕ) (x : Reader) → length seen ≤ length (withNamed seen x)
+named-longer seen x = go (eqb (x .node) 0)
+  where
+    go : (b : Bool) → length seen ≤ length (cond b seen (seen ++ x .node ∷ []))
+    go true = omega arith
+    go false = let e = length-append seen (x .node ∷ []) in omega arith
+
 module _ (st : State) (A : ℕ → Option ℕ → Type 0) (κ : Kind) (s k : ℕ) (seen : List ℕ) (low : s < slots) (safe : Safe st) (g : StandAt st A κ s k seen) where
   abbrev x : Reader
   x = readerOf (st .register) s
@@ -112,6 +120,10 @@ module _ (st : State) (A : ℕ → Option ℕ → Type 0) (κ : Kind) (s k : ℕ
         (let t = has .1 d in
         rw (named-one seen x d) (seen-few κ (st .pool) s (x .node) k seen (t .0) (safe .whole) d (t .1) (safe .at s low (g .reads) d) (has .0)))
   ]
+
+  -- before its first turn it has compared nothing
+  pub stand-first : x .node ≡ 0 → x .compared ≡ 0
+  stand-first e = g .count ∙ ap length (has .0 .none e)
 
   pub stand-seen : Distinct seen
   stand-seen = elim (ℕ-discrete (x .node) 0) [
@@ -178,7 +190,7 @@ module _ (W : State → Plain → Linked → Type 0) (writer : Writer W) where
     load-fields z n (searching κ a e f) = rw e (let c = comparing-fields (st .pool) (counting y) in (c .0, c .1))
 
     -- and counts its turn
-    load-count : (z : Reader) (n : ℕ) → Loads st s z n → z .compared ≡ comparedBy y
+    pub load-count : (z : Reader) (n : ℕ) → Loads st s z n → z .compared ≡ comparedBy y
     load-count z n (atRoot a e f) = rw (e, eq-eqb (y .node) 0 a)
     load-count z n (lookingUp κ a b e f) = rw (e, ne-eqb (y .node) 0 a)
     load-count z n (searching κ a e f) = rw (e, ne-eqb (y .node) 0 a) (comparing-fields (st .pool) (counting y) .2)

@@ -89,17 +89,17 @@ module _ (W : State → Plain → Linked → Type 0) (writer : Writer W) (S : St
   compared-next s i j u = rw (lt-ltb i j u)
 
   -- the answers possible for each key k at the moments of a reading begun by call i, up to moment j
-  abbrev Possible : ℕ → ℕ → ℕ → Option ℕ → Type 0
+  abbrev pub Possible : ℕ → ℕ → ℕ → Option ℕ → Type 0
   Possible i j k o = (t : ℕ) × (i < t) × (t ≤ j) × (recordFor k (ticketsAfter S cs t) ≡ o)
 
   later : (i j k : ℕ) (o : Option ℕ) → Possible i j k o → Possible i (suc j) k o
   later i j k o p = (p .0, p .1, (let a = p .2 in omega arith), p .3)
 
-  now : (i j : ℕ) → i < j → (k : ℕ) → Possible i j k (recordFor k (ticketsAfter S cs j))
+  pub now : (i j : ℕ) → i < j → (k : ℕ) → Possible i j k (recordFor k (ticketsAfter S cs j))
   now i j u k = (j, u, omega arith, refl)
 
   -- a call that ends the slot's reading, as the run says it
-  ends-at : (s j : ℕ) (c : Call) → callAt cs j ≡ some c → EndsBy c (call (at j) c .answer) s → Ends S cs s j
+  pub ends-at : (s j : ℕ) (c : Call) → callAt cs j ≡ some c → EndsBy c (call (at j) c .answer) s → Ends S cs s j
   ends-at s j c e (inl x) = inl (to-run S cs j c (turning s) absent e x)
   ends-at s j c e (inr (inl x)) = inr (inl (x .0, to-run S cs j c (turning s) (found (x .0)) e (x .1)))
   ends-at s j c e (inr (inr (inl x))) = inr (inr (inl (x .0, x .1, to-run S cs j c (turning s) (next (x .0) (x .1)) e (x .2))))
@@ -178,7 +178,7 @@ module _ (W : State → Plain → Linked → Type 0) (writer : Writer W) (S : St
         },
       )
 
-  in-reading : (s j : ℕ) → s < slots → Reads (at j) s → In s j
+  pub in-reading : (s j : ℕ) → s < slots → Reads (at j) s → In s j
   unfolding after
   in-reading s zero u e = absurd (starts .quiet s u e)
   in-reading s (suc j) u e = in-perhaps s j (callAt cs j) refl u e (in-reading s j u)

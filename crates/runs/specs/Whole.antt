@@ -28,7 +28,8 @@ use Rattle.runs.specs.Writer.{Writer}
 use Rattle.runs.specs.Sound.{Sound, Starts}
 use Rattle.runs.specs.Starts.{exact-right}
 use Rattle.runs.specs.Theorem.{sound-at, ranged-at, demand3}
-use Rattle.runs.specs.Rest.{Completes, wait-right, refused-by, not-one, not-two, not-twelve, length-right, none-awaited, turn-clear, turn-goes}
+use Rattle.runs.specs.Rest.{Completes, wait-right, refused-by, not-one, not-two, not-twelve, none-awaited, turn-clear, turn-goes}
+use Rattle.runs.specs.Counts.{lent, next-is, counted}
 use Rattle.runs.specs.Standings.{stands-one, retired-held, all-counted}
 use Rattle.runs.specs.OneStore.{more-left, done-left, Tells, store-one}
 
@@ -58,15 +59,11 @@ module _ (W : State → Plain → Linked → Type 0) (writer : Writer W) (comple
   sound : (j : ℕ) → Sound W writer (at j) (plainAfter S cs j)
   sound j = sound-at W writer S starts cs j
 
-  next-is : (j : ℕ) (c : Call) → callAt cs j ≡ some c → at (suc j) ≡ call (at j) c .after
-  unfolding after
-  next-is j c e = ap (λ o. thenPerhaps (after S cs j) o .index) e
-
   soon : (j : ℕ) (l : Link) (n : ℕ) → Gives S cs j writing (more l n) → plainAfter S cs (j + 1) .made < mostStores
   soon j l n g =
       let h = sound (suc j) in
       let left : at (suc j) .register .write .count ≢ 0 =
-      subst (λ st. st .register .write .count ≢ 0) (sym (next-is j writing (g .0))) (more-left (at j) writing (call (at j) writing) l n (call-case (at j) writing) (g .1)) in
+      subst (λ st. st .register .write .count ≢ 0) (sym (next-is W writer completes S starts cs j writing (g .0))) (more-left (at j) writing (call (at j) writing) l n (call-case (at j) writing) (g .1)) in
       let hand : writeInHand (at (suc j)) ≡ true = rw (ne-eqb (at (suc j) .register .write .count) 0 left) in
       let few = completes .few (at (suc j)) (plainAfter S cs (suc j)) (h .tree) (h .holds) hand in
       rw (add-one j) (omega arith)
@@ -79,9 +76,8 @@ module _ (W : State → Plain → Linked → Type 0) (writer : Writer W) (comple
   pub ranged : (j : ℕ) → Ranged (S .size) (at j)
   ranged j = ranged-at W writer S starts cs j
 
-  -- the pool keeps its length
-  lent : (j : ℕ) → wrongLength (at j) ≡ false
-  lent j = length-right (at j) (S .size) (starts .least) (starts .most) (sound j .safe .whole) (ranged j .within .size)
+  length-kept : (j : ℕ) → wrongLength (at j) ≡ false
+  length-kept j = lent W writer completes S starts cs j
 
   goesOn : (j : ℕ) → writeInHand (at j) ≡ true → ((s : ℕ) → s < slots → hasSlot (at j .register .awaited) s ≡ true → reading (at j) s ≡ false)
       → noticeOf (call (at j) writing .answer) ≡ carriedOut
@@ -89,12 +85,12 @@ module _ (W : State → Plain → Linked → Type 0) (writer : Writer W) (comple
       let h = sound j in
       let z = none-awaited (at j) (h .safe) f in
       turn-goes (at j) writing (call (at j) writing) (call-case (at j) writing)
-      (turn-clear (at j) (lent j) (ranged-in (S .size) (at j) (ranged j)) w (completes .stepGoes (at j) (plainAfter S cs j) (h .tree) (h .safe) (h .holds) z w)) z
+      (turn-clear (at j) (length-kept j) (ranged-in (S .size) (at j) (ranged j)) w (completes .stepGoes (at j) (plainAfter S cs j) (h .tree) (h .safe) (h .holds) z w)) z
 
   finished : (j : ℕ) (l : Link) (n : ℕ) → Gives S cs j writing (done l n) → writeInHand (at (j + 1)) ≡ false
   finished j l n g =
       let none-left : at (suc j) .register .write .count ≡ 0 =
-      subst (λ st. st .register .write .count ≡ 0) (sym (next-is j writing (g .0))) (done-left (at j) writing (call (at j) writing) l n (call-case (at j) writing) (g .1)) in
+      subst (λ st. st .register .write .count ≡ 0) (sym (next-is W writer completes S starts cs j writing (g .0))) (done-left (at j) writing (call (at j) writing) l n (call-case (at j) writing) (g .1)) in
       rw (add-one j, eq-eqb (at (suc j) .register .write .count) 0 none-left)
 
   -- the linked nodes are the tree's, at every moment
@@ -122,7 +118,7 @@ module _ (W : State → Plain → Linked → Type 0) (writer : Writer W) (comple
   oneStore j l n g =
       let called : callAt cs j ≡ some writing = ⊎-elim (λ x. x .0) (λ x. x .0) g in
       let told : Tells (call (at j) writing .answer) l n = ⊎-map (λ x. x .1) (λ x. x .1) g in
-      rw (add-one j, next-is j writing called)
+      rw (add-one j, next-is W writer completes S starts cs j writing called)
       (store-one W writer (at j) (plainAfter S cs j) writing (call (at j) writing) l n (call-case (at j) writing) (sound j) told)
 
   pub demand2 : Demand2 S cs
@@ -148,7 +144,7 @@ module _ (W : State → Plain → Linked → Type 0) (writer : Writer W) (comple
     two = λ j c g. not-two (at j) c (ranged-in (S .size) (at j) (ranged j)) (λ s. named-in (S .size) (at j) s (ranged j)) (refused-by (at j) c (call (at j) c) 2 (omega arith) (call-case (at j) c) (g .1));
     twelve = λ j c g. (let h = sound j in
         not-twelve W completes (at j) (plainAfter S cs j) (h .tree) (h .safe) (h .holds) c (refused-by (at j) c (call (at j) c) 12 (omega arith) (call-case (at j) c) (g .1)));
-    one = λ j c g. not-one (at j) c (lent j) (refused-by (at j) c (call (at j) c) 1 (omega arith) (call-case (at j) c) (g .1));
+    one = λ j c g. not-one (at j) c (length-kept j) (refused-by (at j) c (call (at j) c) 1 (omega arith) (call-case (at j) c) (g .1));
   }
 
   -- a reader's turn tests less than every word, and all words are in range
@@ -157,4 +153,4 @@ module _ (W : State → Plain → Linked → Type 0) (writer : Writer W) (comple
   alike j s = rw (ranged-in (S .size) (at j) (ranged j), named-in (S .size) (at j) s (ranged j))
 
   pub promise : PromiseFrom S cs
-  promise = record { demand2 = demand2; demand3 = demand3 W writer S starts cs; never = never; alike = alike }
+  promise = record { demand2 = demand2; demand3 = demand3 W writer S starts cs; never = never; alike = alike; counted = counted W writer completes S starts cs }
