@@ -5,6 +5,7 @@ use mathlib.Core.Path.{_≡_, sym, _∙_, subst}
 use mathlib.Core.Bool.{false≢true}
 use mathlib.Core.List.{List}
 use native.Mathlib.Omega.{arith}
+use native.Mathlib.Numerals.{add-one}
 use lib.ListN.{length}
 use native.Mathlib.Decide.{ℕ-discrete}
 use borrow.Author.Tests.{eq-eqb, ne-eqb}
@@ -17,7 +18,8 @@ use Rattle.spec.specs.Calls.{ok, outcome, setUp, Call, call}
 use Rattle.readers.specs.CallCase.{call-case}
 use Rattle.tree.specs.Linked.{Linked, nil, cell, find, nodes}
 use Rattle.tree.specs.Occurs.{occ-distinct, nodes-size}
-use Rattle.tree.specs.Erase.{erase, erase-find}
+use Rattle.tree.specs.Erase.{erase, erase-find, erase-height}
+use Rattle.tree.specs.Height.{height-bound}
 use Rattle.heap.specs.Rep.{Rep}
 use Rattle.heap.specs.Colours.{hue, colours}
 use Rattle.heap.specs.Phase.{phase-rep}
@@ -84,6 +86,12 @@ completes = record {
       let c = colours (st .pool) in
       let size = tickets-size (x .tickets) (erase c T) (f .sound .proper) (h .unique) (λ q. erase-find c T q ∙ h .finds q) in
       (occ-distinct (nodes T) (f .sound .once), nodes-size c T ∙ size ∙ sym (h .held))
+      );
+  low = λ st x T h e. (
+      let f = resting st x T h e .rest in
+      let c = colours (st .pool) in
+      let size = tickets-size (x .tickets) (erase c T) (f .sound .proper) (h .unique) (λ q. erase-find c T q ∙ h .finds q) in
+      rw (add-one (st .register .held)) (rw (size ∙ sym (h .held), erase-height c T) at (height-bound (erase c T) (f .sound .proper .redblack)))
       );
   few = λ st x T h e. (let a = h .few in rw (h .hand .write, write-count (h .stores)) a);
   insertGoes = λ st x T k v safe h e. (
