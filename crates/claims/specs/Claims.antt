@@ -1,6 +1,6 @@
 -- What the promise (crate theorem) excludes, each by a run that is computed (Computed): 01's useless indexes ('What pins the work', 2), and
 -- claims that come near to those of demand 3 and are false. An index is excluded if what a clause says of one of its calls is false.
-use Prim.Native.Nat.{ℕ, _+_, _<_, _≤_}
+use Prim.Native.Nat.{ℕ, _+_, _*_, _^_, _<_, _≤_}
 use mathlib.Core.Path.{_≡_, refl, sym, ap, _∙_, subst}
 use mathlib.Core.Bool.{Bool, true, false, not, false≢true}
 use mathlib.Core.List.{List}
@@ -23,9 +23,9 @@ use Rattle.sequential.specs.Delete.{changedBy}
 use Rattle.spec.specs.Numbers.{leastNodes, mostNodes, slots}
 use Rattle.spec.specs.Pool.{word, child, nodes, keyWord, recordAt, standingFree, standingLinked, standingRetired}
 use Rattle.spec.specs.Register.{State, state, noReader, begunReader, readerOf, nodeAt, hasSlot, isRoot}
-use Rattle.spec.specs.Calls.{Answer, go, absent, found, next, refused, Call, inserting, call, writeInHand}
+use Rattle.spec.specs.Calls.{Answer, go, absent, found, next, refused, Call, inserting, call, writeInHand, turnCount}
 use Rattle.spec.specs.PlainList.{recordFor, acceptedWrites}
-use Rattle.promise.specs.Run.{justSetUp, Reads, callAt, indexAfter, plainAfter, ticketsAfter, Turns, Reading, Lookup, NextSearch}
+use Rattle.promise.specs.Run.{justSetUp, Reads, callAt, indexAfter, plainAfter, ticketsAfter, Turns, Reading, Lookup, NextSearch, comparedIn}
 use Rattle.promise.specs.Demands.{AtOneMoment, turnOf, Going, ends, goes, answerOf, Leads, arrived, onward, Reaches, Stands, FreeRight}
 use Rattle.promise.specs.Demands.{standingAt, StoresOne, PromiseFrom}
 use Rattle.readers.specs.Reach.{leads-there}
@@ -143,6 +143,22 @@ always-absent (t, a, b, e) = elim (ℕ-discrete t 3) [
 -- Always 11: an insert on an index just set up is accepted.
 pub always-11 : call (start .index) (inserting 3 30) .answer ≢ refused 11
 always-11 e = let f = computed .accepted in let z : _≡_ {A = ℕ} 0 1 = cc in omega arith
+
+-- 02, C-17. One that counts the load of the root: slot 0's first turn, call 3 of `lookup`, would reply 1, and `replies` would say that one node
+-- was compared by then. One that counts nothing: its last turn, call 6 of `replacing`, would reply 0.
+pub counts-the-root : 1 ≢ length (comparedIn start lookup 0 2 4)
+counts-the-root e = let none-compared = ap length (computed .compared4) in omega arith
+
+pub counts-nothing : 0 ≢ length (comparedIn start replacing 0 2 7)
+counts-nothing e = let one-compared = ap length (computed .comparedThen) in omega arith
+
+-- `low` of every reading, a write in hand or not: slot 0 compares the node of 3 when 3 has been taken out, and no key is held.
+pub low-while-writing : ¬ ((cs : List Call) (κ : Kind) (s k i j : ℕ) → Reading start cs κ s k i j
+    → let n = indexAfter start cs j .register .held in 2 ^ turnCount (indexAfter start cs j) s ≤ (n + 1) * (n + 1))
+low-while-writing h =
+    let r = promised lookup .demand3 .lookups .inLookup 0 6 (omega arith) (computed .reads6) in
+    let bound : 2 ^ 1 ≤ 1 = rw (computed .counts6, computed .held6) at (h lookup (r .0) 0 (r .1) (r .2) 6 (r .3)) in
+    omega arith
 
 -- Claims near to those of demand 3 that are false. A list that changes one call early: `everyKey` with the tickets of the next moment. After the
 -- insert of 3, before its turn, going from the root would find it.

@@ -19,11 +19,11 @@ use Rattle.spec.specs.Search.{seek, trail, leftmost}
 use Rattle.spec.specs.Plan.{insertFixup, fixupAfterInsert, paintInsertFixup, deleteFixup, fixupAfterRemoval, paintDeleteLevels, paintDeleteFixup}
 use Rattle.spec.specs.Plan.{insertPlan, unlinkPlan, deletePlan}
 use Rattle.spec.specs.Turn.{insertStore, replaceStore, unlinkStore, adoptStore, promoteStore, stepFinds, stepMade}
-use Rattle.spec.specs.Calls.{insert, delete, stored, writerTurn, begin, readerStep, readerTurn}
+use Rattle.spec.specs.Calls.{insert, delete, stored, writerTurn, begin, readerStep, readerTurn, turnCount}
 use Rattle.datatypes.specs.declared.Kind.the-variants as kind
 use Rattle.spec.specs.Calls.{ok, absent, found, next, Call, inserting, deleting, writing, beginning, turning, givingUp, call, reading}
 use Rattle.spec.specs.PlainList.{recordFor, acceptedWrites}
-use Rattle.promise.specs.Run.{Start, justSetUp, callAt, after, indexAfter, plainAfter, ticketsAfter}
+use Rattle.promise.specs.Run.{Start, justSetUp, callAt, after, indexAfter, plainAfter, ticketsAfter, comparedIn}
 use Rattle.promise.specs.Demands.{turnOf, origin, standingAt}
 
 abbrev pub start : Start
@@ -93,6 +93,10 @@ pub record Computed : Type 0 where
   pub origin6 : origin (indexAfter start lookup 6) 0 ≡ 1
   pub retired6 : standingAt (indexAfter start lookup 6) 1 ≡ standingRetired
   pub free6 : indexAfter start lookup 6 .register .free ≡ 7
+  -- slot 0 has compared no node by its turn that loads the root; in the end no key is held, and its next turn counts the node that it is at
+  pub compared4 : comparedIn start lookup 0 2 4 ≡ []
+  pub held6 : indexAfter start lookup 6 .register .held ≡ 0
+  pub counts6 : turnCount (indexAfter start lookup 6) 0 ≡ 1
   -- before the rotation: node 1 (key 3) over node 2 (key 1)
   pub root : before .register .root ≡ 1
   pub left1 : child (before .pool) L 1 ≡ 2
@@ -117,6 +121,7 @@ pub record Computed : Type 0 where
   pub kindThen : readerOf (indexAfter start replacing 6 .register) 0 .kind ≡ kind.Lookup
   pub keyThen : readerOf (indexAfter start replacing 6 .register) 0 .key ≡ 3
   pub answersThen : call (indexAfter start replacing 6) (turning 0) .answer ≡ found 30
+  pub comparedThen : comparedIn start replacing 0 2 7 ≡ 1 ∷ []
   pub begins2 : allIn (λ i. not (isBegin (callAt replacing i))) 0 2 ≡ true
   pub listedAll : allIn (λ t. has (recordFor 3 (ticketsAfter start replacing t))) 3 8 ≡ true
   pub listedLast : recordFor 3 (ticketsAfter start replacing 7) ≡ some 31
@@ -125,7 +130,8 @@ pub computed : Computed
 unfolding after rel allFrom allIn foldFrom foldIn word setWord nodeInRange poolInRange lengthRight freshNodes freshPool withRoot withQueue withHeld
     withReader withAwaited withWrite nodeAt setLink putSlot dropSlot readingSlots storeInRange registerInRange freshRegister fresh writeOf lessFirst takeFree fillNode
     takeNode freeNode retire release endReading seek trail insertFixup fixupAfterInsert paintInsertFixup deleteFixup fixupAfterRemoval paintDeleteLevels paintDeleteFixup
-    insertPlan unlinkPlan deletePlan leftmost unlinkStore adoptStore promoteStore insertStore replaceStore stepFinds stepMade insert delete stored writerTurn begin readerStep readerTurn
+    insertPlan unlinkPlan deletePlan leftmost unlinkStore adoptStore promoteStore insertStore replaceStore stepFinds stepMade insert delete stored writerTurn begin readerStep readerTurn turnCount
+    comparedIn
 computed = record {
   accepted = refl;
   readers1 = refl;
@@ -139,6 +145,9 @@ computed = record {
   origin6 = refl;
   retired6 = refl;
   free6 = refl;
+  compared4 = refl;
+  held6 = refl;
+  counts6 = refl;
   root = refl;
   left1 = refl;
   right1 = refl;
@@ -159,6 +168,7 @@ computed = record {
   kindThen = refl;
   keyThen = refl;
   answersThen = refl;
+  comparedThen = refl;
   begins2 = refl;
   listedAll = refl;
   listedLast = refl;

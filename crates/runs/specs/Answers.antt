@@ -7,7 +7,7 @@ use mathlib.Core.List.{List, []}
 use mathlib.Core.Logic.{_≢_, _⊎_, inl, inr}
 use native.Mathlib.Omega.{arith}
 use native.Mathlib.Decide.{ℕ-discrete}
-use lib.ListN.{length, getD}
+use lib.ListN.{getD}
 use Rattle.datatypes.specs.declared.Kind.{Kind}
 use Rattle.datatypes.specs.declared.Kind.the-variants as kind
 use Rattle.datatypes.specs.declared.Write.{Write}
@@ -19,7 +19,7 @@ use Rattle.spec.specs.Calls.{Call, inserting, deleting, writing, beginning, tur
 use Rattle.spec.specs.PlainList.{Plain, recordFor}
 use Rattle.promise.specs.Run.{Reads}
 use Rattle.tree.specs.Linked.{Linked}
-use Rattle.laws.specs.Reading.{reader-same, reader-other}
+use Rattle.laws.specs.Reading.{reader-other}
 use Rattle.readers.specs.NextSearches.{Nothing, Ticket, Answered}
 use Rattle.readers.specs.CallCase.{CallCase, refuses, plansInsert, plansDelete, waits, stores, begins, loads, misses, meets, finds, leaves, testsOf}
 use Rattle.readers.specs.Safe.{Safe, end-reader, end-own}

@@ -19,10 +19,10 @@ use Rattle.datatypes.specs.declared.Kind.{Kind}
 use Rattle.datatypes.specs.declared.Reader.{Reader}
 use Rattle.spec.specs.Numbers.{slots}
 use Rattle.spec.specs.Register.{State, readerOf}
-use Rattle.spec.specs.Calls.{Answer, ok, Call, inserting, deleting, writing, beginning, turning, givingUp, call, wrongLength, firstOf, readerTests, comparedBy, turnCount, writeInHand}
+use Rattle.spec.specs.Calls.{Answer, Call, inserting, deleting, writing, beginning, turning, givingUp, call, firstOf, readerTests, comparedBy, turnCount, writeInHand}
 use Rattle.spec.specs.PlainList.{Plain, Notice, turnedDown, waited, carriedOut, noticeOf}
 use Rattle.tree.specs.Linked.{Linked}
-use Rattle.promise.specs.Run.{Start, Reads, withNamed, thenCompared, perhapsCompared, thenPerhaps, callAt, after, indexAfter, plainAfter, Turns, Reading, comparedIn}
+use Rattle.promise.specs.Run.{Start, withNamed, thenCompared, perhapsCompared, thenPerhaps, callAt, after, indexAfter, plainAfter, Turns, Reading, comparedIn}
 use Rattle.promise.specs.Demands.{CountsRight}
 use Rattle.readers.specs.CallCase.{call-case}
 use Rattle.ranges.specs.Calls.{named-in}
@@ -31,8 +31,8 @@ use Rattle.runs.specs.Sound.{Sound, Starts}
 use Rattle.runs.specs.Slot.{StandAt, named-longer, stand-named, stand-seen, stand-counts}
 use Rattle.runs.specs.Low.{LowAt, low-turn, low-begun, low-next}
 use Rattle.runs.specs.Answers.{begun-is}
-use Rattle.runs.specs.Rest.{Completes, length-right, reader-clear, reader-goes}
-use Rattle.runs.specs.Theorem.{Possible, now, by-call, ends-at, shorter, sound-at, ranged-at, fits, compared-next, stands, in-reading}
+use Rattle.runs.specs.Rest.{Completes, reader-clear, reader-goes}
+use Rattle.runs.specs.Theorem.{next-is, compared-next, Possible, now, ends-at, shorter, sound-at, ranged-at, lent-at, fits, stands, in-reading}
 
 -- a call compares nothing for a slot, or the node that the slot's record names
 then-case : (seen : List ℕ) (s : ℕ) (x : Reader) (h : Notice) (c : Call) → (thenCompared seen s x h c ≡ seen) ⊎ (thenCompared seen s x h c ≡ withNamed seen x)
@@ -61,13 +61,8 @@ module _ (W : State → Plain → Linked → Type 0) (writer : Writer W) (comple
   sound : (j : ℕ) → Sound W writer (at j) (plainAfter S cs j)
   sound j = sound-at W writer S starts cs j
 
-  -- the pool keeps its length
-  pub lent : (j : ℕ) → wrongLength (at j) ≡ false
-  lent j = length-right (at j) (S .size) (starts .least) (starts .most) (sound j .safe .whole) (ranged-at W writer S starts cs j .within .size)
-
-  pub next-is : (j : ℕ) (c : Call) → callAt cs j ≡ some c → at (suc j) ≡ call (at j) c .after
-  unfolding after
-  next-is j c e = ap (λ o. thenPerhaps (after S cs j) o .index) e
+  abbrev Answers : ℕ → ℕ → ℕ → Option ℕ → Type 0
+  Answers i j = Possible W writer S starts cs i j
 
   -- A reading, begun by call i, when call j comes.
   module _ (κ : Kind) (s k i j : ℕ) (l : Reading S cs κ s k i j) where
@@ -77,36 +72,36 @@ module _ (W : State → Plain → Linked → Type 0) (writer : Writer W) (comple
     abbrev x : Reader
     x = readerOf (at j .register) s
 
-    here : (s < slots) × StandAt (at j) (Possible W writer S starts cs i j) κ s k seen
+    here : (s < slots) × StandAt (at j) (Answers i j) κ s k seen
     here = stands W writer S starts cs κ s k i j l
 
     named : Distinct (withNamed seen x) × (length (withNamed seen x) ≤ S .size)
     named =
-        let n = stand-named (at j) (Possible W writer S starts cs i j) κ s k seen (here .0) (sound j .safe) (here .1) in
+        let n = stand-named (at j) (Answers i j) κ s k seen (here .0) (sound j .safe) (here .1) in
         let size = ranged-at W writer S starts cs j .within .size in
         let few = n .1 in
         (n .0, omega arith)
 
     then : comparedIn S cs s i (j + 1) ≡ perhapsCompared seen s (at j) (callAt cs j)
-    then = ap (comparedIn S cs s i) (add-one j) ∙ compared-next W writer S starts cs s i j (l .later)
+    then = ap (comparedIn S cs s i) (add-one j) ∙ compared-next S cs s i j (l .later)
 
     once : Distinct (comparedIn S cs s i (j + 1))
     once = go (perhaps-case seen s (at j) (callAt cs j))
       where
         go : (perhapsCompared seen s (at j) (callAt cs j) ≡ seen) ⊎ (perhapsCompared seen s (at j) (callAt cs j) ≡ withNamed seen x) → Distinct (comparedIn S cs s i (j + 1))
-        go (inl e) = subst Distinct (sym (then ∙ e)) (stand-seen (at j) (Possible W writer S starts cs i j) κ s k seen (here .0) (sound j .safe) (here .1))
+        go (inl e) = subst Distinct (sym (then ∙ e)) (stand-seen (at j) (Answers i j) κ s k seen (here .0) (sound j .safe) (here .1))
         go (inr e) = subst Distinct (sym (then ∙ e)) (named .0)
 
     -- its turn passes the tests
     clear : firstOf (readerTests (at j) s) ≡ 0
-    clear = reader-clear (at j) s (lent j) (named-in (S .size) (at j) s (ranged-at W writer S starts cs j)) (here .0) (here .1 .reads)
+    clear = reader-clear (at j) s (lent-at W writer S starts cs j) (named-in (S .size) (at j) s (ranged-at W writer S starts cs j)) (here .0) (here .1 .reads)
 
     turn-is : turnCount (at j) s ≡ comparedBy x
     unfolding turnCount
     turn-is = ap (λ n. cond (eqb n 0) (comparedBy x) 0) clear
 
     turn-named : turnCount (at j) s ≡ length (withNamed seen x)
-    turn-named = turn-is ∙ stand-counts (at j) (Possible W writer S starts cs i j) κ s k seen (here .0) (sound j .safe) (here .1) (fits W writer S starts cs j)
+    turn-named = turn-is ∙ stand-counts (at j) (Answers i j) κ s k seen (here .0) (sound j .safe) (here .1) (fits W writer S starts cs j)
 
     replies : (a : Answer) → Turns S cs s j a → turnCount (at j) s ≡ length (comparedIn S cs s i (j + 1))
     replies a t =
@@ -128,7 +123,7 @@ module _ (W : State → Plain → Linked → Type 0) (writer : Writer W) (comple
   low-perhaps κ s k i j none e l on idle w = w
   low-perhaps κ s k i j (some c) e l on idle w =
       let g = here κ s k i j l in
-      low-next W writer (at j) (plainAfter S cs j) (sound j) (Possible W writer S starts cs i j) (now W writer S starts cs i j (l .later)) κ s k (g .0) (comparedIn S cs s i j) (g .1)
+      low-next W writer (at j) (plainAfter S cs j) (sound j) (Answers i j) (now W writer S starts cs i j (l .later)) κ s k (g .0) (comparedIn S cs s i j) (g .1)
       c (call (at j) c) (call-case (at j) c) idle (λ z. on .lasts j (l .later) (omega arith) (ends-at W writer S starts cs s j c e z)) w
 
   low-at : (κ : Kind) (s k i j : ℕ) → Reading S cs κ s k i j → ((t : ℕ) → i < t → t ≤ j → writeInHand (at t) ≡ false) → LowAt (at j) s
@@ -139,7 +134,7 @@ module _ (W : State → Plain → Linked → Type 0) (writer : Writer W) (comple
         subst (λ m. LowAt (at (suc m)) s) e
         (let b = begun-is (at i) (beginning κ s k) (call (at i) (beginning κ s k)) κ s k (call-case (at i) (beginning κ s k)) (refl, l .begins .1) in
         let h = sound i in
-        subst (λ st. LowAt st s) (sym (next-is i (beginning κ s k) (l .begins .0) ∙ b .1))
+        subst (λ st. LowAt st s) (sym (next-is S cs i (beginning κ s k) (l .begins .0) ∙ b .1))
         (low-begun (at i) s κ k (h .tree) (b .0) (h .safe) (writer .unfolds (at i) (plainAfter S cs i) (h .tree) (h .holds))))
     | no d ↦
         (let u : i < j = (let z = l .later in omega arith) in

@@ -44,7 +44,8 @@ abbrev pub EndsBy : Call → Answer → ℕ → Type 0
 EndsBy c a s = TurnsBy c a s absent ⊎ (((v : ℕ) × TurnsBy c a s (found v)) ⊎ (((k : ℕ) × (v : ℕ) × TurnsBy c a s (next k v)) ⊎ ((c ≡ givingUp s) × (a ≡ ok))))
 
 -- Another slot's record changes.
-stand-other : (st : State) (A : ℕ → Option ℕ → Type 0) (κ : Kind) (s t k : ℕ) (seen : List ℕ) (x : Reader) → t ≢ s → StandAt st A κ s k seen → StandAt (state (st .pool) (withReader (st .register) t x)) A κ s k seen
+stand-other : (st : State) (A : ℕ → Option ℕ → Type 0) (κ : Kind) (s t k : ℕ) (seen : List ℕ) (x : Reader) → t ≢ s → StandAt st A κ s k seen
+    → StandAt (state (st .pool) (withReader (st .register) t x)) A κ s k seen
 unfolding withReader
 stand-other st A κ s t k seen x d h = subst (λ y. Stand (st .pool) (st .register .root) (st .register .awaited) y A κ s k seen) (sym (reader-other (st .register) t s x d)) h
 

@@ -216,7 +216,13 @@ module _ (W : State → Plain → Linked → Type 0) (writer : Writer W) where
         → Stand (st .pool) (st .register .root) (st .register .awaited) (movedReader z n) A κ s k (withNamed seen y)
     stand-loads κ z n l d fits g =
         let e = load-fields z n l in
-        record { reads = refl; kind = e .0 ∙ g .kind; key = e .1 ∙ g .key; count = load-count z n l ∙ stand-counts st A κ s k seen u (h .safe) g fits; search = search-loads κ z n l d (g .reads) (g .kind) (g .key) (g .search) }
+        record {
+          reads = refl;
+          kind = e .0 ∙ g .kind;
+          key = e .1 ∙ g .key;
+          count = load-count z n l ∙ stand-counts st A κ s k seen u (h .safe) g fits;
+          search = search-loads κ z n l d (g .reads) (g .kind) (g .key) (g .search);
+        }
 
     -- it loads none
     search-empty : (κ : Kind) (z : Reader) (n : ℕ) → Loads st s z n → n ≡ 0 → y .kind ≡ κ → y .key ≡ k → SearchAt κ (y .node) (rememberedBy y) seen → EmptyRight κ A k (rememberedBy z)

@@ -1,6 +1,7 @@
 -- Demand 3 of every list of calls from a start, from what the writer's side gives (Writer).
 use Prim.Native.Nat.{ℕ, zero, suc, _+_, _-_, _<_, _≤_}
 use mathlib.Core.Path.{_≡_, refl, sym, ap, _∙_, subst}
+use mathlib.Core.Bool.{false}
 use mathlib.Core.List.{List, [], _∷_}
 use mathlib.Core.Option.{Option, none, some}
 use mathlib.Core.Logic.{_⊎_, inl, inr}
@@ -12,7 +13,7 @@ use Rattle.datatypes.specs.declared.Kind.the-variants as kind
 use Rattle.spec.specs.Numbers.{slots, largestWord}
 use Rattle.spec.specs.Pool.{nodes, standingWord}
 use Rattle.spec.specs.Register.{State, begunReader}
-use Rattle.spec.specs.Calls.{Answer, ok, absent, found, next, Call, beginning, turning, givingUp, call}
+use Rattle.spec.specs.Calls.{Answer, ok, absent, found, next, Call, beginning, turning, givingUp, call, wrongLength}
 use Rattle.spec.specs.PlainList.{Plain, recordFor}
 use Rattle.laws.specs.Words.{word-none}
 use Rattle.tree.specs.Linked.{Linked}
@@ -29,6 +30,7 @@ use Rattle.ranges.specs.Calls.{Ranged, ranged-next}
 use Rattle.runs.specs.Writer.{Writer}
 use Rattle.runs.specs.Sound.{Sound, sound-next, Starts}
 use Rattle.runs.specs.Slot.{StandAt, EmptyRight, stand-more}
+use Rattle.runs.specs.Rest.{length-right}
 use Rattle.runs.specs.Follow.{BeginsBy, EndsBy, stand-next, kept-next}
 use Rattle.runs.specs.Answers.{begun-right, found-right, absent-right, next-right, read-before}
 
@@ -49,6 +51,20 @@ module _ (S : Start) (cs : List Call) (j : ℕ) (c d : Call) (a : Answer) (e : c
   to-run : (c ≡ d) × (call (indexAfter S cs j) c .answer ≡ a) → Gives S cs j d a
   to-run x = (e ∙ ap some (x .0), ap (λ y. call (indexAfter S cs j) y .answer) (sym (x .0)) ∙ x .1)
 
+module _ (S : Start) (cs : List Call) where
+  pub next-is : (j : ℕ) (c : Call) → callAt cs j ≡ some c → indexAfter S cs (suc j) ≡ call (indexAfter S cs j) c .after
+  unfolding after
+  next-is j c e = ap (λ o. thenPerhaps (after S cs j) o .index) e
+
+  -- the nodes compared for a slot: none by the call that begins its reading, and then call by call
+  compared-begun : (s i : ℕ) → comparedIn S cs s i (suc i) ≡ []
+  unfolding comparedIn
+  compared-begun s i = rw (le-ltb i i (omega arith))
+
+  pub compared-next : (s i j : ℕ) → i < j → comparedIn S cs s i (suc j) ≡ perhapsCompared (comparedIn S cs s i j) s (indexAfter S cs j) (callAt cs j)
+  unfolding comparedIn
+  compared-next s i j u = rw (lt-ltb i j u)
+
 module _ (W : State → Plain → Linked → Type 0) (writer : Writer W) (S : Start) (starts : Starts W writer S) (cs : List Call) where
   abbrev at : ℕ → State
   at j = indexAfter S cs j
@@ -66,7 +82,7 @@ module _ (W : State → Plain → Linked → Type 0) (writer : Writer W) (S : St
   sound-at zero = starts .sound
   sound-at (suc j) = sound-perhaps (after S cs j) (callAt cs j) (sound-at j)
 
-  -- the ranges hold at each moment; so the pool keeps its N nodes
+  -- The ranges hold at each moment; so the pool keeps its N nodes and its length, and N is far below where a count stops.
   ranged-perhaps : (m : Moment) (c : Option Call) → Ranged (S .size) (m .index) → Ranged (S .size) (thenPerhaps m c .index)
   ranged-perhaps m none h = h
   ranged-perhaps m (some c) h = ranged-next (S .size) (m .index) c (call (m .index) c) (call-case (m .index) c) h
@@ -76,17 +92,11 @@ module _ (W : State → Plain → Linked → Type 0) (writer : Writer W) (S : St
   ranged-at zero = starts .ranged
   ranged-at (suc j) = ranged-perhaps (after S cs j) (callAt cs j) (ranged-at j)
 
+  pub lent-at : (j : ℕ) → wrongLength (at j) ≡ false
+  lent-at j = length-right (at j) (S .size) (starts .least) (starts .most) (sound-at j .safe .whole) (ranged-at j .within .size)
+
   pub fits : (j : ℕ) → nodes (at j .pool) ≤ largestWord
   fits j = let a = ranged-at j .within .size in let b = starts .most in omega arith
-
-  -- the nodes compared for a slot: none by the call that begins its reading, and then call by call
-  pub compared-begun : (s i : ℕ) → comparedIn S cs s i (suc i) ≡ []
-  unfolding comparedIn
-  compared-begun s i = rw (le-ltb i i (omega arith))
-
-  pub compared-next : (s i j : ℕ) → i < j → comparedIn S cs s i (suc j) ≡ perhapsCompared (comparedIn S cs s i j) s (at j) (callAt cs j)
-  unfolding comparedIn
-  compared-next s i j u = rw (lt-ltb i j u)
 
   -- the answers possible for each key k at the moments of a reading begun by call i, up to moment j
   abbrev pub Possible : ℕ → ℕ → ℕ → Option ℕ → Type 0
@@ -130,11 +140,11 @@ module _ (W : State → Plain → Linked → Type 0) (writer : Writer W) (S : St
   stands κ s k i (suc j) l = elim (ℕ-discrete i j) [
     | yes e ↦
         subst (λ m. (s < slots) × StandAt (thenPerhaps (after S cs m) (callAt cs m) .index) (Possible i (suc m)) κ s k (comparedIn S cs s i (suc m))) e
-        (rw (compared-begun s i) (begin-perhaps κ s k i (callAt cs i) refl (l .begins)))
+        (rw (compared-begun S cs s i) (begin-perhaps κ s k i (callAt cs i) refl (l .begins)))
     | no d ↦
         (let u : i < j = (let z = l .later in omega arith) in
         let g = stands κ s k i j (shorter κ s k i (suc j) j u (omega arith) l) in
-        rw (compared-next s i j u)
+        rw (compared-next S cs s i j u)
         (g .0, stand-perhaps κ s k i j (comparedIn S cs s i j) (callAt cs j) refl u (g .0) (l .lasts j u (omega arith)) (g .1) (now i (suc j) (omega arith))))
   ]
 
@@ -188,17 +198,20 @@ module _ (W : State → Plain → Linked → Type 0) (writer : Writer W) (S : St
     found-turn : (v : ℕ) → Gives S cs j (turning s) (found v) → (κ ≡ kind.Lookup) × Possible i j k (some v)
     found-turn v g =
         let z = stands κ s k i j l in
-        found-right W writer (at j) (list j) (sound-at j) (Possible i j) (now i j (l .later)) s k (z .0) (comparedIn S cs s i j) κ v (call (at j) (turning s)) (call-case (at j) (turning s)) (g .1) (z .1)
+        found-right W writer (at j) (list j) (sound-at j) (Possible i j) (now i j (l .later)) s k (z .0) (comparedIn S cs s i j) κ v
+        (call (at j) (turning s)) (call-case (at j) (turning s)) (g .1) (z .1)
 
     absent-turn : Gives S cs j (turning s) absent → EmptyRight κ (Possible i j) k Nothing
     absent-turn g =
         let z = stands κ s k i j l in
-        absent-right W writer (at j) (list j) (sound-at j) (Possible i j) (now i j (l .later)) s k (z .0) (comparedIn S cs s i j) κ (call (at j) (turning s)) (call-case (at j) (turning s)) (g .1) (z .1)
+        absent-right W writer (at j) (list j) (sound-at j) (Possible i j) (now i j (l .later)) s k (z .0) (comparedIn S cs s i j) κ
+        (call (at j) (turning s)) (call-case (at j) (turning s)) (g .1) (z .1)
 
     next-turn : (q v : ℕ) → Gives S cs j (turning s) (next q v) → (κ ≡ kind.Next) × Answered (Possible i j) k (Ticket q v)
     next-turn q v g =
         let z = stands κ s k i j l in
-        next-right W writer (at j) (list j) (sound-at j) (Possible i j) (now i j (l .later)) s k (z .0) (comparedIn S cs s i j) κ q v (call (at j) (turning s)) (call-case (at j) (turning s)) (g .1) (z .1)
+        next-right W writer (at j) (list j) (sound-at j) (Possible i j) (now i j (l .later)) s k (z .0) (comparedIn S cs s i j) κ q v
+        (call (at j) (turning s)) (call-case (at j) (turning s)) (g .1) (z .1)
 
   widen : (i j k : ℕ) (o : Option ℕ) → Possible i j k o → AtOneMoment S cs k i j o
   widen i j k o p = (p .0, p .1, (let a = p .2 in omega arith), p .3)
@@ -240,7 +253,8 @@ module _ (W : State → Plain → Linked → Type 0) (writer : Writer W) (S : St
   }
 
   -- Part 3. What is kept for a slot at a moment of its reading is kept until the reading ends.
-  kept-perhaps : (κ : Kind) (s k i j m : ℕ) (c : Option Call) → callAt cs j ≡ c → Reading S cs κ s k i j → ¬ (Ends S cs s j) → Kept (at j .pool) s m → Kept (thenPerhaps (after S cs j) c .index .pool) s m
+  kept-perhaps : (κ : Kind) (s k i j m : ℕ) (c : Option Call) → callAt cs j ≡ c → Reading S cs κ s k i j → ¬ (Ends S cs s j) → Kept (at j .pool) s m
+      → Kept (thenPerhaps (after S cs j) c .index .pool) s m
   kept-perhaps κ s k i j m none e l lasts h = h
   kept-perhaps κ s k i j m (some c) e l lasts h =
       let g = stands κ s k i j l in

@@ -27,9 +27,9 @@ use Rattle.ranges.specs.Calls.{Ranged, ranged-in, named-in}
 use Rattle.runs.specs.Writer.{Writer}
 use Rattle.runs.specs.Sound.{Sound, Starts}
 use Rattle.runs.specs.Starts.{exact-right}
-use Rattle.runs.specs.Theorem.{sound-at, ranged-at, demand3}
+use Rattle.runs.specs.Theorem.{next-is, sound-at, ranged-at, lent-at, demand3}
 use Rattle.runs.specs.Rest.{Completes, wait-right, refused-by, not-one, not-two, not-twelve, none-awaited, turn-clear, turn-goes}
-use Rattle.runs.specs.Counts.{lent, next-is, counted}
+use Rattle.runs.specs.Counts.{counted}
 use Rattle.runs.specs.Standings.{stands-one, retired-held, all-counted}
 use Rattle.runs.specs.OneStore.{more-left, done-left, Tells, store-one}
 
@@ -63,7 +63,7 @@ module _ (W : State → Plain → Linked → Type 0) (writer : Writer W) (comple
   soon j l n g =
       let h = sound (suc j) in
       let left : at (suc j) .register .write .count ≢ 0 =
-      subst (λ st. st .register .write .count ≢ 0) (sym (next-is W writer completes S starts cs j writing (g .0))) (more-left (at j) writing (call (at j) writing) l n (call-case (at j) writing) (g .1)) in
+      subst (λ st. st .register .write .count ≢ 0) (sym (next-is S cs j writing (g .0))) (more-left (at j) writing (call (at j) writing) l n (call-case (at j) writing) (g .1)) in
       let hand : writeInHand (at (suc j)) ≡ true = rw (ne-eqb (at (suc j) .register .write .count) 0 left) in
       let few = completes .few (at (suc j)) (plainAfter S cs (suc j)) (h .tree) (h .holds) hand in
       rw (add-one j) (omega arith)
@@ -76,8 +76,8 @@ module _ (W : State → Plain → Linked → Type 0) (writer : Writer W) (comple
   pub ranged : (j : ℕ) → Ranged (S .size) (at j)
   ranged j = ranged-at W writer S starts cs j
 
-  length-kept : (j : ℕ) → wrongLength (at j) ≡ false
-  length-kept j = lent W writer completes S starts cs j
+  lent : (j : ℕ) → wrongLength (at j) ≡ false
+  lent j = lent-at W writer S starts cs j
 
   goesOn : (j : ℕ) → writeInHand (at j) ≡ true → ((s : ℕ) → s < slots → hasSlot (at j .register .awaited) s ≡ true → reading (at j) s ≡ false)
       → noticeOf (call (at j) writing .answer) ≡ carriedOut
@@ -85,12 +85,12 @@ module _ (W : State → Plain → Linked → Type 0) (writer : Writer W) (comple
       let h = sound j in
       let z = none-awaited (at j) (h .safe) f in
       turn-goes (at j) writing (call (at j) writing) (call-case (at j) writing)
-      (turn-clear (at j) (length-kept j) (ranged-in (S .size) (at j) (ranged j)) w (completes .stepGoes (at j) (plainAfter S cs j) (h .tree) (h .safe) (h .holds) z w)) z
+      (turn-clear (at j) (lent j) (ranged-in (S .size) (at j) (ranged j)) w (completes .stepGoes (at j) (plainAfter S cs j) (h .tree) (h .safe) (h .holds) z w)) z
 
   finished : (j : ℕ) (l : Link) (n : ℕ) → Gives S cs j writing (done l n) → writeInHand (at (j + 1)) ≡ false
   finished j l n g =
       let none-left : at (suc j) .register .write .count ≡ 0 =
-      subst (λ st. st .register .write .count ≡ 0) (sym (next-is W writer completes S starts cs j writing (g .0))) (done-left (at j) writing (call (at j) writing) l n (call-case (at j) writing) (g .1)) in
+      subst (λ st. st .register .write .count ≡ 0) (sym (next-is S cs j writing (g .0))) (done-left (at j) writing (call (at j) writing) l n (call-case (at j) writing) (g .1)) in
       rw (add-one j, eq-eqb (at (suc j) .register .write .count) 0 none-left)
 
   -- the linked nodes are the tree's, at every moment
@@ -118,7 +118,7 @@ module _ (W : State → Plain → Linked → Type 0) (writer : Writer W) (comple
   oneStore j l n g =
       let called : callAt cs j ≡ some writing = ⊎-elim (λ x. x .0) (λ x. x .0) g in
       let told : Tells (call (at j) writing .answer) l n = ⊎-map (λ x. x .1) (λ x. x .1) g in
-      rw (add-one j, next-is W writer completes S starts cs j writing called)
+      rw (add-one j, next-is S cs j writing called)
       (store-one W writer (at j) (plainAfter S cs j) writing (call (at j) writing) l n (call-case (at j) writing) (sound j) told)
 
   pub demand2 : Demand2 S cs
@@ -141,10 +141,11 @@ module _ (W : State → Plain → Linked → Type 0) (writer : Writer W) (comple
 
   pub never : NeverMet S cs
   never = record {
-    two = λ j c g. not-two (at j) c (ranged-in (S .size) (at j) (ranged j)) (λ s. named-in (S .size) (at j) s (ranged j)) (refused-by (at j) c (call (at j) c) 2 (omega arith) (call-case (at j) c) (g .1));
+    two = λ j c g. not-two (at j) c (ranged-in (S .size) (at j) (ranged j)) (λ s. named-in (S .size) (at j) s (ranged j))
+        (refused-by (at j) c (call (at j) c) 2 (omega arith) (call-case (at j) c) (g .1));
     twelve = λ j c g. (let h = sound j in
         not-twelve W completes (at j) (plainAfter S cs j) (h .tree) (h .safe) (h .holds) c (refused-by (at j) c (call (at j) c) 12 (omega arith) (call-case (at j) c) (g .1)));
-    one = λ j c g. not-one (at j) c (length-kept j) (refused-by (at j) c (call (at j) c) 1 (omega arith) (call-case (at j) c) (g .1));
+    one = λ j c g. not-one (at j) c (lent j) (refused-by (at j) c (call (at j) c) 1 (omega arith) (call-case (at j) c) (g .1));
   }
 
   -- a reader's turn tests less than every word, and all words are in range

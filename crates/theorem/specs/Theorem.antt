@@ -2,7 +2,7 @@
 -- from every other sound start (runs: Starts).
 use Prim.Native.Nat.{ℕ, _*_, _<_, _≤_}
 use mathlib.Core.Path.{_≡_, sym, _∙_, subst}
-use mathlib.Core.Bool.{false≢true}
+use mathlib.Core.Bool.{false, false≢true}
 use mathlib.Core.List.{List}
 use native.Mathlib.Omega.{arith}
 use native.Mathlib.Numerals.{add-one}
@@ -13,13 +13,15 @@ use Rattle.datatypes.specs.declared.Kind.{Kind}
 use Rattle.datatypes.specs.declared.Register.{Register}
 use Rattle.spec.specs.Numbers.{nodeWords, leastNodes, mostNodes}
 use Rattle.spec.specs.Pool.{nodes as poolNodes, word, colourWord, standingWord, redColour, standingLinked}
-use Rattle.spec.specs.Register.{state}
-use Rattle.spec.specs.Calls.{ok, outcome, setUp, Call, call}
+use Rattle.spec.specs.Register.{State, state}
+use Rattle.spec.specs.Calls.{ok, outcome, setUp, Call, call, writeInHand}
+use Rattle.spec.specs.PlainList.{Plain}
 use Rattle.readers.specs.CallCase.{call-case}
 use Rattle.tree.specs.Linked.{Linked, nil, cell, find, nodes}
 use Rattle.tree.specs.Occurs.{occ-distinct, nodes-size}
 use Rattle.tree.specs.Erase.{erase, erase-find, erase-height}
 use Rattle.tree.specs.Height.{height-bound}
+use Rattle.tree.specs.Sorted.{size}
 use Rattle.heap.specs.Rep.{Rep}
 use Rattle.heap.specs.Colours.{hue, colours}
 use Rattle.heap.specs.Phase.{phase-rep}
@@ -78,20 +80,20 @@ writer = record {
   store = λ st x T safe h a w f. writerSide-store st x T safe h w;
 }
 
+-- at rest the tree has as many keys as are held
+rest-size : (st : State) (x : Plain) (T : Linked) → WriterSide st x T → writeInHand st ≡ false → size (erase (colours (st .pool)) T) ≡ st .register .held
+rest-size st x T h e =
+    let c = colours (st .pool) in
+    tickets-size (x .tickets) (erase c T) (resting st x T h e .rest .sound .proper) (h .unique) (λ q. erase-find c T q ∙ h .finds q) ∙ sym (h .held)
+
 pub completes : Completes WriterSide
 completes = record {
   rest = λ st x T h c e. (let f = resting st x T h e in subst (λ t. Stands (st .pool) (st .register .root) t) (f .tree) (stands (st .pool) T (st .register .root) c (f .rest .rep)));
-  counts = λ st x T h e. (
-      let f = resting st x T h e .rest in
-      let c = colours (st .pool) in
-      let size = tickets-size (x .tickets) (erase c T) (f .sound .proper) (h .unique) (λ q. erase-find c T q ∙ h .finds q) in
-      (occ-distinct (nodes T) (f .sound .once), nodes-size c T ∙ size ∙ sym (h .held))
-      );
+  counts = λ st x T h e. (occ-distinct (nodes T) (resting st x T h e .rest .sound .once), nodes-size (colours (st .pool)) T ∙ rest-size st x T h e);
   low = λ st x T h e. (
-      let f = resting st x T h e .rest in
       let c = colours (st .pool) in
-      let size = tickets-size (x .tickets) (erase c T) (f .sound .proper) (h .unique) (λ q. erase-find c T q ∙ h .finds q) in
-      rw (add-one (st .register .held)) (rw (size ∙ sym (h .held), erase-height c T) at (height-bound (erase c T) (f .sound .proper .redblack)))
+      let low = height-bound (erase c T) (resting st x T h e .rest .sound .proper .redblack) in
+      rw (add-one (st .register .held)) (rw (rest-size st x T h e, erase-height c T) at low)
       );
   few = λ st x T h e. (let a = h .few in rw (h .hand .write, write-count (h .stores)) a);
   insertGoes = λ st x T k v safe h e. (
