@@ -93,10 +93,10 @@ abbrev pub StandAt : State → (ℕ → Option ℕ → Type 0) → Kind → ℕ 
 StandAt st A κ s k seen = Stand (st .pool) (st .register .root) (st .register .awaited) (readerOf (st .register) s) A κ s k seen
 
 -- A turn compares the node that the record names, if it names one: it is none of those seen, and with them at most N. So the count does not stop.
-pub named-none : (seen : List ℕ) (x : Reader) → x .node ≡ 0 → withNamed seen x ≡ seen
+named-none : (seen : List ℕ) (x : Reader) → x .node ≡ 0 → withNamed seen x ≡ seen
 named-none seen x e = rw (eq-eqb (x .node) 0 e)
 
-pub named-one : (seen : List ℕ) (x : Reader) → x .node ≢ 0 → withNamed seen x ≡ seen ++ x .node ∷ []
+named-one : (seen : List ℕ) (x : Reader) → x .node ≢ 0 → withNamed seen x ≡ seen ++ x .node ∷ []
 named-one seen x d = rw (ne-eqb (x .node) 0 d)
 
 pub named-longer : (seen : List ℕ) (x : Reader) → length seen ≤ length (withNamed seen x)
