@@ -13,7 +13,7 @@ use refusals::Tested;
 ghost use mathlib.Core.Path.{_≡_};
 ghost use Rattle.datatypes.specs.declared.Kind.the-variants as kind;
 ghost use Rattle.spec.specs.Register.{state};
-ghost use Rattle.spec.specs.Calls.{accepts, writerSays, readerSays, setUp, insert, delete, writerTurn, begin, readerTurn, giveUp};
+ghost use Rattle.spec.specs.Calls.{accepts, writerSays, readerSays, setUp, insert, delete, writerTurn, begin, readerTurn, turnCount, giveUp};
 
 // Set up: makes the lent words a fresh pool, every node free, and answers its register.
 // Needs: nothing of the words but their number. The register that goes in is not read; fresh::fresh_register(0) makes one.
@@ -138,7 +138,8 @@ pub fn begin_next(pool: &[u32], reg: Register, s: u32, k: u32) -> Reply
 // Needs: nothing; a slot that isn't reading is refused.
 // Answers: Go, the search goes on. A lookup ends with Found and the record, or with Absent, right at one moment since the slot's begin. A
 // search for the next ticket ends with Next and the ticket's key and record, or with Absent: the ticket was held at a moment since the begin,
-// and no key between the given one and it (after Absent: no greater key) was held all the time since.
+// and no key between the given one and it (after Absent: no greater key) was held all the time since. With the answer comes `compared`, how many
+// nodes the search has compared so far, this turn's included.
 // Refuses, tested in this order: 1 length; 2 a field of the register, or a word of the node that the slot's record names, reading or not, out
 // of range; 3 the slot is above 31; 5 the slot is not reading. No other word of the pool is tested.
 // Leaves: after Go only the slot's node and what it remembers changed; after Found, Next and Absent the slot is no longer reading, awaited or
@@ -146,6 +147,7 @@ pub fn begin_next(pool: &[u32], reg: Register, s: u32, k: u32) -> Reply
 pub fn reader_turn(pool: &mut [u32], reg: Register, s: u32) -> ReaderReply
     ensures { λ r. ⌜ readerSays (r .answer) ≡ readerTurn (state (now (pool .entry)) reg) s .answer ⌝ }
     ensures { λ r. ⌜ state (now (pool .exit)) (r .register) ≡ readerTurn (state (now (pool .entry)) reg) s .after ⌝ }
+    ensures { λ r. ⌜ r .compared ≡ turnCount (state (now (pool .entry)) reg) s ⌝ }
 {
     let lent = refusals::lent_refusal(pool, reg, Tested::Register);
     let i = refusals::slot_index(s);
@@ -162,7 +164,7 @@ pub fn reader_turn(pool: &mut [u32], reg: Register, s: u32) -> ReaderReply
     let write = reg.write;
     let register = heads::register_of(left, readers, write);
     let answer = looked.answer;
-    replies::answers_reader(answer, register)
+    replies::answers_reader(answer, register, looked.compared)
 }
 
 // Give up: ends the lookup, or the search for the next ticket, of the slot s without an answer.

@@ -12,10 +12,11 @@ ghost use Rattle.spec.specs.Numbers.{poolLimit, slots};
 ghost use Rattle.spec.specs.Calls.{readerSays, emptyAnswer};
 ghost use Rattle.lookups.specs.Looked.{lookOf, load, lookAt, lookFrom, Leaves};
 
-// What a reader's turn answers, and its record then; all 0 where its reading ended.
+// What a reader's turn answers, its record then, all 0 where its reading ended, and how many nodes the reading has compared.
 pub struct Looked {
     pub answer: ReaderAnswer,
     pub reader: Reader,
+    pub compared: u32,
 }
 
 // Answers the ticket remembered, absent if there is none.
@@ -47,16 +48,21 @@ fn load(x: Reader, node: u32) -> Looked
         let kind = x.kind;
         let answer = empty_answer(kind, x);
         let reader = register::no_reader();
-        return Looked { answer, reader };
+        return Looked {
+            answer,
+            reader,
+            compared: x.compared,
+        };
     }
     let reader = register::moved_reader(x, node);
     Looked {
         answer: ReaderAnswer::Go,
         reader,
+        compared: x.compared,
     }
 }
 
-// Makes the turn of a lookup that is at a node.
+// Makes the turn of a lookup that is at a node and has counted it.
 fn look_up(pool: &[u32], x: Reader) -> Looked
     ensures { λ r. ⌜ lookOf r ≡ lookAt kind.Lookup (now (pool .entry)) x ⌝ }
 {
@@ -67,12 +73,13 @@ fn look_up(pool: &[u32], x: Reader) -> Looked
         return Looked {
             answer: ReaderAnswer::Found(record),
             reader,
+            compared: x.compared,
         };
     }
     load(x, search::child_towards(pool, x.key, x.node))
 }
 
-// Makes the turn of a search for the next ticket that is at a node: a greater key is remembered with its record.
+// Makes the turn of a search for the next ticket that is at a node and has counted it: a greater key is remembered with its record.
 fn look_next(pool: &[u32], x: Reader) -> Looked
     ensures { λ r. ⌜ lookOf r ≡ lookAt kind.Next (now (pool .entry)) x ⌝ }
 {
@@ -92,10 +99,11 @@ pub fn look(pool: &[u32], root: u32, x: Reader) -> Looked
     if x.node == 0 {
         return load(x, root);
     }
+    let y = register::counting(x);
     let kind = x.kind;
     match kind {
-        Kind::Lookup => look_up(pool, x),
-        Kind::Next => look_next(pool, x),
+        Kind::Lookup => look_up(pool, y),
+        Kind::Next => look_next(pool, y),
     }
 }
 

@@ -9,7 +9,7 @@ use datatypes::Write;
 ghost use mathlib.Core.Path.{_≡_};
 ghost use mathlib.Core.Bool.{cond, _&&_};
 ghost use Rattle.spec.specs.Numbers.{slots, mostStores};
-ghost use Rattle.spec.specs.Register.{noReader, begunReader, movedReader, remembering, vacant, noWrite, withWrite};
+ghost use Rattle.spec.specs.Register.{noReader, begunReader, movedReader, remembering, counting, vacant, noWrite, withWrite};
 ghost use Rattle.spec.specs.Register.{readingSlots, nodeNumber, linkInRange, stepInRange, isRoot, isVacant, storeInRange, readerInRange, registerInRange};
 ghost use Rattle.base.specs.Walk.{allIn};
 
@@ -22,6 +22,7 @@ pub const NO_READER: Reader = Reader {
     node: 0,
     best: 0,
     value: 0,
+    compared: 0,
 };
 
 // Makes that record.
@@ -43,6 +44,7 @@ pub fn begun_reader(kind: Kind, k: u32) -> Reader
         node: 0,
         best: 0,
         value: 0,
+        compared: 0,
     }
 }
 
@@ -59,6 +61,7 @@ pub fn moved_reader(x: Reader, n: u32) -> Reader
         node: n,
         best: x.best,
         value: x.value,
+        compared: x.compared,
     }
 }
 
@@ -75,7 +78,17 @@ pub fn remembering(x: Reader, k: u32, v: u32) -> Reader
         node: x.node,
         best: k,
         value: v,
+        compared: x.compared,
     }
+}
+
+// Makes the record of a slot whose turn compares one more node.
+pub fn counting(x: Reader) -> Reader
+    ensures { λ r. ⌜ r ≡ counting x ⌝ }
+{
+    let mut y = x;
+    y.compared = counts::count_up(u32::MAX, x.compared);
+    y
 }
 
 // Makes the store that stands for no store.

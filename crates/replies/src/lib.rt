@@ -49,19 +49,24 @@ pub fn waits(register: Register) -> WriterReply
     }
 }
 
-// Makes the reply of a reader's turn.
-pub fn answers_reader(answer: ReaderAnswer, register: Register) -> ReaderReply
-    ensures { λ r. ⌜ (readerSays (r .answer) ≡ readerSays answer) × (r .register ≡ register) ⌝ }
+// Makes the reply of a reader's turn, with the count of nodes that its reading has compared.
+pub fn answers_reader(answer: ReaderAnswer, register: Register, compared: u32) -> ReaderReply
+    ensures { λ r. ⌜ (readerSays (r .answer) ≡ readerSays answer) × (r .register ≡ register) × (r .compared ≡ compared) ⌝ }
 {
-    ReaderReply { answer, register }
+    ReaderReply {
+        answer,
+        register,
+        compared,
+    }
 }
 
 // Makes the reply of a refused reader's turn.
 pub fn refuses_reader(number: u32, register: Register) -> ReaderReply
-    ensures { λ r. ⌜ (readerSays (r .answer) ≡ refused number) × (r .register ≡ register) ⌝ }
+    ensures { λ r. ⌜ (readerSays (r .answer) ≡ refused number) × (r .register ≡ register) × (r .compared ≡ 0) ⌝ }
 {
     ReaderReply {
         answer: ReaderAnswer::Refused(number),
         register,
+        compared: 0,
     }
 }

@@ -6,8 +6,9 @@ use Rattle.spec.specs.Pool.{nodes}
 use Rattle.spec.specs.Register.{state, withReader}
 use Rattle.laws.specs.Tests.{length-of, slot-of, reader-fits, unless-refused, unless-done}
 use Rattle.refusals.specs.Slots.{index-of, register-passed, turn-tests}
-use Rattle.spec.specs.Calls.{Outcome, _gives_, firstOf, wrongLength, namedOutOfRange, slotTooHigh, reading, readerStep, readerTurn, readerTests}
+use Rattle.spec.specs.Calls.{Outcome, _gives_, firstOf, wrongLength, namedOutOfRange, slotTooHigh, reading, readerStep, readerTurn, turnCount, readerTests}
 use Rattle.lookups.specs.Looked.{lookOf, turn-looked}
+use borrow.Author.Tests.{eq-eqb, ne-eqb}
 use borrow.Author.Needs.{needs}
 use Rattle.index.proofs.reader_turn.Statement.{statement}
 use Rattle.index.proofs.reader_turn.Tie as tie
@@ -50,7 +51,7 @@ same-length : tie.Need-same-length
 same-length c = search needs
 
 returns : tie.Need-returns
-unfolding readerTurn
+unfolding readerTurn turnCount
 returns c =
     let c6 = c .before .before .before .before .before .before in
     let c7 = c6 .before in
@@ -60,7 +61,13 @@ returns c =
     let why = c .before .before .turn-refusal in
     let w : why .result ≡ firstOf (readerTests st (a .s)) = why .ensures ∙ rw (c7 .lent-refusal .ensures) (turn-tests st (a .s) (i .result) (i .ensures .0)) in
     let e = unless-refused (readerTests st (a .s)) st (readerStep st (a .s)) (why .result) (sym w) (c .before .if1 .taken) in
-    (c .refuses-reader .ensures .0 ∙ sym (ap (λ (o : Outcome). o .answer) e), rw (c .refuses-reader .ensures .1) (sym (ap (λ (o : Outcome). o .after) e)))
+    let r = c .refuses-reader .ensures in (
+      r .0 ∙ sym (ap (λ (o : Outcome). o .answer) e),
+      (
+        rw (r .1) (sym (ap (λ (o : Outcome). o .after) e)),
+        rw (ne-eqb (firstOf (readerTests st (a .s))) 0 (λ z. c .before .if1 .taken (w ∙ z))) (r .2),
+      ),
+    )
 
 look-requires : tie.Need-look-requires
 look-requires c κs = search needs
@@ -99,7 +106,7 @@ same-length-2 : tie.Need-same-length-2
 same-length-2 c = search needs
 
 returns-2 : tie.Need-returns-2
-unfolding readerTurn withReader
+unfolding readerTurn turnCount withReader
 returns-2 c =
     let c5 = c .before .before .before .before .before in
     let c6 = c5 .before in
@@ -120,7 +127,10 @@ returns-2 c =
     let k = c9 .look in
     let f = turn-looked (a .pool .now) (l .last .0) (a .reg) (l .result) s (i .result) (lookOf (k .result)) j (k .ensures) (rw (c6 .head-of .ensures) at (l .ensures)) in (
       c .answers-reader .ensures .0 ∙ f .0 ∙ sym (ap (λ (o : Outcome). o .answer) e),
-      rw (c .answers-reader .ensures .1, c .before .register-of .ensures) (f .1 ∙ sym (ap (λ (o : Outcome). o .after) e)),
+      (
+        rw (c .answers-reader .ensures .1, c .before .register-of .ensures) (f .1 ∙ sym (ap (λ (o : Outcome). o .after) e)),
+        rw (eq-eqb (firstOf (readerTests st s)) 0 z) (c .answers-reader .ensures .2 ∙ f .2),
+      ),
     )
 
 pub reader-turn-spec : {M : Type 1} → statement M
