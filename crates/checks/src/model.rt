@@ -87,11 +87,13 @@ const MOST: u32 = 4_294_967_295;
 // half of a word's numbers: doubled, none below it is too large
 const HALF_RANGE: u32 = 2_147_483_648;
 
-fn word(model: &[u32], at: usize) -> u32 {
+// Answers a word of those lent; 0 past the end.
+pub fn word(model: &[u32], at: usize) -> u32 {
     if at < model.len() { model[at] } else { 0 }
 }
 
-fn set_word(model: &mut [u32], at: usize, v: u32) {
+// Sets a word; none past the end.
+pub fn set_word(model: &mut [u32], at: usize, v: u32) {
     if at < model.len() {
         model[at] = v;
     }

@@ -1,5 +1,6 @@
 // The counts, a line each.
 use crate::draws;
+use crate::lengths;
 use crate::tally;
 ghost use Prim.Native.Nat.{_<_};
 ghost use Rattle.spec.specs.Numbers.{slots};
@@ -11,13 +12,40 @@ fn line(label: &[u8], n: u64) {
     io::write_all(1, b"\n");
 }
 
+fn part(label: &[u8], n: u32) {
+    io::write_all(1, label);
+    io::write_all(1, b"\t");
+    io::print_decimal(1, n as u64);
+}
+
+// the most nodes that a lookup and a search compared, and with no write in hand since their begin
+fn longest(lengths: &[u32]) {
+    part(
+        b"\tlongest lookup",
+        lengths::longest(lengths, lengths::LOOKUP),
+    );
+    part(
+        b"\tlongest search",
+        lengths::longest(lengths, lengths::SEARCH),
+    );
+    part(
+        b"\twith no write in hand: lookup",
+        lengths::longest(lengths, lengths::QUIET),
+    );
+    part(
+        b"\tsearch",
+        lengths::longest(lengths, lengths::QUIET + lengths::SEARCH),
+    );
+}
+
 // Prints the line of a run of so many calls on so many nodes.
-pub fn run(nodes: u32, calls: u64, most: u32) {
-    io::write_all(1, b"nodes\t");
-    io::print_decimal(1, nodes as u64);
+pub fn run(nodes: u32, calls: u64, most: u32, lengths: &[u32]) {
+    part(b"nodes", nodes);
     io::write_all(1, b"\tcalls\t");
     io::print_decimal(1, calls);
-    line(b"\tmost keys held", most as u64);
+    part(b"\tmost keys held", most);
+    longest(lengths);
+    io::write_all(1, b"\n");
 }
 
 // how many calls of a kind were made
@@ -220,6 +248,18 @@ fn comparisons(counts: &[u64]) {
     line(
         b"keys held, free count and awaited slots compared",
         tally::get(counts, tally::STATES),
+    );
+    line(
+        b"counts of nodes compared, and no node twice",
+        tally::get(counts, tally::COUNTS),
+    );
+    line(
+        b"counts bounded with no write in hand since the begin",
+        tally::get(counts, tally::QUIET_COUNTS),
+    );
+    line(
+        b"tallies of cameras compared",
+        tally::get(counts, tally::TALLIES),
     );
     line(b"differences", tally::get(counts, tally::DIFFERENCES));
 }

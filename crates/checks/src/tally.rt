@@ -81,6 +81,14 @@ pub const FOUND_OUTDATED: usize = 100;
 
 pub const NEXT_OUTDATED: usize = 101;
 
+// counts of nodes compared and cameras' tallies held against the program's own; of the counts, those of answers with no write in hand since
+// the begin
+pub const COUNTS: usize = 167;
+
+pub const TALLIES: usize = 168;
+
+pub const QUIET_COUNTS: usize = 169;
+
 // calls after which every slot was awaited; by slot: readings begun, and calls after which it was awaited
 pub const ALL_AWAITED: usize = 102;
 

@@ -2,11 +2,13 @@
 use checks::draws;
 use checks::draws::Call;
 use datatypes::Acceptance;
+use datatypes::Reader;
 use datatypes::ReaderAnswer;
 use datatypes::ReaderReply;
 use datatypes::Register;
 use datatypes::Reply;
 use datatypes::Step;
+use datatypes::Tally;
 use datatypes::WriterAnswer;
 use datatypes::WriterReply;
 
@@ -27,12 +29,15 @@ pub const ABSENT: u32 = 106;
 
 pub const NEXT: u32 = 107;
 
-// A call made: the register after it, its answer's number, the key of next, and the record of found or next.
+// A call made: the register after it, its answer's number, the key of next, and the record of found or next; the count in the reply of a
+// reader's turn, and the tally of the camera that made the call.
 pub struct Made {
     pub register: Register,
     pub number: u32,
     pub key: u32,
     pub record: u32,
+    pub compared: u32,
+    pub tally: Tally,
 }
 
 fn acceptance_number(a: Acceptance) -> u32 {
@@ -81,7 +86,7 @@ fn record_found(a: ReaderAnswer) -> u32 {
     }
 }
 
-fn accepted(reply: Reply) -> Made {
+fn accepted(reply: Reply, tally: Tally) -> Made {
     let answer = reply.answer;
     let register = reply.register;
     Made {
@@ -89,10 +94,12 @@ fn accepted(reply: Reply) -> Made {
         number: acceptance_number(answer),
         key: 0,
         record: 0,
+        compared: 0,
+        tally,
     }
 }
 
-fn written(reply: WriterReply) -> Made {
+fn written(reply: WriterReply, tally: Tally) -> Made {
     let answer = reply.answer;
     let register = reply.register;
     Made {
@@ -100,10 +107,12 @@ fn written(reply: WriterReply) -> Made {
         number: writer_number(answer),
         key: 0,
         record: 0,
+        compared: 0,
+        tally,
     }
 }
 
-fn read(reply: ReaderReply) -> Made {
+fn read(reply: ReaderReply, tally: Tally) -> Made {
     let answer = reply.answer;
     let register = reply.register;
     Made {
@@ -111,12 +120,21 @@ fn read(reply: ReaderReply) -> Made {
         number: reader_number(answer),
         key: key_found(answer),
         record: record_found(answer),
+        compared: reply.compared,
+        tally: tallies::tallied(tally, answer, reply.compared),
     }
 }
 
+// a camera's tally before any answer
+pub const NO_TALLY: Tally = Tally {
+    answered: 0,
+    compared: 0,
+    longest: 0,
+};
+
 // Sets up the index.
 pub fn set_up(pool: &mut [u32]) -> Made {
-    accepted(index::set_up(pool, fresh::fresh_register(0)))
+    accepted(index::set_up(pool, fresh::fresh_register(0)), NO_TALLY)
 }
 
 // the calls that are accepted or refused
@@ -136,27 +154,32 @@ fn ask(pool: &mut [u32], reg: Register, call: Call) -> Reply {
     index::give_up(pool, reg, call.slot)
 }
 
-fn asked(pool: &mut [u32], reg: Register, call: Call) -> Made {
-    accepted(ask(pool, reg, call))
+fn asked(pool: &mut [u32], reg: Register, call: Call, tally: Tally) -> Made {
+    accepted(ask(pool, reg, call), tally)
 }
 
-fn writer_turn(pool: &mut [u32], reg: Register) -> Made {
-    written(index::writer_turn(pool, reg))
+fn writer_turn(pool: &mut [u32], reg: Register, tally: Tally) -> Made {
+    written(index::writer_turn(pool, reg), tally)
 }
 
-fn reader_turn(pool: &mut [u32], reg: Register, s: u32) -> Made {
-    read(index::reader_turn(pool, reg, s))
+fn reader_turn(pool: &mut [u32], reg: Register, s: u32, tally: Tally) -> Made {
+    read(index::reader_turn(pool, reg, s), tally)
 }
 
-// Makes a drawn call.
-pub fn call_index(pool: &mut [u32], reg: Register, call: Call) -> Made {
+// Makes a drawn call, by a camera with this tally.
+pub fn call_index(pool: &mut [u32], reg: Register, call: Call, tally: Tally) -> Made {
     if call.kind == draws::WRITER_TURN {
-        return writer_turn(pool, reg);
+        return writer_turn(pool, reg, tally);
     }
     if call.kind == draws::READER_TURN {
-        return reader_turn(pool, reg, call.slot);
+        return reader_turn(pool, reg, call.slot, tally);
     }
-    asked(pool, reg, call)
+    asked(pool, reg, call, tally)
+}
+
+// Answers the record of a slot, of some slot for one that is too high.
+pub fn reader_of(reg: Register, s: u32) -> Reader {
+    reg.readers[s as usize % numbers::SLOTS]
 }
 
 // Answers the step of the store in hand.

@@ -1,24 +1,34 @@
 // Long random runs of the index beside a plain sequential red-black tree (crate reference) and document 01's plain list (model): after every
 // finished write both trees are walked together, every answer of a lookup or of a search for the next ticket is held against its moments, and
-// of every call it is foretold whether it is refused, of a writer's turn whether it answers more, done or wait.
+// of every call it is foretold whether it is refused, of a writer's turn whether it answers more, done or wait, and of a reader's turn how many
+// nodes its reading has compared; each camera's tally is kept twice.
 mod calls;
 mod reading;
 mod writing;
 
+use calls::Made;
 use checks::draws;
 use checks::draws::Call;
+use checks::lengths;
 use checks::model;
 use checks::print;
 use checks::tally;
 use checks::walk;
+use datatypes::Register;
+use datatypes::Tally;
 
 // the words of 1,023 nodes
 const POOL_WORDS: usize = numbers::MOST_NODES * numbers::NODE_WORDS;
 
-// What a call is compared by: the free nodes and the row of the store in hand before it, its answer, and the register's numbers after it.
+// What a call is compared by: the free nodes, the row of the store in hand and the node of its slot before it, its answer, the count and the
+// tally of a reader's turn, the slot's count after it, and the register's numbers after it.
 struct Said {
     free_before: u32,
     row: usize,
+    node: u32,
+    compared: u32,
+    counted: u32,
+    tally: Tally,
     number: u32,
     key: u32,
     record: u32,
@@ -26,6 +36,28 @@ struct Said {
     free: u32,
     held: u32,
     awaited: u32,
+}
+
+// what a call made on this register is compared by
+fn said_of(reg: Register, made: Made, s: u32) -> Said {
+    let before = calls::reader_of(reg, s);
+    let after = calls::reader_of(made.register, s);
+    let tally = made.tally;
+    Said {
+        free_before: reg.free,
+        row: writing::step_row(calls::step_in_hand(reg)),
+        node: before.node,
+        compared: made.compared,
+        counted: after.compared,
+        tally,
+        number: made.number,
+        key: made.key,
+        record: made.record,
+        root: made.register.root,
+        free: made.register.free,
+        held: made.register.held,
+        awaited: made.register.awaited,
+    }
 }
 
 // the calls of readers
@@ -106,11 +138,80 @@ fn compare_state(pool: &[u32], model: &mut [u32], counts: &mut [u64], said: Said
     tally::awaited(counts, said.awaited);
 }
 
+// the count of an answer: with no write in hand since the begin it is bounded by the keys held
+fn compare_answered(lengths: &mut [u32], counts: &mut [u64], s: u32, held: u32) {
+    let bounded = lengths::bounded(lengths, s, held);
+    if lengths::answer(lengths, s) {
+        tally::same(counts, bounded);
+        tally::one(counts, tally::QUIET_COUNTS);
+    }
+}
+
+// an accepted turn compares a new node, or loads the root; go leaves the count in the slot's record, an answer leaves 0
+fn compare_count(lengths: &mut [u32], counts: &mut [u64], s: u32, said: Said) {
+    let once = lengths::turn(lengths, s, said.node);
+    let n = lengths::count(lengths, s);
+    let goes = said.number == calls::GO;
+    tally::same(counts, once & (said.compared == n));
+    tally::same(counts, said.counted == if goes { n } else { 0 });
+    tally::one(counts, tally::COUNTS);
+    if !goes {
+        compare_answered(lengths, counts, s, said.held);
+    }
+}
+
+// the count in a turn's reply, 0 of a refused one
+fn compare_reply(lengths: &mut [u32], counts: &mut [u64], s: u32, said: Said) {
+    if calls::GO <= said.number {
+        compare_count(lengths, counts, s, said);
+        return;
+    }
+    tally::same(counts, said.compared == 0);
+}
+
+fn compare_turn(lengths: &mut [u32], counts: &mut [u64], s: u32, said: Said) {
+    compare_reply(lengths, counts, s, said);
+    let t = said.tally;
+    let camera = lengths::camera_of(s);
+    tally::same(
+        counts,
+        lengths::tally_is(lengths, camera, t.answered, t.compared, t.longest),
+    );
+    tally::one(counts, tally::TALLIES);
+}
+
+// a begin and a give up leave the count 0
+fn compare_ended(lengths: &mut [u32], counts: &mut [u64], call: Call, said: Said) {
+    if said.number == calls::ACCEPTED {
+        tally::same(counts, said.counted == 0);
+        if call.kind != draws::GIVE_UP {
+            lengths::begin(lengths, call.slot, call.kind == draws::BEGIN_NEXT);
+        }
+    }
+}
+
+fn compare_length(lengths: &mut [u32], counts: &mut [u64], call: Call, said: Said) {
+    if call.kind == draws::READER_TURN {
+        compare_turn(lengths, counts, call.slot, said);
+        return;
+    }
+    if draws::BEGIN <= call.kind {
+        compare_ended(lengths, counts, call, said);
+    }
+}
+
+// How many nodes readings compare, and the cameras' tallies.
+fn compare_lengths(lengths: &mut [u32], counts: &mut [u64], call: Call, said: Said, in_hand: bool) {
+    compare_length(lengths, counts, call, said);
+    lengths::moment(lengths, in_hand);
+}
+
 // Compares what a call said and left; answers the slots that read after it.
 fn compare(
     pool: &[u32],
     tree: &mut [u32],
     model: &mut [u32],
+    lengths: &mut [u32],
     counts: &mut [u64],
     call: Call,
     said: Said,
@@ -118,6 +219,8 @@ fn compare(
     compare_answer(pool, tree, model, counts, call, said);
     tally::one(counts, call.kind as usize);
     compare_state(pool, model, counts, said);
+    let in_hand = model::kind_in_hand(model) != model::NONE;
+    compare_lengths(lengths, counts, call, said, in_hand);
     model::reading_slots(model)
 }
 
@@ -130,6 +233,7 @@ fn make_calls(
     pool: &mut [u32],
     tree: &mut [u32],
     model: &mut [u32],
+    lengths: &mut [u32],
     counts: &mut [u64],
     calls: u64,
     seed: u32,
@@ -139,25 +243,18 @@ fn make_calls(
     writing::set_up(counts, made.number);
     let mut most: u32 = 0;
     let mut reading: u32 = 0;
+    let mut tallies = [calls::NO_TALLY; lengths::CAMERAS];
     let mut x = seed;
     let mut i: u64 = 0;
     while i < calls {
         let call = draws::draw_call(x, i, nodes, reading);
         let reg = made.register;
-        let row = writing::step_row(calls::step_in_hand(reg));
-        made = calls::call_index(pool, reg, call);
-        let said = Said {
-            free_before: reg.free,
-            row,
-            number: made.number,
-            key: made.key,
-            record: made.record,
-            root: made.register.root,
-            free: made.register.free,
-            held: made.register.held,
-            awaited: made.register.awaited,
-        };
-        reading = compare(pool, tree, model, counts, call, said);
+        let camera = call.slot as usize % lengths::CAMERAS;
+        made = calls::call_index(pool, reg, call, tallies[camera]);
+        let tally = made.tally;
+        tallies[camera] = tally;
+        let said = said_of(reg, made, call.slot);
+        reading = compare(pool, tree, model, lengths, counts, call, said);
         most = greater(most, said.held);
         x = draws::after_call(x);
         i += 1;
@@ -169,15 +266,17 @@ fn run(
     pool: &mut [u32],
     tree: &mut [u32],
     model: &mut [u32],
+    lengths: &mut [u32],
     counts: &mut [u64],
     calls: u64,
     seed: u32,
 ) {
     reference::clear(tree);
     model::clear(model);
-    let most = make_calls(pool, tree, model, counts, calls, seed);
+    model::clear(lengths);
+    let most = make_calls(pool, tree, model, lengths, counts, calls, seed);
     tally::same(counts, reference::overruns(tree) == 0);
-    print::run(walk::nodes(pool), calls, most);
+    print::run(walk::nodes(pool), calls, most, lengths);
 }
 
 // a run on the first so many nodes of the words lent
@@ -186,13 +285,22 @@ fn run_on(
     pool: &mut [u32],
     tree: &mut [u32],
     model: &mut [u32],
+    lengths: &mut [u32],
     counts: &mut [u64],
     calls: u64,
     seed: u32,
 ) {
     let words = nodes as usize * numbers::NODE_WORDS;
     if words <= pool.len() {
-        run(&mut pool[0..words], tree, model, counts, calls, seed);
+        run(
+            &mut pool[0..words],
+            tree,
+            model,
+            lengths,
+            counts,
+            calls,
+            seed,
+        );
     }
 }
 
@@ -214,10 +322,25 @@ fn calls_of(run: u32) -> u64 {
 }
 
 // a run's number is its seed
-fn all_runs(pool: &mut [u32], tree: &mut [u32], model: &mut [u32], counts: &mut [u64]) {
+fn all_runs(
+    pool: &mut [u32],
+    tree: &mut [u32],
+    model: &mut [u32],
+    lengths: &mut [u32],
+    counts: &mut [u64],
+) {
     let mut n: u32 = 1;
     while n < 8 {
-        run_on(nodes_of(n), pool, tree, model, counts, calls_of(n), n);
+        run_on(
+            nodes_of(n),
+            pool,
+            tree,
+            model,
+            lengths,
+            counts,
+            calls_of(n),
+            n,
+        );
         n += 1;
     }
 }
@@ -226,7 +349,8 @@ fn main() {
     let mut pool = [0u32; POOL_WORDS];
     let mut tree = [0u32; reference::WORDS];
     let mut model = [0u32; model::WORDS];
+    let mut lengths = [0u32; lengths::WORDS];
     let mut counts = [0u64; tally::ROWS];
-    all_runs(&mut pool, &mut tree, &mut model, &mut counts);
+    all_runs(&mut pool, &mut tree, &mut model, &mut lengths, &mut counts);
     print::all(&counts);
 }

@@ -11,10 +11,10 @@ use Rattle.compare.proofs.nodes_of.Reads as nodes-of-reads
 use Rattle.compare.proofs.run_on.Reads as run-on-reads
 
 abbrev Inv-loop : tie.InvT-loop
-Inv-loop pool₀ tree₀ model₀ counts₀ n₀ pool tree model counts n = (length pool ≡ length pool₀) × (length tree ≡ length tree₀) × (length model ≡ length model₀) × (length counts ≡ length counts₀)
+Inv-loop pool₀ tree₀ model₀ lengths₀ counts₀ n₀ pool tree model lengths counts n = (length pool ≡ length pool₀) × (length tree ≡ length tree₀) × (length model ≡ length model₀) × (length lengths ≡ length lengths₀) × (length counts ≡ length counts₀)
 
 abbrev μ-loop : tie.MeasureT-loop
-μ-loop pool₀ tree₀ model₀ counts₀ n₀ pool tree model counts n = 8 - n
+μ-loop pool₀ tree₀ model₀ lengths₀ counts₀ n₀ pool tree model lengths counts n = 8 - n
 
 loop-holds : tie.Need-loop-holds Inv-loop μ-loop
 loop-holds c = search needs
@@ -49,6 +49,9 @@ same-length-3 c = search needs
 same-length-4 : tie.Need-same-length-4 Inv-loop μ-loop
 same-length-4 c = search needs
 
+same-length-5 : tie.Need-same-length-5 Inv-loop μ-loop
+same-length-5 c = search needs
+
 returns : tie.Need-returns Inv-loop μ-loop
 returns c = search needs
 
@@ -69,4 +72,5 @@ all-runs-spec =
     same-length-2
     same-length-3
     same-length-4
+    same-length-5
     returns)
