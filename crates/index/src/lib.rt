@@ -142,7 +142,7 @@ pub fn begin_next(pool: &[u32], reg: Register, s: u32, k: u32) -> Reply
 // nodes the search has compared so far, this turn's included.
 // Refuses, tested in this order: 1 length; 2 a field of the register, or a word of the node that the slot's record names, reading or not, out
 // of range; 3 the slot is above 31; 5 the slot is not reading. No other word of the pool is tested.
-// Leaves: after Go only the slot's node and what it remembers changed; after Found, Next and Absent the slot is no longer reading, awaited or
+// Leaves: after Go only the slot's node, its count and what it remembers changed; after Found, Next and Absent the slot is no longer reading, awaited or
 // a holder of a retired node, and a retired node without a holder is freed; refused, both as they were.
 pub fn reader_turn(pool: &mut [u32], reg: Register, s: u32) -> ReaderReply
     ensures { λ r. ⌜ readerSays (r .answer) ≡ readerTurn (state (now (pool .entry)) reg) s .answer ⌝ }

@@ -92,14 +92,14 @@ fn look_next(pool: &[u32], x: Reader) -> Looked
     load(x, pool::child(pool, Side::R, x.node))
 }
 
-// Makes the turn of the reader x in an index with this root.
+// Makes the turn of the reader x in an index with this root. To load the root compares no node.
 pub fn look(pool: &[u32], root: u32, x: Reader) -> Looked
     ensures { λ r. ⌜ lookOf r ≡ lookFrom (now (pool .entry)) root x ⌝ }
 {
+    let y = register::counting(x);
     if x.node == 0 {
         return load(x, root);
     }
-    let y = register::counting(x);
     let kind = x.kind;
     match kind {
         Kind::Lookup => look_up(pool, y),

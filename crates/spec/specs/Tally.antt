@@ -1,6 +1,6 @@
 -- 02, C-17: a camera's tally of its lookups answered (searches for the next ticket too), the nodes that they compared and the longest count.
 use Prim.Native.Nat.{ℕ, _+_}
-use mathlib.Core.Bool.{cond}
+use mathlib.Core.Bool.{Bool, true, false, cond}
 use lib.Dec.{leb, ltb}
 use Rattle.datatypes.specs.declared.Tally.{Tally}
 use Rattle.spec.specs.Numbers.{largestWord}
@@ -17,15 +17,18 @@ greater a b = cond (ltb a b) b a
 abbrev pub counted : Tally → ℕ → Tally
 counted t n = record { answered = capped (t .answered) 1; compared = capped (t .compared) n; longest = greater (t .longest) n }
 
--- What a reader's turn makes of the tally lent to it, by its answer a and its count n: found, the next ticket and absent (none of a search is
--- absent too) are counted; any other answer leaves the tally as it was.
+-- A lookup is answered by found or absent, a search for the next ticket by the ticket or by absent, its none.
+abbrev pub answers : Answer → Bool
+answers (found v) = true
+answers (next k v) = true
+answers absent = true
+answers go = false
+answers (refused number) = false
+answers ok = false
+answers wait = false
+answers (more l n) = false
+answers (done l n) = false
+
+-- What a reader's turn makes of the tally lent to it, by its answer a and its count n; a turn that doesn't answer leaves it as it was.
 unfoldable pub tallied : Tally → Answer → ℕ → Tally
-tallied t (found v) n = counted t n
-tallied t (next k v) n = counted t n
-tallied t absent n = counted t n
-tallied t go n = t
-tallied t (refused number) n = t
-tallied t ok n = t
-tallied t wait n = t
-tallied t (more l m) n = t
-tallied t (done l m) n = t
+tallied t a n = cond (answers a) (counted t n) t

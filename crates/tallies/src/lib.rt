@@ -3,7 +3,7 @@ use datatypes::ReaderAnswer;
 use datatypes::Tally;
 ghost use mathlib.Core.Path.{_≡_};
 ghost use Rattle.spec.specs.Calls.{readerSays};
-ghost use Rattle.spec.specs.Tally.{capped, greater, counted, tallied};
+ghost use Rattle.spec.specs.Tally.{capped, greater, counted, answers, tallied};
 
 // Answers the sum, or the largest value where it would pass 32 bits.
 fn capped_sum(a: u32, b: u32) -> u32
@@ -30,16 +30,27 @@ fn counted(t: Tally, compared: u32) -> Tally
     }
 }
 
+// Tests whether a turn's answer ends its lookup or search.
+fn answers(answer: ReaderAnswer) -> bool
+    ensures { λ r. ⌜ r ≡ answers (readerSays answer) ⌝ }
+{
+    match answer {
+        ReaderAnswer::Go => false,
+        ReaderAnswer::Found(_) => true,
+        ReaderAnswer::Next(_, _) => true,
+        ReaderAnswer::Absent => true,
+        ReaderAnswer::Refused(_) => false,
+    }
+}
+
 // Answers the tally after a turn with this answer and this count of nodes compared (`answer` and `compared` of the turn's reply): an answer
-// that ends the reading is counted, go and a refusal leave the tally as it was.
+// that ends the lookup or search is counted, go and a refusal leave the tally as it was.
 pub fn tallied(t: Tally, answer: ReaderAnswer, compared: u32) -> Tally
     ensures { λ r. ⌜ r ≡ tallied t (readerSays answer) compared ⌝ }
 {
-    match answer {
-        ReaderAnswer::Go => t,
-        ReaderAnswer::Found(_) => counted(t, compared),
-        ReaderAnswer::Next(_, _) => counted(t, compared),
-        ReaderAnswer::Absent => counted(t, compared),
-        ReaderAnswer::Refused(_) => t,
+    if answers(answer) {
+        counted(t, compared)
+    } else {
+        t
     }
 }
