@@ -3,7 +3,7 @@
 -- fields, each of decimal digits and below 4,294,967,296, is ill-formed.
 use Prim.Native.Nat.{ℕ, _+_, _*_, _-_}
 use Prim.Native.Char.{code}
-use mathlib.Core.Bool.{Bool, true, cond, _&&_}
+use mathlib.Core.Bool.{Bool, true, false, cond, _&&_}
 use mathlib.Core.List.{List, [], _∷_, map}
 use mathlib.Core.Option.{Option, none, some}
 use lib.Dec.{eqb, leb, ltb}
@@ -72,3 +72,17 @@ ofFields (l ∷ (b ∷ bs)) ns = Ill
 
 unfoldable pub commandOf : List ℕ → Command
 commandOf bytes = ofFields (firstField bytes) (map numberOf (otherFields bytes))
+
+-- whether a line was no command
+abbrev pub isIll : Command → Bool
+isIll (SetUp n) = false
+isIll (Insert k v) = false
+isIll (Delete k) = false
+isIll Write = false
+isIll (Begin s k) = false
+isIll (BeginNext s k) = false
+isIll (Turn s) = false
+isIll (GiveUp s) = false
+isIll Show = false
+isIll Page = false
+isIll Ill = true

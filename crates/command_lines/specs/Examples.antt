@@ -2,13 +2,13 @@
 use Prim.Native.Nat.{ℕ, zero, suc}
 use Prim.Native.String.{String}
 use mathlib.Core.Path.{_≡_, refl}
-use mathlib.Core.Bool.{Bool, true, false, cond}
+use mathlib.Core.Bool.{cond}
 use mathlib.Core.List.{List, [], _∷_}
 use lib.ListN.{replicate}
 use Rattle.texts.specs.Ascii.{text}
 use Rattle.command_fields.specs.declared.Command.{Command}
 use Rattle.command_fields.specs.declared.Command.the-variants.{SetUp, Insert, Delete, Write, Begin, BeginNext, Turn, GiveUp, Show, Page, Ill}
-use Rattle.command_fields.specs.Commands.{firstField, otherFields, isDigit, allDigits, valueAfter, numberOf, withNone, withOne, withTwo, commandOf}
+use Rattle.command_fields.specs.Commands.{firstField, otherFields, isDigit, allDigits, valueAfter, numberOf, withNone, withOne, withTwo, commandOf, isIll}
 
 commandsOf : List String → List Command
 commandsOf [] = []
@@ -33,33 +33,20 @@ ill-formed-page :
 unfolding commandsOf firstField otherFields isDigit allDigits valueAfter numberOf withNone withOne withTwo commandOf
 ill-formed-page = refl
 
--- Of all bytes these are the letters of a command with no field, with one and with two.
-isIll : Command → Bool
-isIll (SetUp n) = false
-isIll (Insert k v) = false
-isIll (Delete k) = false
-isIll Write = false
-isIll (Begin s k) = false
-isIll (BeginNext s k) = false
-isIll (Turn s) = false
-isIll (GiveUp s) = false
-isIll Show = false
-isIll Page = false
-isIll Ill = true
-
--- the bytes from b on, so many of them, that begin a command's line with these bytes after it
+-- The bytes from b on, so many of them, that begin a command's line with these bytes after it. Of all bytes these are the letters of a command
+-- with no field, with one and with two.
 lettersFrom : (b count : ℕ) → List ℕ → List ℕ
 lettersFrom b zero t = []
 lettersFrom b (suc k) t = cond (isIll (commandOf (b ∷ t))) (lettersFrom (suc b) k t) (b ∷ lettersFrom (suc b) k t)
 
 letters-none : lettersFrom 0 256 [] ≡ text "LTW"
-unfolding isIll lettersFrom firstField otherFields isDigit allDigits valueAfter numberOf withNone withOne withTwo commandOf
+unfolding lettersFrom firstField otherFields isDigit allDigits valueAfter numberOf withNone withOne withTwo commandOf
 letters-none = refl
 
 letters-one : lettersFrom 0 256 (text "\t1") ≡ text "DEPR"
-unfolding isIll lettersFrom firstField otherFields isDigit allDigits valueAfter numberOf withNone withOne withTwo commandOf
+unfolding lettersFrom firstField otherFields isDigit allDigits valueAfter numberOf withNone withOne withTwo commandOf
 letters-one = refl
 
 letters-two : lettersFrom 0 256 (text "\t1\t2") ≡ text "BIS"
-unfolding isIll lettersFrom firstField otherFields isDigit allDigits valueAfter numberOf withNone withOne withTwo commandOf
+unfolding lettersFrom firstField otherFields isDigit allDigits valueAfter numberOf withNone withOne withTwo commandOf
 letters-two = refl

@@ -82,18 +82,18 @@ pub enum Kind {
     Next,
 }
 
-// A reader slot's record: reading or not, the kind of search, the given key, the node it is at (0 before its first turn); of a search for the
-// next ticket whether it remembers one, the best so far, with its key and record (`best`, `value`); and how many nodes its turns have compared
-// (document 02, C-17).
+// A reader slot's record: the given key, the node it is at (0 before its first turn); of a search for the next ticket the best so far, its key and
+// record (`best`, `value`); how many nodes its turns have compared (document 02, C-17); reading or not, the kind of search, and whether a search
+// for the next ticket remembers one. The numbers stand first: an array of empty records is then cleared faster (docs/DECISIONS.md).
 pub struct Reader {
-    pub reading: bool,
-    pub kind: Kind,
-    pub remembers: bool,
     pub key: u32,
     pub node: u32,
     pub best: u32,
     pub value: u32,
     pub compared: u32,
+    pub reading: bool,
+    pub kind: Kind,
+    pub remembers: bool,
 }
 
 // The register: root, free queue, counts, readers, awaited slots (one bit for each slot), the write in hand.

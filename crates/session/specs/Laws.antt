@@ -20,6 +20,7 @@ use Rattle.texts.specs.Put.{Put, PutPart, part-none, part-put, part-both, part-
 use Rattle.command_fields.proofs.Command.{the-type}
 use Rattle.command_fields.specs.declared.Command.{Command}
 use Rattle.command_fields.specs.declared.Command.the-variants as command
+use Rattle.command_fields.specs.Commands.{isIll}
 use Rattle.command_lines.specs.declared.Reading.{Reading}
 use Rattle.command_lines.specs.declared.Reading.the-variants.{Fresh}
 use Rattle.command_lines.specs.declared.Piece.{Piece}
@@ -33,7 +34,7 @@ use Rattle.page.specs.Sheets.{sheetRoom, sheetsAfter}
 use Rattle.session.specs.declared.Rest.{Rest}
 use Rattle.session.specs.declared.Rest.the-variants.{Nothing, Nodes, Sheets}
 use Rattle.session.specs.declared.Session.{Session}
-use Rattle.session.specs.Output.{Kept, nextNumber, answerTo, added, callOutput, isIll, lineOutput, outputFrom, lineAfter}
+use Rattle.session.specs.Output.{Kept, nextNumber, answerTo, added, callOutput, lineOutput, outputFrom, lineAfter}
 use Rattle.session.specs.Steps.{pieces, Fits, Sound, restOf, keptOf, due, dueOn, Prints, lineWork, workLeft, withRest, partRead, toCome, LineRead, Stepped, Answered}
 
 -- the pool has as many words as are lent

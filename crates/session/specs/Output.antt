@@ -11,7 +11,7 @@ use Rattle.spec.specs.Calls.{Answer, ok, go, absent, wait, found, next, more, d
 use Rattle.texts.specs.Ascii.{newline}
 use Rattle.command_fields.specs.declared.Command.{Command}
 use Rattle.command_fields.specs.declared.Command.the-variants as command
-use Rattle.command_fields.specs.Commands.{commandOf}
+use Rattle.command_fields.specs.Commands.{commandOf, isIll}
 use Rattle.command_lines.specs.declared.Reading.{Reading}
 use Rattle.command_lines.specs.declared.Reading.the-variants.{Fresh}
 use Rattle.command_lines.specs.Machine.{taken, finished, allTaken, reads}
@@ -89,20 +89,7 @@ callOutput k c =
     lineOf (nextNumber (k .number)) (letterOf c) (answerTo k c) ++ added (take (after .lent) (after .words)) c (answerTo k c)
 
 -- 'ill-formed: it prints `bad - -` after number and `-`, and ends the program.'
-abbrev pub isIll : Command → Bool
-isIll (command.SetUp n) = false
-isIll (command.Insert k v) = false
-isIll (command.Delete k) = false
-isIll command.Write = false
-isIll (command.Begin s k) = false
-isIll (command.BeginNext s k) = false
-isIll (command.Turn s) = false
-isIll (command.GiveUp s) = false
-isIll command.Show = false
-isIll command.Page = false
-isIll command.Ill = true
-
--- what a line prints, with what the lines after it print
+-- What a line prints, with what the lines after it print:
 unfoldable pub lineOutput : Kept → Command → (later : List ℕ) → List ℕ
 lineOutput k c later = cond (isIll c) (badLine (nextNumber (k .number))) (callOutput k c ++ later)
 

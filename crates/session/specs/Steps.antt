@@ -14,13 +14,14 @@ use Rattle.command_fields.specs.declared.Command.the-variants as command
 use Rattle.command_lines.specs.declared.Reading.{Reading}
 use Rattle.command_lines.specs.declared.Reading.the-variants.{Fresh, Letter, One, Two, Ill}
 use Rattle.command_lines.specs.declared.Piece.the-variants.{Part}
+use Rattle.command_fields.specs.Commands.{isIll}
 use Rattle.answer_lines.specs.Text.{letterOf, lineOf}
 use Rattle.node_lines.specs.Shown.{shownFrom}
 use Rattle.page.specs.Sheets.{mostSheets, sheetRoom, sheetsAfter}
 use Rattle.session.specs.declared.Rest.{Rest}
 use Rattle.session.specs.declared.Rest.the-variants.{Nothing, Nodes, Sheets}
 use Rattle.session.specs.declared.Session.{Session}
-use Rattle.session.specs.Output.{Kept, nextNumber, answerTo, afterCommand, added, isIll, outputFrom, lineAfter}
+use Rattle.session.specs.Output.{Kept, nextNumber, answerTo, afterCommand, added, outputFrom, lineAfter}
 
 -- whether a line has begun
 abbrev pub begun : Reading → Bool
