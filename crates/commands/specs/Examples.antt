@@ -45,7 +45,7 @@ register root =
       last = 8;
       free = 2;
       held = 4;
-      readers = record { reading = true; kind = kind.Lookup; remembers = true; key = 1; node = 2; best = 3; value = 30 } ∷ replicate 31 noReader;
+      readers = record { reading = true; kind = kind.Lookup; remembers = true; key = 1; node = 2; best = 3; value = 30; compared = 2 } ∷ replicate 31 noReader;
       awaited = 1;
       write = record { stores = record { link = Left 2; step = Insert 0 5 } ∷ replicate 6 vacant; count = 1 };
     }

@@ -156,7 +156,7 @@ returns-7 : tie.Need-returns-7
 returns-7 c =
     let c3 = c .before .before .before in
     let c6 = c3 .before .before .before in
-    rw (c6 .c5 .given .1) (c .looked .ensures .0 ∙ c3 .reader-turn .ensures .0, rw (c .looked .ensures .1) (c3 .reader-turn .ensures .1))
+    rw (c6 .c5 .given .1) (c .looked .ensures .0 ∙ c3 .reader-turn .ensures .0, rw (c .looked .ensures .1) (c3 .reader-turn .ensures .1 .0))
 
 same-length-8 : tie.Need-same-length-8
 same-length-8 c = search needs
