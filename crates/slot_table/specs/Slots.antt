@@ -8,9 +8,9 @@ use Rattle.datatypes.specs.declared.Kind.the-variants as kind
 use Rattle.datatypes.specs.declared.Step.the-variants.{Insert, Unlink}
 use Rattle.spec.specs.Register.{State}
 use Rattle.spec.specs.Calls.{ok, go, absent, wait, found, next, more, done, refused}
-use Rattle.table.specs.Picture.{Row, row, _keptBy_, Read, slot_wants_at_, slot_after_at_with_, wanting, Nothing, Ticket, _remembering_, root_held_awaited_stores_, picture}
+use Rattle.table.specs.Picture.{Row, row, _keptBy_, Read, slot_wants_at_, _past_, slot_after_at_with_, wanting, Nothing, Ticket, _remembering_, root_held_awaited_stores_, picture}
 use Rattle.table.specs.Picture.{drawn, rising, tree, black, redLeaf, nil, _on_, left, standing, holders, nextFree, Change, _of_:=_, last:=_, free:=_, awaited:=_, hand}
-use Rattle.table.specs.Picture.{colour, first:=_, held:=_, fills, atRest, reader_:=_, reads, idle, seeks, _ofKind_, _but_, unset, words}
+use Rattle.table.specs.Picture.{colour, first:=_, held:=_, fills, atRest, reader_:=_, reads, idle, seeks, _ofKind_, _counting_, _but_, unset, words}
 use Rattle.table.specs.Entry.{P, I, D, W, B, S, R, E, _⇒_, Line, stands, leaves, begins, Entry, entry}
 use Rattle.table.specs.Lent.{three, five}
 
@@ -63,7 +63,7 @@ alone title s =
     ∷ R s ⇒ refused 5 ∷ S s 15 ⇒ ok
     ∷ leaves (reader s := (seeks 15 0) ∷ [])
     ∷ B s 10 ⇒ refused 4 ∷ S s 5 ⇒ refused 4 ∷ R s ⇒ go ∷ R s ⇒ go
-    ∷ leaves (reader s := (seeks 15 1 remembering Ticket 20 200) ∷ [])
+    ∷ leaves (reader s := (seeks 15 1 remembering Ticket 20 200 counting 1) ∷ [])
     ∷ R s ⇒ next 20 200
     ∷ leaves []
     ∷ S s 30 ⇒ ok ∷ R s ⇒ go ∷ E s ⇒ ok
@@ -86,7 +86,7 @@ awaitedAlone title s m =
     (B s 10 ⇒ ok ∷ D 20 ⇒ ok ∷ W ⇒ more Root 6
     ∷ awaits (slot s wants 10 at 0 ∷ []) m
     ∷ W ⇒ wait ∷ R s ⇒ go ∷ W ⇒ wait ∷ R s ⇒ go
-    ∷ awaits (slot s wants 10 at 1 ∷ []) m
+    ∷ awaits (slot s wants 10 at 1 past 1 ∷ []) m
     ∷ W ⇒ wait ∷ R s ⇒ found 100 ∷ goesOn ∷ W ⇒ done (Left 4) 0 ∷ isDone ∷ [])
 
 -- the records of so many slots from s on, each in a lookup of the key ten times its number
@@ -248,7 +248,7 @@ slots =
     (B 7 10 ⇒ ok ∷ S 31 10 ⇒ ok ∷ R 31 ⇒ go ∷ D 20 ⇒ ok ∷ W ⇒ more Root 6
     ∷ awaits (slot 7 wants 10 at 0 ∷ slot 31 after 10 at 2 with Nothing ∷ []) 2147483776
     ∷ W ⇒ wait ∷ R 31 ⇒ go
-    ∷ awaits (slot 7 wants 10 at 0 ∷ slot 31 after 10 at 1 with (Ticket 20 200) ∷ []) 2147483776
+    ∷ awaits (slot 7 wants 10 at 0 ∷ slot 31 after 10 at 1 with (Ticket 20 200) past 1 ∷ []) 2147483776
     ∷ R 31 ⇒ next 20 200
     ∷ awaits (slot 7 wants 10 at 0 ∷ []) 128
     ∷ W ⇒ wait ∷ E 7 ⇒ ok ∷ goesOn ∷ W ⇒ done (Left 4) 0 ∷ isDone ∷ [])
@@ -325,7 +325,7 @@ slots =
     ∷ named31 "slots: 2 in every call, slot 31's node one past its range, not reading" (reader 31 := (idle 0 9))
     ∷ entry "slots: a turn tests the node of slot 31 by its own record" (three but (left of 1 := 9 ∷ reader 31 := (reads 10 1) ∷ reader 7 := (reads 30 3) ∷ reader 15 := (reads 5 2) ∷ []))
     (R 31 ⇒ refused 2 ∷ R 7 ⇒ found 300 ∷ R 15 ⇒ go ∷ R 15 ⇒ refused 2 ∷ E 31 ⇒ refused 2
-    ∷ leaves (reader 7 := (idle 0 0) ∷ reader 15 := (reads 5 1) ∷ []) ∷ [])
+    ∷ leaves (reader 7 := (idle 0 0) ∷ reader 15 := (reads 5 1 counting 1) ∷ []) ∷ [])
     -- any word as holders
     ∷ entry "slots: of any holders slot 0's give up takes its bit alone" (anyHolders 0 1) (E 0 ⇒ ok ∷ leaves left0 ∷ [])
     ∷ entry "slots: of any holders slot 8's give up takes its bit alone" (anyHolders 8 256) (E 8 ⇒ ok ∷ leaves left8 ∷ [])
@@ -413,7 +413,7 @@ abbrev damagedBeside : ℕ → Entry
 damagedBeside s =
     entry "slots: another node is damaged: 2 in the begins and the give up of each slot, not in its turn" (three but (left of 8 := 9 ∷ reader s := (reads 10 2) ∷ []))
     (B s 10 ⇒ refused 2 ∷ S s 10 ⇒ refused 2 ∷ E s ⇒ refused 2 ∷ B (31 - s) 10 ⇒ refused 2 ∷ S (31 - s) 10 ⇒ refused 2 ∷ R s ⇒ go
-    ∷ leaves (reader s := (reads 10 1) ∷ []) ∷ [])
+    ∷ leaves (reader s := (reads 10 1 counting 1) ∷ []) ∷ [])
 
 abbrev damagedField : ℕ → Entry
 damagedField s =
@@ -457,7 +457,7 @@ abbrev remembersLast : ℕ → Entry
 remembersLast s =
     entry "slots: a search in each slot answers the ticket remembered last" five
     (S s 5 ⇒ ok ∷ R s ⇒ go ∷ R s ⇒ go
-    ∷ leaves (reader s := (seeks 5 1 remembering Ticket 20 200) ∷ [])
+    ∷ leaves (reader s := (seeks 5 1 remembering Ticket 20 200 counting 1) ∷ [])
     ∷ R s ⇒ next 10 100 ∷ leaves [] ∷ [])
 
 abbrev pub eachSlot : List Entry

@@ -9,7 +9,7 @@ use Rattle.datatypes.specs.declared.Step.the-variants.{Detach}
 use Rattle.spec.specs.Calls.{ok, go, absent, wait, more, done, refused}
 use Rattle.table.specs.Picture.{row, root_held_awaited_stores_, picture, drawn, none, nil, red, black, redLeaf, blackLeaf, tree, _on_, key}
 use Rattle.table.specs.Picture.{left, right, colour, standing, holders, nextFree, _of_:=_, root:=_, first:=_, last:=_, free:=_, held:=_, awaited:=_}
-use Rattle.table.specs.Picture.{count:=_, hand, atRest, fills, reader_:=_, store_:=_, reads, idle, _but_}
+use Rattle.table.specs.Picture.{count:=_, hand, atRest, fills, reader_:=_, store_:=_, reads, idle, _counting_, _but_}
 use Rattle.table.specs.Entry.{P, I, D, W, B, R, E, _⇒_, stands, leaves, Entry, entry, gives12}
 use Rattle.table.specs.Lent.{three, single, five, knot, lowered}
 
@@ -190,7 +190,7 @@ damaged =
     ∷ entry "a reader goes by links alone, whatever the nodes stand as"
     (three but (standing of 1 := 0 ∷ standing of 2 := 2 ∷ holders of 2 := 4 ∷ reader 0 := (reads 10 0) ∷ []))
     (R 0 ⇒ go ∷ R 0 ⇒ go
-    ∷ leaves (reader 0 := (reads 10 1) ∷ []) ∷ [])
+    ∷ leaves (reader 0 := (reads 10 1 counting 1) ∷ []) ∷ [])
     ∷ entry "slot 0 is awaited like any other" five
     (B 0 10 ⇒ ok ∷ D 20 ⇒ ok ∷ W ⇒ more Root 6 ∷ W ⇒ wait ∷ E 0 ⇒ ok ∷ W ⇒ done (Left 4) 0 ∷ [])
     ∷ entry "slot 7 is awaited like any other" five
@@ -247,7 +247,7 @@ damaged =
     ∷ leaves (right of 2 := 5 ∷ colour of 3 := 0 ∷ standing of 4 := 0 ∷ nextFree of 12 := 4 ∷ last:= 4 ∷ free:= 8 ∷ held:= 4 ∷ atRest ∷ []) ∷ [])
     ∷ entry "decision 13: a reader goes on in a circle" (three but (right of 3 := 3 ∷ reader 0 := (reads 40 2) ∷ []))
     (R 0 ⇒ go ∷ R 0 ⇒ go ∷ R 0 ⇒ go
-    ∷ leaves (reader 0 := (reads 40 3) ∷ []) ∷ [])
+    ∷ leaves (reader 0 := (reads 40 3 counting 3) ∷ []) ∷ [])
     ∷ entry "decision 14: sides by the path taken, both links equal" (three but (left of 2 := 3 ∷ []))
     (D 30 ⇒ ok ∷ W ⇒ done (Right 2) 0
     ∷ leaves (right of 2 := 0 ∷ standing of 3 := 0 ∷ nextFree of 8 := 3 ∷ last:= 3 ∷ free:= 6 ∷ held:= 2 ∷ []) ∷ [])

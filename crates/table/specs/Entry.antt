@@ -134,7 +134,7 @@ kindNumber kind.Next = 1
 abbrev readersNumbers : List Reader → List ℕ
 readersNumbers [] = []
 readersNumbers (x ∷ xs) =
-    cond (x .reading) 1 0 ∷ kindNumber (x .kind) ∷ cond (x .remembers) 1 0 ∷ x .key ∷ x .node ∷ x .best ∷ x .value ∷ readersNumbers xs
+    cond (x .reading) 1 0 ∷ kindNumber (x .kind) ∷ cond (x .remembers) 1 0 ∷ x .key ∷ x .node ∷ x .best ∷ x .value ∷ x .compared ∷ readersNumbers xs
 
 abbrev headNumbers : Register → List ℕ
 headNumbers r = r .root ∷ r .first ∷ r .last ∷ r .free ∷ r .held ∷ r .awaited ∷ r .write .count ∷ readersNumbers (r .readers)

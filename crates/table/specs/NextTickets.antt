@@ -3,9 +3,9 @@ use mathlib.Core.List.{List, [], _∷_}
 use Rattle.datatypes.specs.declared.Kind.the-variants as kind
 use Rattle.datatypes.specs.declared.Link.the-variants.{Root, Left, Right}
 use Rattle.spec.specs.Calls.{ok, go, absent, wait, found, next, more, done, refused}
-use Rattle.table.specs.Picture.{row, _keptBy_, slot_wants_at_, slot_after_at_with_, root_held_awaited_stores_, picture, key, value, left, right}
+use Rattle.table.specs.Picture.{row, _keptBy_, slot_wants_at_, _past_, slot_after_at_with_, root_held_awaited_stores_, picture, key, value, left, right}
 use Rattle.table.specs.Picture.{standing, holders, nextFree, _of_:=_, root:=_, last:=_, free:=_, awaited:=_, reader_:=_, reads, idle, seeks, _ofKind_}
-use Rattle.table.specs.Picture.{Nothing, Ticket, Stale, _remembering_, _but_, words, unset}
+use Rattle.table.specs.Picture.{Nothing, Ticket, Stale, _remembering_, _counting_, _but_, words, unset}
 use Rattle.table.specs.Entry.{P, I, D, W, B, S, R, E, _⇒_, stands, still, leaves, Entry, entry}
 use Rattle.table.specs.Lent.{three, single, five, four}
 
@@ -21,12 +21,12 @@ nextTickets =
     ∷ R 0 ⇒ go
     ∷ leaves (reader 0 := (seeks 15 2) ∷ [])
     ∷ R 0 ⇒ go
-    ∷ leaves (reader 0 := (seeks 15 1 remembering Ticket 20 200) ∷ [])
+    ∷ leaves (reader 0 := (seeks 15 1 remembering Ticket 20 200 counting 1) ∷ [])
     ∷ R 0 ⇒ next 20 200
     ∷ leaves [] ∷ R 0 ⇒ refused 5 ∷ E 0 ⇒ refused 5 ∷ [])
     ∷ entry "next: right at a smaller key, remembering nothing; a greater key with a left link 0 is remembered and answered in one turn" three
     (S 7 25 ⇒ ok ∷ R 7 ⇒ go ∷ R 7 ⇒ go
-    ∷ leaves (reader 7 := (seeks 25 3) ∷ [])
+    ∷ leaves (reader 7 := (seeks 25 3 counting 1) ∷ [])
     ∷ R 7 ⇒ next 30 300
     ∷ leaves [] ∷ [])
     ∷ entry "next: the smallest key of all" three
@@ -34,17 +34,17 @@ nextTickets =
     ∷ leaves [] ∷ [])
     ∷ entry "next: right at an equal key, at the root, remembering nothing" three
     (S 0 20 ⇒ ok ∷ R 0 ⇒ go ∷ R 0 ⇒ go
-    ∷ leaves (reader 0 := (seeks 20 3) ∷ [])
+    ∷ leaves (reader 0 := (seeks 20 3 counting 1) ∷ [])
     ∷ R 0 ⇒ next 30 300
     ∷ leaves [] ∷ [])
     ∷ entry "next: right at an equal key into 0 answers what was remembered before" three
     (S 0 10 ⇒ ok ∷ R 0 ⇒ go ∷ R 0 ⇒ go
-    ∷ leaves (reader 0 := (seeks 10 1 remembering Ticket 20 200) ∷ [])
+    ∷ leaves (reader 0 := (seeks 10 1 remembering Ticket 20 200 counting 1) ∷ [])
     ∷ R 0 ⇒ next 20 200
     ∷ leaves [] ∷ [])
     ∷ entry "next: nothing remembered at an equal key and at a smaller one: absent" three
     (S 0 30 ⇒ ok ∷ R 0 ⇒ go ∷ R 0 ⇒ go ∷ R 0 ⇒ absent ∷ S 1 35 ⇒ ok ∷ R 1 ⇒ go ∷ R 1 ⇒ go
-    ∷ leaves (reader 1 := (seeks 35 3) ∷ [])
+    ∷ leaves (reader 1 := (seeks 35 3 counting 1) ∷ [])
     ∷ R 1 ⇒ absent
     ∷ leaves [] ∷ R 1 ⇒ refused 5 ∷ [])
     ∷ entry "next: a greater, an equal and a smaller key alone" single
@@ -52,14 +52,14 @@ nextTickets =
     ∷ leaves [] ∷ [])
     ∷ entry "next: right, left, and a later, smaller key replaces the one remembered" five
     (S 3 25 ⇒ ok ∷ R 3 ⇒ go ∷ R 3 ⇒ go
-    ∷ leaves (reader 3 := (seeks 25 4) ∷ [])
+    ∷ leaves (reader 3 := (seeks 25 4 counting 1) ∷ [])
     ∷ R 3 ⇒ go
-    ∷ leaves (reader 3 := (seeks 25 3 remembering Ticket 40 400) ∷ [])
+    ∷ leaves (reader 3 := (seeks 25 3 remembering Ticket 40 400 counting 2) ∷ [])
     ∷ R 3 ⇒ next 30 300
     ∷ leaves [] ∷ [])
     ∷ entry "next: what is remembered stays while it goes right" (five but (right of 1 := 3 ∷ left of 4 := 0 ∷ key of 3 := 15 ∷ []))
     (S 0 12 ⇒ ok ∷ R 0 ⇒ go ∷ R 0 ⇒ go ∷ R 0 ⇒ go
-    ∷ leaves (reader 0 := (seeks 12 3 remembering Ticket 20 200) ∷ [])
+    ∷ leaves (reader 0 := (seeks 12 3 remembering Ticket 20 200 counting 2) ∷ [])
     ∷ R 0 ⇒ next 15 300 ∷ S 0 15 ⇒ ok ∷ R 0 ⇒ go ∷ R 0 ⇒ go ∷ R 0 ⇒ go ∷ R 0 ⇒ next 20 200
     ∷ leaves [] ∷ [])
     ∷ entry "next: given keys 0 and 4,294,967,295, node keys 0 and 4,294,967,295 with the largest record"
@@ -76,15 +76,15 @@ nextTickets =
     ∷ entry "next: begin of either kind on a slot that reads, of either kind: 4" three
     (B 0 10 ⇒ ok ∷ S 1 10 ⇒ ok ∷ B 0 20 ⇒ refused 4 ∷ S 0 10 ⇒ refused 4 ∷ B 1 10 ⇒ refused 4 ∷ S 1 20 ⇒ refused 4 ∷ R 0 ⇒ go ∷ R 1 ⇒ go ∷ R 1 ⇒ go
     ∷ S 0 10 ⇒ refused 4 ∷ B 1 10 ⇒ refused 4 ∷ S 1 10 ⇒ refused 4
-    ∷ leaves (reader 0 := (reads 10 2) ∷ reader 1 := (seeks 10 1 remembering Ticket 20 200) ∷ []) ∷ [])
+    ∷ leaves (reader 0 := (reads 10 2) ∷ reader 1 := (seeks 10 1 remembering Ticket 20 200 counting 1) ∷ []) ∷ [])
     ∷ entry "next: 5 before a begin; after a lookup its slot may search, and the other way round" three
     (R 2 ⇒ refused 5 ∷ E 2 ⇒ refused 5 ∷ B 2 20 ⇒ ok ∷ R 2 ⇒ go ∷ R 2 ⇒ found 200 ∷ S 2 20 ⇒ ok ∷ R 2 ⇒ go ∷ R 2 ⇒ go ∷ R 2 ⇒ next 30 300 ∷ B 2 5 ⇒ ok
     ∷ leaves (reader 2 := (reads 5 0) ∷ []) ∷ [])
     ∷ entry "next: a lookup and a search side by side, each with its own key and node" three
     (B 0 10 ⇒ ok ∷ S 7 10 ⇒ ok ∷ R 7 ⇒ go ∷ R 0 ⇒ go ∷ R 7 ⇒ go
-    ∷ leaves (reader 0 := (reads 10 2) ∷ reader 7 := (seeks 10 1 remembering Ticket 20 200) ∷ [])
+    ∷ leaves (reader 0 := (reads 10 2) ∷ reader 7 := (seeks 10 1 remembering Ticket 20 200 counting 1) ∷ [])
     ∷ R 0 ⇒ go ∷ R 0 ⇒ found 100
-    ∷ leaves (reader 7 := (seeks 10 1 remembering Ticket 20 200) ∷ [])
+    ∷ leaves (reader 7 := (seeks 10 1 remembering Ticket 20 200 counting 1) ∷ [])
     ∷ R 7 ⇒ next 20 200
     ∷ leaves [] ∷ [])
     ∷ entry "next: give up, with a ticket remembered and before any node" three
@@ -115,15 +115,15 @@ nextTickets =
     (P ⇒ ok ∷ I 3 30 ⇒ ok ∷ W ⇒ done Root 1 ∷ I 1 10 ⇒ ok ∷ W ⇒ done (Left 1) 2 ∷ S 0 1 ⇒ ok ∷ R 0 ⇒ go ∷ I 2 20 ⇒ ok ∷ W ⇒ more (Right 2) 3
     ∷ W ⇒ more (Left 3) 4 ∷ R 0 ⇒ go ∷ W ⇒ more (Right 3) 5 ∷ W ⇒ done Root 3
     ∷ stands (picture (root 3 held 3 awaited 0 stores 0)
-    (slot 0 after 1 at 2 with Ticket 3 30 ∷ []) (row 3 2 20 0 4 5 ∷ row 4 1 10 1 0 0 ∷ row 5 3 30 1 0 0 ∷ [])
+    (slot 0 after 1 at 2 with Ticket 3 30 past 1 ∷ []) (row 3 2 20 0 4 5 ∷ row 4 1 10 1 0 0 ∷ row 5 3 30 1 0 0 ∷ [])
     (row 1 3 30 0 2 0 keptBy 1 ∷ row 2 1 10 1 0 3 keptBy 1 ∷ []) (6 ∷ 7 ∷ 8 ∷ []))
     ∷ R 0 ⇒ go
     ∷ stands (picture (root 3 held 3 awaited 0 stores 0)
-    (slot 0 after 1 at 3 with Ticket 3 30 ∷ []) (row 3 2 20 0 4 5 ∷ row 4 1 10 1 0 0 ∷ row 5 3 30 1 0 0 ∷ [])
+    (slot 0 after 1 at 3 with Ticket 3 30 past 2 ∷ []) (row 3 2 20 0 4 5 ∷ row 4 1 10 1 0 0 ∷ row 5 3 30 1 0 0 ∷ [])
     (row 1 3 30 0 2 0 keptBy 1 ∷ row 2 1 10 1 0 3 keptBy 1 ∷ []) (6 ∷ 7 ∷ 8 ∷ []))
     ∷ R 0 ⇒ go
     ∷ stands (picture (root 3 held 3 awaited 0 stores 0)
-    (slot 0 after 1 at 4 with Ticket 2 20 ∷ []) (row 3 2 20 0 4 5 ∷ row 4 1 10 1 0 0 ∷ row 5 3 30 1 0 0 ∷ [])
+    (slot 0 after 1 at 4 with Ticket 2 20 past 3 ∷ []) (row 3 2 20 0 4 5 ∷ row 4 1 10 1 0 0 ∷ row 5 3 30 1 0 0 ∷ [])
     (row 1 3 30 0 2 0 keptBy 1 ∷ row 2 1 10 1 0 3 keptBy 1 ∷ []) (6 ∷ 7 ∷ 8 ∷ []))
     ∷ R 0 ⇒ next 2 20
     ∷ stands (picture (root 3 held 3 awaited 0 stores 0)
@@ -131,10 +131,10 @@ nextTickets =
     ∷ entry "next: a key inserted below the node that a search is at is met" three
     (S 0 20 ⇒ ok ∷ R 0 ⇒ go ∷ R 0 ⇒ go ∷ I 25 250 ⇒ ok
     ∷ stands (picture (root 2 held 3 awaited 0 stores 1)
-    (slot 0 after 20 at 3 with Nothing ∷ []) (row 1 10 100 1 0 0 ∷ row 2 20 200 0 1 3 ∷ row 3 30 300 1 0 0 ∷ []) [] (4 ∷ 5 ∷ 6 ∷ 7 ∷ 8 ∷ []))
+    (slot 0 after 20 at 3 with Nothing past 1 ∷ []) (row 1 10 100 1 0 0 ∷ row 2 20 200 0 1 3 ∷ row 3 30 300 1 0 0 ∷ []) [] (4 ∷ 5 ∷ 6 ∷ 7 ∷ 8 ∷ []))
     ∷ W ⇒ done (Left 3) 4 ∷ R 0 ⇒ go
     ∷ stands (picture (root 2 held 4 awaited 0 stores 0)
-    (slot 0 after 20 at 4 with Ticket 30 300 ∷ [])
+    (slot 0 after 20 at 4 with Ticket 30 300 past 2 ∷ [])
     (row 1 10 100 0 0 0 ∷ row 2 20 200 0 1 3 ∷ row 3 30 300 0 4 0 ∷ row 4 25 250 1 0 0 ∷ []) [] (5 ∷ 6 ∷ 7 ∷ 8 ∷ []))
     ∷ R 0 ⇒ next 25 250
     ∷ stands (picture (root 2 held 4 awaited 0 stores 0)
@@ -142,7 +142,7 @@ nextTickets =
     ∷ entry "next: the node that a search is at is deleted, left: it is held, its ticket is answered, and it keeps its words when freed" three
     (S 0 5 ⇒ ok ∷ R 0 ⇒ go ∷ R 0 ⇒ go ∷ D 10 ⇒ ok ∷ W ⇒ done (Left 2) 0
     ∷ stands (picture (root 2 held 2 awaited 0 stores 0)
-    (slot 0 after 5 at 1 with Ticket 20 200 ∷ []) (row 2 20 200 0 0 3 ∷ row 3 30 300 1 0 0 ∷ []) (row 1 10 100 1 0 0 keptBy 1 ∷ [])
+    (slot 0 after 5 at 1 with Ticket 20 200 past 1 ∷ []) (row 2 20 200 0 0 3 ∷ row 3 30 300 1 0 0 ∷ []) (row 1 10 100 1 0 0 keptBy 1 ∷ [])
     (4 ∷ 5 ∷ 6 ∷ 7 ∷ 8 ∷ []))
     ∷ R 0 ⇒ next 10 100
     ∷ stands (picture (root 2 held 2 awaited 0 stores 0) [] (row 2 20 200 0 0 3 ∷ row 3 30 300 1 0 0 ∷ []) [] (4 ∷ 5 ∷ 6 ∷ 7 ∷ 8 ∷ 1 ∷ []))
@@ -150,7 +150,7 @@ nextTickets =
     ∷ entry "next: the node that a search is at is deleted, right" three
     (S 2 25 ⇒ ok ∷ R 2 ⇒ go ∷ R 2 ⇒ go ∷ D 30 ⇒ ok ∷ W ⇒ done (Right 2) 0
     ∷ stands (picture (root 2 held 2 awaited 0 stores 0)
-    (slot 2 after 25 at 3 with Nothing ∷ []) (row 1 10 100 1 0 0 ∷ row 2 20 200 0 1 0 ∷ []) (row 3 30 300 1 0 0 keptBy 4 ∷ [])
+    (slot 2 after 25 at 3 with Nothing past 1 ∷ []) (row 1 10 100 1 0 0 ∷ row 2 20 200 0 1 0 ∷ []) (row 3 30 300 1 0 0 keptBy 4 ∷ [])
     (4 ∷ 5 ∷ 6 ∷ 7 ∷ 8 ∷ []))
     ∷ R 2 ⇒ next 30 300
     ∷ stands (picture (root 2 held 2 awaited 0 stores 0) [] (row 1 10 100 1 0 0 ∷ row 2 20 200 0 1 0 ∷ []) [] (4 ∷ 5 ∷ 6 ∷ 7 ∷ 8 ∷ 3 ∷ []))
@@ -158,11 +158,11 @@ nextTickets =
     ∷ entry "next: a ticket that was remembered and is deleted since is answered" three
     (S 0 15 ⇒ ok ∷ R 0 ⇒ go ∷ R 0 ⇒ go ∷ D 20 ⇒ ok ∷ W ⇒ more (Left 3) 1
     ∷ stands (picture (root 2 held 3 awaited 0 stores 1)
-    (slot 0 after 15 at 1 with Ticket 20 200 ∷ []) (row 1 10 100 1 0 0 ∷ row 2 20 200 0 1 3 ∷ row 3 30 300 1 1 0 ∷ []) []
+    (slot 0 after 15 at 1 with Ticket 20 200 past 1 ∷ []) (row 1 10 100 1 0 0 ∷ row 2 20 200 0 1 3 ∷ row 3 30 300 1 1 0 ∷ []) []
     (4 ∷ 5 ∷ 6 ∷ 7 ∷ 8 ∷ []))
     ∷ W ⇒ done Root 3
     ∷ stands (picture (root 3 held 2 awaited 0 stores 0)
-    (slot 0 after 15 at 1 with Ticket 20 200 ∷ []) (row 1 10 100 1 0 0 ∷ row 3 30 300 0 1 0 ∷ []) (row 2 20 200 0 1 3 keptBy 1 ∷ [])
+    (slot 0 after 15 at 1 with Ticket 20 200 past 1 ∷ []) (row 1 10 100 1 0 0 ∷ row 3 30 300 0 1 0 ∷ []) (row 2 20 200 0 1 3 keptBy 1 ∷ [])
     (4 ∷ 5 ∷ 6 ∷ 7 ∷ 8 ∷ []))
     ∷ R 0 ⇒ next 20 200
     ∷ stands (picture (root 3 held 2 awaited 0 stores 0) [] (row 1 10 100 1 0 0 ∷ row 3 30 300 0 1 0 ∷ []) [] (4 ∷ 5 ∷ 6 ∷ 7 ∷ 8 ∷ 2 ∷ []))
@@ -170,7 +170,7 @@ nextTickets =
     ∷ entry "next: a search at the top of a rotation goes on through the retired node" four
     (S 4 55 ⇒ ok ∷ R 4 ⇒ go ∷ R 4 ⇒ go ∷ I 60 600 ⇒ ok ∷ W ⇒ more (Right 4) 5 ∷ W ⇒ more (Left 4) 6 ∷ W ⇒ done (Right 2) 4
     ∷ stands (picture (root 2 held 5 awaited 0 stores 0)
-    (slot 4 after 55 at 3 with Nothing ∷ [])
+    (slot 4 after 55 at 3 with Nothing past 1 ∷ [])
     (row 1 10 100 0 0 0 ∷ row 2 20 200 0 1 4 ∷ row 4 50 500 0 6 5 ∷ row 5 60 600 1 0 0 ∷ row 6 40 400 1 0 0 ∷ [])
     (row 3 40 400 0 0 4 keptBy 16 ∷ []) (7 ∷ 8 ∷ 9 ∷ 10 ∷ 11 ∷ 12 ∷ []))
     ∷ R 4 ⇒ go ∷ R 4 ⇒ go ∷ R 4 ⇒ next 60 600
@@ -185,7 +185,7 @@ nextTickets =
     (row 2 20 200 0 1 4 keptBy 66 ∷ []) (7 ∷ 8 ∷ 9 ∷ 10 ∷ 11 ∷ 12 ∷ []))
     ∷ W ⇒ wait ∷ S 0 30 ⇒ ok ∷ E 6 ⇒ ok ∷ R 1 ⇒ go ∷ R 1 ⇒ go ∷ W ⇒ wait
     ∷ stands (picture (root 6 held 4 awaited 2 stores 1)
-    (slot 0 after 30 at 0 with Nothing ∷ slot 1 after 10 at 1 with Ticket 30 300 ∷ [])
+    (slot 0 after 30 at 0 with Nothing ∷ slot 1 after 10 at 1 with Ticket 30 300 past 1 ∷ [])
     (row 1 10 100 0 0 0 ∷ row 3 30 300 1 0 0 ∷ row 4 40 400 0 3 5 ∷ row 5 50 500 1 0 0 ∷ row 6 30 300 0 1 4 ∷ [])
     (row 2 20 200 0 1 4 keptBy 2 ∷ []) (7 ∷ 8 ∷ 9 ∷ 10 ∷ 11 ∷ 12 ∷ []))
     ∷ R 1 ⇒ next 30 300
@@ -214,7 +214,7 @@ nextTickets =
     ∷ entry "next: a search at the deleted node when the copy is published meets the successor below it" five
     (S 1 25 ⇒ ok ∷ R 1 ⇒ go ∷ D 20 ⇒ ok ∷ W ⇒ more Root 6 ∷ R 1 ⇒ go ∷ R 1 ⇒ go ∷ W ⇒ wait
     ∷ stands (picture (root 6 held 4 awaited 2 stores 1)
-    (slot 1 after 25 at 3 with Ticket 40 400 ∷ [])
+    (slot 1 after 25 at 3 with Ticket 40 400 past 2 ∷ [])
     (row 1 10 100 0 0 0 ∷ row 3 30 300 1 0 0 ∷ row 4 40 400 0 3 5 ∷ row 5 50 500 1 0 0 ∷ row 6 30 300 0 1 4 ∷ [])
     (row 2 20 200 0 1 4 keptBy 2 ∷ []) (7 ∷ 8 ∷ 9 ∷ 10 ∷ 11 ∷ 12 ∷ []))
     ∷ R 1 ⇒ next 30 300 ∷ W ⇒ done (Left 4) 0
@@ -230,12 +230,12 @@ nextTickets =
     (R 0 ⇒ go
     ∷ leaves (reader 0 := (reads 15 2 remembering Ticket 50 500) ∷ [])
     ∷ R 0 ⇒ go
-    ∷ leaves (reader 0 := (reads 15 1 remembering Ticket 50 500) ∷ [])
+    ∷ leaves (reader 0 := (reads 15 1 remembering Ticket 50 500 counting 1) ∷ [])
     ∷ R 0 ⇒ absent
     ∷ leaves (reader 0 := (idle 0 0) ∷ []) ∷ [])
     ∷ entry "next: a lookup that remembers a ticket finds its own" (three but (reader 0 := (reads 30 2 remembering Ticket 50 500) ∷ []))
     (R 0 ⇒ go
-    ∷ leaves (reader 0 := (reads 30 3 remembering Ticket 50 500) ∷ [])
+    ∷ leaves (reader 0 := (reads 30 3 remembering Ticket 50 500 counting 1) ∷ [])
     ∷ R 0 ⇒ found 300
     ∷ leaves (reader 0 := (idle 0 0) ∷ []) ∷ [])
     ∷ entry "next: a lookup that remembers, root 0: absent" (three but (root:= 0 ∷ reader 0 := (reads 15 0 remembering Ticket 50 500) ∷ []))
@@ -258,12 +258,12 @@ nextTickets =
     ∷ leaves (reader 0 := (idle 0 0) ∷ []) ∷ [])
     ∷ entry "next: a key and a record that aren't remembered are kept and not answered" (three but (reader 0 := (seeks 30 2 remembering Stale 50 500) ∷ []))
     (R 0 ⇒ go
-    ∷ leaves (reader 0 := (seeks 30 3 remembering Stale 50 500) ∷ [])
+    ∷ leaves (reader 0 := (seeks 30 3 remembering Stale 50 500 counting 1) ∷ [])
     ∷ R 0 ⇒ absent
     ∷ leaves (reader 0 := (idle 0 0) ∷ []) ∷ [])
     ∷ entry "next: a greater key takes the place of those that aren't remembered" (three but (reader 0 := (seeks 15 2 remembering Stale 50 500) ∷ []))
     (R 0 ⇒ go
-    ∷ leaves (reader 0 := (seeks 15 1 remembering Ticket 20 200) ∷ []) ∷ [])
+    ∷ leaves (reader 0 := (seeks 15 1 remembering Ticket 20 200 counting 1) ∷ []) ∷ [])
     ∷ entry "next: a slot not reading may have a kind and remember; a lookup's begin overwrites them"
     (three but (reader 5 := (idle 77 8 ofKind kind.Next remembering Ticket 1 2) ∷ []))
     (R 5 ⇒ refused 5 ∷ E 5 ⇒ refused 5 ∷ B 5 30 ⇒ ok
@@ -274,7 +274,7 @@ nextTickets =
     ∷ leaves (reader 5 := (seeks 30 0) ∷ []) ∷ [])
     ∷ entry "next: a search goes on in a circle" (three but (left of 1 := 1 ∷ reader 0 := (seeks 5 1) ∷ []))
     (R 0 ⇒ go ∷ R 0 ⇒ go
-    ∷ leaves (reader 0 := (seeks 5 1 remembering Ticket 10 100) ∷ []) ∷ [])
+    ∷ leaves (reader 0 := (seeks 5 1 remembering Ticket 10 100 counting 2) ∷ []) ∷ [])
     ∷ entry "next: a ticket remembered may be of any key and record"
     (three but (reader 7 := (seeks 4294967295 8 remembering Ticket 4294967295 4294967295) ∷ []))
     (S 0 5 ⇒ ok ∷ R 7 ⇒ next 4294967295 4294967295 ∷ [])
@@ -291,7 +291,7 @@ nextTickets =
     (R 0 ⇒ go
     ∷ leaves (reader 0 := (seeks 5 2) ∷ [])
     ∷ R 0 ⇒ go
-    ∷ leaves (reader 0 := (seeks 5 1 remembering Ticket 20 200) ∷ [])
+    ∷ leaves (reader 0 := (seeks 5 1 remembering Ticket 20 200 counting 1) ∷ [])
     ∷ R 0 ⇒ next 10 100
     ∷ leaves (reader 0 := (idle 0 0) ∷ []) ∷ [])
     ∷ entry "next: a begin leaves the awaited slots as they were, its own too" (three but (awaited:= 36 ∷ []))

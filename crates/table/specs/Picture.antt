@@ -38,9 +38,10 @@ abbrev pub _keptBy_ : Row → ℕ → Retired
 r keptBy m = record { node = r; holders = m }
 
 -- A slot's record: one that reads the key k and is at node n; one that doesn't read but has a key and a node; one that searches for the next
--- ticket after the key g; and each of another kind, or with what it remembers. A lookup and nothing remembered where neither is said.
+-- ticket after the key g; and each of another kind, or with what it remembers, or with its count of the nodes compared. A lookup, nothing
+-- remembered and the count 0 where these aren't said.
 abbrev reader : Bool → Kind → ℕ → ℕ → Reader
-reader reading κ k n = record { reading = reading; kind = κ; remembers = false; key = k; node = n; best = 0; value = 0 }
+reader reading κ k n = record { reading = reading; kind = κ; remembers = false; key = k; node = n; best = 0; value = 0; compared = 0 }
 
 abbrev pub reads : ℕ → ℕ → Reader
 reads k n = reader true kind.Lookup k n
@@ -53,21 +54,49 @@ seeks g n = reader true kind.Next g n
 
 infixl 75 _ofKind_
 abbrev pub _ofKind_ : Reader → Kind → Reader
-x ofKind κ = record { reading = x .reading; kind = κ; remembers = x .remembers; key = x .key; node = x .node; best = x .best; value = x .value }
+x ofKind κ =
+    record {
+      reading = x .reading;
+      kind = κ;
+      remembers = x .remembers;
+      key = x .key;
+      node = x .node;
+      best = x .best;
+      value = x .value;
+      compared = x .compared;
+    }
+
+infixl 75 _counting_
+abbrev pub _counting_ : Reader → ℕ → Reader
+x counting h =
+    record {
+      reading = x .reading;
+      kind = x .kind;
+      remembers = x .remembers;
+      key = x .key;
+      node = x .node;
+      best = x .best;
+      value = x .value;
+      compared = h;
+    }
 
 -- what a search remembers: nothing, or a ticket's key and record; or, in a damaged register, a key and a record that it doesn't remember
 pub data Remembered : Type 0 where
   Nothing : Remembered
   Ticket Stale : (k v : ℕ) → Remembered
 
+abbrev withRemembered : Reader → Bool → ℕ → ℕ → Reader
+withRemembered x b k v =
+    record { reading = x .reading; kind = x .kind; remembers = b; key = x .key; node = x .node; best = k; value = v; compared = x .compared }
+
 infixl 75 _remembering_
 abbrev pub _remembering_ : Reader → Remembered → Reader
-x remembering Nothing = record { reading = x .reading; kind = x .kind; remembers = false; key = x .key; node = x .node; best = 0; value = 0 }
-x remembering Ticket k v = record { reading = x .reading; kind = x .kind; remembers = true; key = x .key; node = x .node; best = k; value = v }
-x remembering Stale k v = record { reading = x .reading; kind = x .kind; remembers = false; key = x .key; node = x .node; best = k; value = v }
+x remembering Nothing = withRemembered x false 0 0
+x remembering Ticket k v = withRemembered x true k v
+x remembering Stale k v = withRemembered x false k v
 
 -- a reading slot: in a lookup its wanted key and the node that it is at; in a search for the next ticket the key given, the node, what it
--- remembers
+-- remembers; and either past so many nodes that it has compared, 0 where this isn't said
 pub record Read : Type 0 where
   pub slot : ℕ
   pub reader : Reader
@@ -79,6 +108,10 @@ slot s wants k at n = record { slot = s; reader = reads k n }
 infix 70 slot_after_at_with_
 abbrev pub slot_after_at_with_ : ℕ → ℕ → ℕ → Remembered → Read
 slot s after g at n with m = record { slot = s; reader = seeks g n remembering m }
+
+infix 69 _past_
+abbrev pub _past_ : Read → ℕ → Read
+x past h = record { slot = x .slot; reader = x .reader counting h }
 
 -- so many slots from s on, in lookups of the key k, before any node
 abbrev pub wanting : ℕ → ℕ → ℕ → List Read
@@ -334,7 +367,7 @@ used =
       last = 97;
       free = 96;
       held = 95;
-      readers = replicate 32 (seeks 94 93 remembering Ticket 89 88);
+      readers = replicate 32 (seeks 94 93 remembering Ticket 89 88 counting 87);
       awaited = 92;
       write = record { stores = replicate 7 (Unlink on Left 91); count = 7 };
     }

@@ -2,7 +2,7 @@
 use mathlib.Core.List.{List, [], _∷_, _++_}
 use Rattle.datatypes.specs.declared.Link.the-variants.{Root, Left, Right}
 use Rattle.spec.specs.Calls.{ok, go, absent, wait, found, more, done, refused}
-use Rattle.table.specs.Picture.{row, _keptBy_, slot_wants_at_, wanting, root_held_awaited_stores_, picture, unset}
+use Rattle.table.specs.Picture.{row, _keptBy_, slot_wants_at_, _past_, wanting, root_held_awaited_stores_, picture, unset}
 use Rattle.table.specs.Entry.{P, I, D, W, B, R, E, _⇒_, begins, stands, still, Entry, entry}
 use Rattle.table.specs.Lent.{three, five, four}
 
@@ -21,7 +21,7 @@ readers =
     (slot 0 wants 10 at 2 ∷ []) (row 1 10 100 1 0 0 ∷ row 2 20 200 0 1 3 ∷ row 3 30 300 1 0 0 ∷ []) [] (4 ∷ 5 ∷ 6 ∷ 7 ∷ 8 ∷ []))
     ∷ R 0 ⇒ go
     ∷ stands (picture (root 2 held 3 awaited 0 stores 0)
-    (slot 0 wants 10 at 1 ∷ []) (row 1 10 100 1 0 0 ∷ row 2 20 200 0 1 3 ∷ row 3 30 300 1 0 0 ∷ []) [] (4 ∷ 5 ∷ 6 ∷ 7 ∷ 8 ∷ []))
+    (slot 0 wants 10 at 1 past 1 ∷ []) (row 1 10 100 1 0 0 ∷ row 2 20 200 0 1 3 ∷ row 3 30 300 1 0 0 ∷ []) [] (4 ∷ 5 ∷ 6 ∷ 7 ∷ 8 ∷ []))
     ∷ R 0 ⇒ found 100
     ∷ stands (picture (root 2 held 3 awaited 0 stores 0)
     [] (row 1 10 100 1 0 0 ∷ row 2 20 200 0 1 3 ∷ row 3 30 300 1 0 0 ∷ []) [] (4 ∷ 5 ∷ 6 ∷ 7 ∷ 8 ∷ []))
@@ -32,11 +32,11 @@ readers =
     ∷ entry "slots side by side, each with its own key and node" three
     (B 0 10 ⇒ ok ∷ B 7 30 ⇒ ok ∷ R 7 ⇒ go ∷ R 0 ⇒ go ∷ R 7 ⇒ go
     ∷ stands (picture (root 2 held 3 awaited 0 stores 0)
-    (slot 0 wants 10 at 2 ∷ slot 7 wants 30 at 3 ∷ []) (row 1 10 100 1 0 0 ∷ row 2 20 200 0 1 3 ∷ row 3 30 300 1 0 0 ∷ []) []
+    (slot 0 wants 10 at 2 ∷ slot 7 wants 30 at 3 past 1 ∷ []) (row 1 10 100 1 0 0 ∷ row 2 20 200 0 1 3 ∷ row 3 30 300 1 0 0 ∷ []) []
     (4 ∷ 5 ∷ 6 ∷ 7 ∷ 8 ∷ []))
     ∷ R 7 ⇒ found 300 ∷ R 0 ⇒ go
     ∷ stands (picture (root 2 held 3 awaited 0 stores 0)
-    (slot 0 wants 10 at 1 ∷ []) (row 1 10 100 1 0 0 ∷ row 2 20 200 0 1 3 ∷ row 3 30 300 1 0 0 ∷ []) [] (4 ∷ 5 ∷ 6 ∷ 7 ∷ 8 ∷ []))
+    (slot 0 wants 10 at 1 past 1 ∷ []) (row 1 10 100 1 0 0 ∷ row 2 20 200 0 1 3 ∷ row 3 30 300 1 0 0 ∷ []) [] (4 ∷ 5 ∷ 6 ∷ 7 ∷ 8 ∷ []))
     ∷ R 0 ⇒ found 100
     ∷ stands (picture (root 2 held 3 awaited 0 stores 0)
     [] (row 1 10 100 1 0 0 ∷ row 2 20 200 0 1 3 ∷ row 3 30 300 1 0 0 ∷ []) [] (4 ∷ 5 ∷ 6 ∷ 7 ∷ 8 ∷ [])) ∷ [])
@@ -82,18 +82,18 @@ readers =
     ∷ entry "a reader at a node that is deleted finds its record; the node keeps its words when freed" three
     (B 0 10 ⇒ ok ∷ R 0 ⇒ go ∷ R 0 ⇒ go ∷ D 10 ⇒ ok ∷ W ⇒ done (Left 2) 0
     ∷ stands (picture (root 2 held 2 awaited 0 stores 0)
-    (slot 0 wants 10 at 1 ∷ []) (row 2 20 200 0 0 3 ∷ row 3 30 300 1 0 0 ∷ []) (row 1 10 100 1 0 0 keptBy 1 ∷ []) (4 ∷ 5 ∷ 6 ∷ 7 ∷ 8 ∷ []))
+    (slot 0 wants 10 at 1 past 1 ∷ []) (row 2 20 200 0 0 3 ∷ row 3 30 300 1 0 0 ∷ []) (row 1 10 100 1 0 0 keptBy 1 ∷ []) (4 ∷ 5 ∷ 6 ∷ 7 ∷ 8 ∷ []))
     ∷ R 0 ⇒ found 100
     ∷ stands (picture (root 2 held 2 awaited 0 stores 0) [] (row 2 20 200 0 0 3 ∷ row 3 30 300 1 0 0 ∷ []) [] (4 ∷ 5 ∷ 6 ∷ 7 ∷ 8 ∷ 1 ∷ []))
     ∷ still (row 1 10 100 1 0 0) ∷ [])
     ∷ entry "a reader at the top of a rotation goes on through the retired node" four
     (B 4 60 ⇒ ok ∷ R 4 ⇒ go ∷ R 4 ⇒ go ∷ I 60 600 ⇒ ok ∷ W ⇒ more (Right 4) 5 ∷ W ⇒ more (Left 4) 6 ∷ W ⇒ done (Right 2) 4
     ∷ stands (picture (root 2 held 5 awaited 0 stores 0)
-    (slot 4 wants 60 at 3 ∷ []) (row 1 10 100 0 0 0 ∷ row 2 20 200 0 1 4 ∷ row 4 50 500 0 6 5 ∷ row 5 60 600 1 0 0 ∷ row 6 40 400 1 0 0 ∷ [])
+    (slot 4 wants 60 at 3 past 1 ∷ []) (row 1 10 100 0 0 0 ∷ row 2 20 200 0 1 4 ∷ row 4 50 500 0 6 5 ∷ row 5 60 600 1 0 0 ∷ row 6 40 400 1 0 0 ∷ [])
     (row 3 40 400 0 0 4 keptBy 16 ∷ []) (7 ∷ 8 ∷ 9 ∷ 10 ∷ 11 ∷ 12 ∷ []))
     ∷ R 4 ⇒ go
     ∷ stands (picture (root 2 held 5 awaited 0 stores 0)
-    (slot 4 wants 60 at 4 ∷ []) (row 1 10 100 0 0 0 ∷ row 2 20 200 0 1 4 ∷ row 4 50 500 0 6 5 ∷ row 5 60 600 1 0 0 ∷ row 6 40 400 1 0 0 ∷ [])
+    (slot 4 wants 60 at 4 past 2 ∷ []) (row 1 10 100 0 0 0 ∷ row 2 20 200 0 1 4 ∷ row 4 50 500 0 6 5 ∷ row 5 60 600 1 0 0 ∷ row 6 40 400 1 0 0 ∷ [])
     (row 3 40 400 0 0 4 keptBy 16 ∷ []) (7 ∷ 8 ∷ 9 ∷ 10 ∷ 11 ∷ 12 ∷ []))
     ∷ R 4 ⇒ go ∷ R 4 ⇒ found 600
     ∷ stands (picture (root 2 held 5 awaited 0 stores 0)

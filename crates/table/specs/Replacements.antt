@@ -5,7 +5,7 @@ use Rattle.datatypes.specs.declared.Link.the-variants.{Root, Left, Right}
 use Rattle.datatypes.specs.declared.Step.the-variants.{Replace, Unlink}
 use Rattle.spec.specs.Register.{State}
 use Rattle.spec.specs.Calls.{ok, go, absent, wait, found, next, more, done, refused}
-use Rattle.table.specs.Picture.{Row, Change, row, _keptBy_, slot_wants_at_, slot_after_at_with_, Nothing, Ticket, root_held_awaited_stores_, picture, none}
+use Rattle.table.specs.Picture.{Row, Change, row, _keptBy_, slot_wants_at_, _past_, slot_after_at_with_, Nothing, Ticket, root_held_awaited_stores_, picture, none}
 use Rattle.table.specs.Picture.{nil, red, black, redLeaf, blackLeaf, tree, _on_, key, value, left, right, colour, standing, holders, nextFree}
 use Rattle.table.specs.Picture.{_of_:=_, root:=_, first:=_, last:=_, free:=_, held:=_, awaited:=_, count:=_, reader_:=_, store_:=_, hand}
 use Rattle.table.specs.Picture.{fills, atRest, reads, _but_, unset}
@@ -152,12 +152,12 @@ replacements =
     ∷ entry "replace: a lookup above the node finds the new record" five
     (B 0 40 ⇒ ok ∷ R 0 ⇒ go ∷ I 40 401 ⇒ ok ∷ W ⇒ done (Right 2) 6 ∷ R 0 ⇒ go
     ∷ stands (picture (root 2 held 5 awaited 0 stores 0)
-    (slot 0 wants 40 at 6 ∷ []) innerReplaced (row 4 40 400 0 3 5 keptBy 1 ∷ []) (7 ∷ 8 ∷ 9 ∷ 10 ∷ 11 ∷ 12 ∷ []))
+    (slot 0 wants 40 at 6 past 1 ∷ []) innerReplaced (row 4 40 400 0 3 5 keptBy 1 ∷ []) (7 ∷ 8 ∷ 9 ∷ 10 ∷ 11 ∷ 12 ∷ []))
     ∷ R 0 ⇒ found 401 ∷ [])
     ∷ entry "replace: a lookup at the node finds the old record; one begun after the store the new one" five
     (B 0 40 ⇒ ok ∷ R 0 ⇒ go ∷ R 0 ⇒ go ∷ I 40 401 ⇒ ok ∷ W ⇒ done (Right 2) 6 ∷ B 1 40 ⇒ ok ∷ R 1 ⇒ go ∷ R 1 ⇒ go
     ∷ stands (picture (root 2 held 5 awaited 0 stores 0)
-    (slot 0 wants 40 at 4 ∷ slot 1 wants 40 at 6 ∷ []) innerReplaced (row 4 40 400 0 3 5 keptBy 1 ∷ []) (7 ∷ 8 ∷ 9 ∷ 10 ∷ 11 ∷ 12 ∷ []))
+    (slot 0 wants 40 at 4 past 1 ∷ slot 1 wants 40 at 6 past 1 ∷ []) innerReplaced (row 4 40 400 0 3 5 keptBy 1 ∷ []) (7 ∷ 8 ∷ 9 ∷ 10 ∷ 11 ∷ 12 ∷ []))
     ∷ R 0 ⇒ found 400 ∷ R 1 ⇒ found 401
     ∷ stands (picture (root 2 held 5 awaited 0 stores 0) [] innerReplaced [] (7 ∷ 8 ∷ 9 ∷ 10 ∷ 11 ∷ 12 ∷ 4 ∷ [])) ∷ [])
     ∷ entry "replace: before its store a lookup finds the old record, begun before it is accepted or after" three
@@ -166,18 +166,18 @@ replacements =
     ∷ entry "replace: a lookup at the old node goes on by its links" five
     (B 0 30 ⇒ ok ∷ R 0 ⇒ go ∷ R 0 ⇒ go ∷ B 1 55 ⇒ ok ∷ R 1 ⇒ go ∷ R 1 ⇒ go ∷ I 40 401 ⇒ ok ∷ W ⇒ done (Right 2) 6 ∷ R 0 ⇒ go ∷ R 1 ⇒ go
     ∷ stands (picture (root 2 held 5 awaited 0 stores 0)
-    (slot 0 wants 30 at 3 ∷ slot 1 wants 55 at 5 ∷ []) innerReplaced (row 4 40 400 0 3 5 keptBy 3 ∷ []) (7 ∷ 8 ∷ 9 ∷ 10 ∷ 11 ∷ 12 ∷ []))
+    (slot 0 wants 30 at 3 past 2 ∷ slot 1 wants 55 at 5 past 2 ∷ []) innerReplaced (row 4 40 400 0 3 5 keptBy 3 ∷ []) (7 ∷ 8 ∷ 9 ∷ 10 ∷ 11 ∷ 12 ∷ []))
     ∷ R 0 ⇒ found 300 ∷ R 1 ⇒ absent
     ∷ stands (picture (root 2 held 5 awaited 0 stores 0) [] innerReplaced [] (7 ∷ 8 ∷ 9 ∷ 10 ∷ 11 ∷ 12 ∷ 4 ∷ [])) ∷ [])
     ∷ entry "replace: a lookup below the node is not held up" five
     (B 0 50 ⇒ ok ∷ R 0 ⇒ go ∷ R 0 ⇒ go ∷ R 0 ⇒ go ∷ I 40 401 ⇒ ok ∷ W ⇒ done (Right 2) 6
     ∷ stands (picture (root 2 held 5 awaited 0 stores 0)
-    (slot 0 wants 50 at 5 ∷ []) innerReplaced (row 4 40 400 0 3 5 keptBy 1 ∷ []) (7 ∷ 8 ∷ 9 ∷ 10 ∷ 11 ∷ 12 ∷ []))
+    (slot 0 wants 50 at 5 past 2 ∷ []) innerReplaced (row 4 40 400 0 3 5 keptBy 1 ∷ []) (7 ∷ 8 ∷ 9 ∷ 10 ∷ 11 ∷ 12 ∷ []))
     ∷ R 0 ⇒ found 500 ∷ [])
     ∷ entry "replace: of a node and then of its child: a lookup at the first old node finds the child's old record" five
     (B 0 50 ⇒ ok ∷ R 0 ⇒ go ∷ R 0 ⇒ go ∷ I 40 401 ⇒ ok ∷ W ⇒ done (Right 2) 6 ∷ I 50 501 ⇒ ok ∷ W ⇒ done (Right 6) 7
     ∷ stands (picture (root 2 held 5 awaited 0 stores 0)
-    (slot 0 wants 50 at 4 ∷ [])
+    (slot 0 wants 50 at 4 past 1 ∷ [])
     (row 1 10 100 0 0 0 ∷ row 2 20 200 0 1 6 ∷ row 3 30 300 1 0 0 ∷ row 6 40 401 0 3 7 ∷ row 7 50 501 1 0 0 ∷ [])
     (row 4 40 400 0 3 5 keptBy 1 ∷ row 5 50 500 1 0 0 keptBy 1 ∷ []) (8 ∷ 9 ∷ 10 ∷ 11 ∷ 12 ∷ []))
     ∷ R 0 ⇒ go ∷ R 0 ⇒ found 500
@@ -188,13 +188,13 @@ replacements =
     ∷ entry "replace: a search that remembers the old ticket answers it" three
     (S 0 15 ⇒ ok ∷ R 0 ⇒ go ∷ R 0 ⇒ go ∷ I 20 201 ⇒ ok ∷ W ⇒ done Root 4
     ∷ stands (picture (root 4 held 3 awaited 0 stores 0)
-    (slot 0 after 15 at 1 with (Ticket 20 200) ∷ []) rootReplaced (row 2 20 200 0 1 3 keptBy 1 ∷ []) (5 ∷ 6 ∷ 7 ∷ 8 ∷ []))
+    (slot 0 after 15 at 1 with (Ticket 20 200) past 1 ∷ []) rootReplaced (row 2 20 200 0 1 3 keptBy 1 ∷ []) (5 ∷ 6 ∷ 7 ∷ 8 ∷ []))
     ∷ R 0 ⇒ next 20 200
     ∷ stands (picture (root 4 held 3 awaited 0 stores 0) [] rootReplaced [] (5 ∷ 6 ∷ 7 ∷ 8 ∷ 2 ∷ [])) ∷ [])
     ∷ entry "replace: a search at the node remembers the old ticket; one before any node the new one" three
     (S 0 15 ⇒ ok ∷ R 0 ⇒ go ∷ S 1 15 ⇒ ok ∷ I 20 201 ⇒ ok ∷ W ⇒ done Root 4 ∷ R 0 ⇒ go ∷ R 1 ⇒ go ∷ R 1 ⇒ go
     ∷ stands (picture (root 4 held 3 awaited 0 stores 0)
-    (slot 0 after 15 at 1 with (Ticket 20 200) ∷ slot 1 after 15 at 1 with (Ticket 20 201) ∷ []) rootReplaced (row 2 20 200 0 1 3 keptBy 3 ∷ [])
+    (slot 0 after 15 at 1 with (Ticket 20 200) past 1 ∷ slot 1 after 15 at 1 with (Ticket 20 201) past 1 ∷ []) rootReplaced (row 2 20 200 0 1 3 keptBy 3 ∷ [])
     (5 ∷ 6 ∷ 7 ∷ 8 ∷ []))
     ∷ R 0 ⇒ next 20 200 ∷ R 1 ⇒ next 20 201 ∷ [])
     ∷ entry "replace: a search after the key itself passes it, old node or new" three

@@ -3,7 +3,7 @@ use Prim.Native.Nat.{ℕ}
 use mathlib.Core.List.{List, [], _∷_, _++_}
 use Rattle.datatypes.specs.declared.Link.the-variants.{Root, Left, Right}
 use Rattle.spec.specs.Calls.{ok, go, absent, wait, found, more, done, refused}
-use Rattle.table.specs.Picture.{Row, row, Retired, _keptBy_, slot_wants_at_, root_held_awaited_stores_, picture, unset}
+use Rattle.table.specs.Picture.{Row, row, Retired, _keptBy_, slot_wants_at_, _past_, root_held_awaited_stores_, picture, unset}
 use Rattle.table.specs.Entry.{P, I, D, W, B, R, E, _⇒_, Line, stands, Entry, entry}
 
 -- 'This run': calls 2 to 13, and call 14.
@@ -49,14 +49,14 @@ starred =
     -- This run; after call 13 nodes 1 and 2 are retired, after 14 the queue is 6, 7, 8, 1, 2.
     entry "01: this run" (unset 8)
     (to13
-    ++ stands (picture (root 3 held 3 awaited 0 stores 0) (slot 0 wants 1 at 2 ∷ []) tree15 gone13 (6 ∷ 7 ∷ 8 ∷ []))
+    ++ stands (picture (root 3 held 3 awaited 0 stores 0) (slot 0 wants 1 at 2 past 1 ∷ []) tree15 gone13 (6 ∷ 7 ∷ 8 ∷ []))
     ∷ R 0 ⇒ found 10
     ∷ stands (picture (root 3 held 3 awaited 0 stores 0) [] tree15 [] (6 ∷ 7 ∷ 8 ∷ 1 ∷ 2 ∷ []))
     ∷ [])
     -- After call 13, insert 4 is accepted (3 free) and done in one turn; then delete gives 11 (2 free), insert 5 gives 10.
     ∷ entry "01: after call 13, insert 4" (unset 8)
     (to13 ++ fourth ++ D 1 ⇒ refused 11 ∷ I 5 50 ⇒ refused 10
-    ∷ stands (picture (root 3 held 4 awaited 0 stores 0) (slot 0 wants 1 at 2 ∷ []) tree4 gone13 (7 ∷ 8 ∷ []))
+    ∷ stands (picture (root 3 held 4 awaited 0 stores 0) (slot 0 wants 1 at 2 past 1 ∷ []) tree4 gone13 (7 ∷ 8 ∷ []))
     -- and then call 14: delete with just 4 free
     ∷ R 0 ⇒ found 10 ∷ D 1 ⇒ ok
     ∷ stands (picture (root 3 held 4 awaited 0 stores 3) [] tree4 [] (7 ∷ 8 ∷ 1 ∷ 2 ∷ []))

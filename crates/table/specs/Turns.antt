@@ -11,7 +11,7 @@ use Rattle.spec.specs.Register.{State}
 use Rattle.spec.specs.Calls.{go, absent, found, next, refused}
 use Rattle.table.specs.Picture.{row, _keptBy_, root_held_awaited_stores_, picture, drawn, none, _on_, key, value, left, right, colour}
 use Rattle.table.specs.Picture.{standing, holders, nextFree, Change, _of_:=_, root:=_, first:=_, last:=_, free:=_, held:=_, awaited:=_, count:=_, hand}
-use Rattle.table.specs.Picture.{reader_:=_, store_:=_, reads, idle, seeks, _ofKind_, Ticket, _remembering_, _but_, words}
+use Rattle.table.specs.Picture.{reader_:=_, store_:=_, reads, idle, seeks, _ofKind_, Ticket, _remembering_, _counting_, _but_, words}
 use Rattle.table.specs.Entry.{I, D, W, B, S, R, E, _⇒_, leaves, Entry, entry}
 use Rattle.table.specs.Lent.{three, planned}
 
@@ -22,9 +22,9 @@ elsewhere title f n v =
     entry title (three but (f of n := v ∷ reader 0 := (reads 10 2) ∷ reader 1 := (seeks 10 2) ∷ []))
     (E 0 ⇒ refused 2 ∷ E 1 ⇒ refused 2 ∷ B 2 5 ⇒ refused 2 ∷ S 2 5 ⇒ refused 2 ∷ I 5 50 ⇒ refused 2 ∷ D 10 ⇒ refused 2 ∷ W ⇒ refused 2
     ∷ R 0 ⇒ go
-    ∷ leaves (reader 0 := (reads 10 1) ∷ [])
+    ∷ leaves (reader 0 := (reads 10 1 counting 1) ∷ [])
     ∷ R 1 ⇒ go
-    ∷ leaves (reader 0 := (reads 10 1) ∷ reader 1 := (seeks 10 1 remembering Ticket 20 200) ∷ []) ∷ [])
+    ∷ leaves (reader 0 := (reads 10 1 counting 1) ∷ reader 1 := (seeks 10 1 remembering Ticket 20 200 counting 1) ∷ []) ∷ [])
 
 -- A word of the node that the record names is out of its range: in a lookup, in a search for the next ticket, and in a slot that doesn't read.
 abbrev named : String → ℕ → ℕ → ℕ → Entry
@@ -44,7 +44,7 @@ abbrev goesOn : String → List Change → Entry
 goesOn title cs =
     entry title (three but (reader 0 := (reads 10 2) ∷ reader 1 := (seeks 10 2) ∷ reader 31 := (idle 10 2) ∷ []) but cs)
     (R 31 ⇒ refused 5 ∷ R 32 ⇒ refused 3 ∷ R 0 ⇒ go ∷ R 1 ⇒ go
-    ∷ leaves (reader 0 := (reads 10 1) ∷ reader 1 := (seeks 10 1 remembering Ticket 20 200) ∷ []) ∷ [])
+    ∷ leaves (reader 0 := (reads 10 1 counting 1) ∷ reader 1 := (seeks 10 1 remembering Ticket 20 200 counting 1) ∷ []) ∷ [])
 
 -- Node 8 with every word at its largest, and slots at it.
 abbrev largest : State
@@ -109,10 +109,10 @@ turns =
     ∷ goesOn "turn: holders of the node named, which stands free, 2,147,483,648" (standing of 2 := 0 ∷ holders of 2 := 2147483648 ∷ [])
     ∷ entry "turn: each word of the node named at its largest" largest
     (R 31 ⇒ refused 5 ∷ R 0 ⇒ go ∷ R 6 ⇒ go ∷ R 0 ⇒ go
-    ∷ leaves [] ∷ [])
+    ∷ leaves (reader 0 := (reads 4294967294 8 counting 2) ∷ reader 6 := (seeks 4294967295 8 counting 1) ∷ []) ∷ [])
     ∷ entry "turn: the node loaded is tested in the next turn" (three but (left of 1 := 9 ∷ reader 0 := (reads 5 0) ∷ reader 1 := (seeks 5 0) ∷ []))
     (R 0 ⇒ go ∷ R 1 ⇒ go ∷ R 0 ⇒ go ∷ R 1 ⇒ go
-    ∷ leaves (reader 0 := (reads 5 1) ∷ reader 1 := (seeks 5 1 remembering Ticket 20 200) ∷ [])
+    ∷ leaves (reader 0 := (reads 5 1 counting 1) ∷ reader 1 := (seeks 5 1 remembering Ticket 20 200 counting 1) ∷ [])
     ∷ R 0 ⇒ refused 2 ∷ R 1 ⇒ refused 2 ∷ [])
     ∷ entry "turn: a damaged root's node is loaded, and tested in the next turn" (three but (colour of 2 := 2 ∷ reader 0 := (reads 5 0) ∷ []))
     (R 0 ⇒ go
@@ -157,11 +157,11 @@ turns =
     ∷ leaves retiredLeft ∷ [])
     ∷ entry "turn: go leaves damaged retired nodes as they are" (retiring (reads 10 2))
     (R 3 ⇒ go
-    ∷ leaves (reader 3 := (reads 10 1) ∷ []) ∷ [])
+    ∷ leaves (reader 3 := (reads 10 1 counting 1) ∷ []) ∷ [])
     ∷ entry "turn: with a write in hand another node is not tested, and the node named is"
     (three but (hand (Unlink on Root) ∷ left of 8 := 9 ∷ right of 3 := 9 ∷ reader 0 := (reads 10 2) ∷ reader 1 := (seeks 30 3) ∷ reader 2 := (reads 30 3) ∷ []))
     (W ⇒ refused 2 ∷ R 1 ⇒ refused 2 ∷ R 2 ⇒ refused 2 ∷ R 0 ⇒ go
-    ∷ leaves (reader 0 := (reads 10 1) ∷ []) ∷ [])
+    ∷ leaves (reader 0 := (reads 10 1 counting 1) ∷ []) ∷ [])
     ∷ entry "turn: 1 before 2 of the node named"
     (words 65 but (reader 0 := (reads 10 1) ∷ reader 1 := (seeks 10 8) ∷ reader 2 := (idle 10 1) ∷ []))
     (R 0 ⇒ refused 1 ∷ R 1 ⇒ refused 1 ∷ R 2 ⇒ refused 1 ∷ [])
@@ -171,7 +171,7 @@ turns =
     ∷ entry "turn: goes on at a retired node that the slot doesn't hold"
     (three but (standing of 2 := 2 ∷ holders of 2 := 2 ∷ reader 0 := (reads 10 2) ∷ reader 6 := (seeks 10 2) ∷ reader 7 := (idle 10 2) ∷ []))
     (R 0 ⇒ go ∷ R 6 ⇒ go ∷ R 7 ⇒ refused 5
-    ∷ leaves (reader 0 := (reads 10 1) ∷ reader 6 := (seeks 10 1 remembering Ticket 20 200) ∷ []) ∷ [])
+    ∷ leaves (reader 0 := (reads 10 1 counting 1) ∷ reader 6 := (seeks 10 1 remembering Ticket 20 200 counting 1) ∷ []) ∷ [])
     ∷ field "turn: 2, a store to come on node 9" planned (store 6 := (Unlink on Left 9) ∷ [])
     ∷ field "turn: 2, a store to come on node 0" planned (store 0 := (Unlink on Left 0) ∷ [])
     ∷ field "turn: 2, no store where one is to come" planned (store 6 := none ∷ [])
@@ -183,7 +183,7 @@ turns =
     ∷ entry "turn: an empty queue, each number of the register 0"
     (three but (root:= 0 ∷ first:= 0 ∷ last:= 0 ∷ free:= 0 ∷ held:= 0 ∷ reader 0 := (reads 10 2) ∷ reader 1 := (seeks 5 0) ∷ []))
     (R 2 ⇒ refused 5 ∷ R 0 ⇒ go ∷ R 1 ⇒ absent
-    ∷ leaves (reader 0 := (reads 10 1) ∷ reader 1 := (idle 0 0) ∷ []) ∷ [])
+    ∷ leaves (reader 0 := (reads 10 1 counting 1) ∷ reader 1 := (idle 0 0) ∷ []) ∷ [])
     ∷ entry "turn: retired nodes with a colour past its range are freed, also one that had no holder" coloured
     (R 3 ⇒ found 200
     ∷ leaves (standing of 4 := 0 ∷ nextFree of 4 := 5 ∷ standing of 5 := 0 ∷ holders of 5 := 0 ∷ nextFree of 8 := 4 ∷ last:= 5 ∷ free:= 5
