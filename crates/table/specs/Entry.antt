@@ -23,7 +23,7 @@ use Rattle.datatypes.specs.declared.Register.{Register}
 use Rattle.spec.specs.Register.{State}
 use Rattle.spec.specs.Turn.{Profile, profile, countedBy}
 use Rattle.spec.specs.Calls.{Answer, ok, go, absent, wait, found, next, more, done, refused, Outcome, Call, inserting, deleting, writing}
-use Rattle.spec.specs.Calls.{beginning, turning, givingUp, call, setUp}
+use Rattle.spec.specs.Calls.{beginning, turning, givingUp, call, setUp, turnCount}
 use Rattle.table.specs.Picture.{Row, Picture, Change, rowWords, nodeIn, drawn, none, _on_, left, right, standing, _but_}
 
 -- The calls by the letters of trace: P set up, I insert, D delete, W writer's turn, B begin, S begin a search for the next ticket, R reader's
@@ -54,12 +54,14 @@ abbrev pub E : ℕ → Request
 E s = calls (givingUp s)
 
 -- A line of an entry. A call with its answer: one that is refused or answers wait must leave every word and field as it was, and a store must
--- have done what its step's profile says.
+-- have done what its step's profile says. counted: a reader's turn, with the count that its reply says (02, C-17).
 -- stands: what stands now is this picture. still: a node has these words, whatever it stands as. leaves: what stands now is what was lent
 -- with these changes, every word and field.
 infix 70 _⇒_
+infix 70 _⇒_counted_
 pub data Line : Type 0 where
   _⇒_ : (r : Request) (a : Answer) → Line
+  _⇒_counted_ : (r : Request) (a : Answer) (h : ℕ) → Line
   stands : Picture → Line
   still : Row → Line
   leaves : List Change → Line
@@ -224,12 +226,25 @@ abbrev outcomeOf : State → Request → Outcome
 outcomeOf st P = setUp st
 outcomeOf st (calls c) = call st c
 
+-- the reply of a reader's turn says this count; no other call says one
+abbrev saysCount : State → Request → ℕ → Bool
+saysCount st P h = false
+saysCount st (calls (turning s)) h = eqb (turnCount st s) h
+saysCount st (calls (inserting k v)) h = false
+saysCount st (calls (deleting k)) h = false
+saysCount st (calls writing) h = false
+saysCount st (calls (beginning κ s k)) h = false
+saysCount st (calls (givingUp s)) h = false
+
 -- every line holds of the state st that stands before it; lent is where the entry began
 abbrev pub holdsFrom : State → State → List Line → Bool
 holdsFrom lent st [] = true
 holdsFrom lent st ((r ⇒ a) ∷ later) =
     let o = outcomeOf st r in
     sameNumbers (answerNumbers (o .answer)) (answerNumbers a) && agrees a st (o .after) && holdsFrom lent (o .after) later
+holdsFrom lent st ((r ⇒ a counted h) ∷ later) =
+    let o = outcomeOf st r in
+    sameNumbers (answerNumbers (o .answer)) (answerNumbers a) && saysCount st r h && agrees a st (o .after) && holdsFrom lent (o .after) later
 holdsFrom lent st (stands x ∷ later) = isShown st x && holdsFrom lent st later
 holdsFrom lent st (still r ∷ later) = isStill (st .pool) r && holdsFrom lent st later
 holdsFrom lent st (leaves cs ∷ later) = sameState st (lent but cs) && holdsFrom lent st later

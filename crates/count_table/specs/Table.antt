@@ -1,0 +1,36 @@
+-- Every entry of the tables of counts passes, computed over the definitions of crate spec as those of crate table are.
+use mathlib.Core.Path.{_≡_, refl}
+use mathlib.Core.Bool.{true}
+use Rattle.base.specs.Walk.{allFrom, allIn, foldFrom, foldIn}
+use Rattle.spec.specs.Pool.{word, setWord, nodeInRange, poolInRange, lengthRight, freshNodes, freshPool}
+use Rattle.spec.specs.Register.{withRoot, withQueue, withHeld, withReader, withAwaited, withWrite, nodeAt, setLink}
+use Rattle.spec.specs.Register.{putSlot, dropSlot, readingSlots, storeInRange, registerInRange, freshRegister, fresh, writeOf, lessFirst}
+use Rattle.spec.specs.Free.{takeFree, fillNode, takeNode, freeNode, retire, retireTwo, release, endReading}
+use Rattle.spec.specs.Search.{seek, trail, leftmost}
+use Rattle.spec.specs.Plan.{insertFixup, fixupAfterInsert, paintInsertFixup, redSibling, deleteFixup, fixupAfterRemoval, paintDeleteLevels}
+use Rattle.spec.specs.Plan.{paintDeleteFixup, insertPlan, unlinkPlan, deletePlan}
+use Rattle.spec.specs.Turn.{insertStore, replaceStore, diagLower, diagRaise, zigLowerA, zigLowerC, zigRaise, unlinkStore, adoptStore, promoteStore}
+use Rattle.spec.specs.Turn.{movedWrite, publishStore, detachStore, stepFinds, stepMade}
+use Rattle.spec.specs.Calls.{setUp, insert, delete, stored, writerTurn, begin, readerStep, readerTurn, giveUp, turnCount}
+use Rattle.spec.specs.Tally.{tallied}
+use Rattle.table.specs.Entry.{allPass}
+use Rattle.count_table.specs.Counts.{counts}
+use Rattle.count_table.specs.Tallies.{sums, allAdd}
+
+pub counts-pass : allPass counts ≡ true
+unfolding allFrom allIn foldFrom foldIn word setWord nodeInRange poolInRange lengthRight freshNodes freshPool withRoot withQueue withHeld withReader
+    withAwaited withWrite nodeAt setLink putSlot dropSlot readingSlots storeInRange registerInRange freshRegister fresh writeOf lessFirst takeFree
+    fillNode takeNode freeNode retire retireTwo release endReading seek trail leftmost insertFixup fixupAfterInsert paintInsertFixup redSibling
+    deleteFixup fixupAfterRemoval paintDeleteLevels paintDeleteFixup insertPlan unlinkPlan deletePlan insertStore replaceStore diagLower diagRaise
+    zigLowerA zigLowerC zigRaise unlinkStore adoptStore promoteStore movedWrite publishStore detachStore stepFinds stepMade setUp insert delete stored
+    writerTurn begin readerStep readerTurn giveUp turnCount
+counts-pass = refl
+
+pub tallies-add : allAdd sums ≡ true
+unfolding allFrom allIn foldFrom foldIn word setWord nodeInRange poolInRange lengthRight freshNodes freshPool withRoot withQueue withHeld withReader
+    withAwaited withWrite nodeAt setLink putSlot dropSlot readingSlots storeInRange registerInRange freshRegister fresh writeOf lessFirst takeFree
+    fillNode takeNode freeNode retire retireTwo release endReading seek trail leftmost insertFixup fixupAfterInsert paintInsertFixup redSibling
+    deleteFixup fixupAfterRemoval paintDeleteLevels paintDeleteFixup insertPlan unlinkPlan deletePlan insertStore replaceStore diagLower diagRaise
+    zigLowerA zigLowerC zigRaise unlinkStore adoptStore promoteStore movedWrite publishStore detachStore stepFinds stepMade setUp insert delete stored
+    writerTurn begin readerStep readerTurn giveUp turnCount tallied
+tallies-add = refl

@@ -1,0 +1,1 @@
+// No code: the examples of the counts and of the tally stand in specs/.
