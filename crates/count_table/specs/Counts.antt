@@ -8,7 +8,7 @@ use Rattle.datatypes.specs.declared.Reader.{Reader}
 use Rattle.spec.specs.Register.{State}
 use Rattle.spec.specs.Calls.{ok, go, absent, wait, found, next, more, done, refused, Answer}
 use Rattle.table.specs.Picture.{row, _keptBy_, Read, slot_wants_at_, slot_after_at_with_, _past_, Ticket, Stale, _remembering_, root_held_awaited_stores_, picture}
-use Rattle.table.specs.Picture.{rising, Shape, tree, black, redLeaf, nil, left, right, colour, standing, holders, nextFree, Change, _of_:=_, root:=_, first:=_}
+use Rattle.table.specs.Picture.{rising, Shape, tree, black, redLeaf, nil, key, value, left, right, colour, standing, holders, nextFree, Change, _of_:=_, root:=_, first:=_}
 use Rattle.table.specs.Picture.{last:=_, free:=_, held:=_, fills, reader_:=_, reads, idle, seeks, _ofKind_, _counting_, _but_, unset, words}
 use Rattle.table.specs.Entry.{P, I, D, W, B, S, R, E, _⇒_, _⇒_counted_, Line, stands, leaves, Entry, entry}
 use Rattle.table.specs.Lent.{three, single, five, four}
@@ -58,17 +58,17 @@ inSlot s =
     ∷ R s ⇒ next 30 300 counted 3
     ∷ leaves [] ∷ R s ⇒ refused 5 counted 0 ∷ [])
 
--- the records of so many slots from s on, at node 2 with the count 100 times their number
+-- the records of so many slots from s on, at node 2 with the count 100 times their number and 7
 abbrev hundreds : ℕ → ℕ → List Change
 hundreds zero s = []
-hundreds (suc k) s = reader s := (reads 10 2 counting (s * 100)) ∷ hundreds k (s + 1)
+hundreds (suc k) s = reader s := (reads 10 2 counting (s * 100 + 7)) ∷ hundreds k (s + 1)
 
 -- of them slot s makes a turn, and then gives up: the others keep their counts
 abbrev amongAll : ℕ → Entry
 amongAll s =
     entry "count: a turn and a give up of each slot leave the other 31 counts" (three but hundreds 32 0)
-    (R s ⇒ go counted (s * 100 + 1)
-    ∷ leaves (reader s := (reads 10 1 counting (s * 100 + 1)) ∷ [])
+    (R s ⇒ go counted (s * 100 + 8)
+    ∷ leaves (reader s := (reads 10 1 counting (s * 100 + 8)) ∷ [])
     ∷ E s ⇒ ok
     ∷ leaves (reader s := (idle 0 0) ∷ []) ∷ [])
 
@@ -277,6 +277,29 @@ counts =
     ∷ entry "count: 3, with every slot's count" (three but hundreds 32 0)
     (R 32 ⇒ refused 3 counted 0 ∷ R 33 ⇒ refused 3 counted 0 ∷ R 63 ⇒ refused 3 counted 0 ∷ R 64 ⇒ refused 3 counted 0 ∷ R 4294967295 ⇒ refused 3 counted 0
     ∷ B 32 10 ⇒ refused 3 ∷ S 32 10 ⇒ refused 3 ∷ E 32 ⇒ refused 3 ∷ [])
+    -- a damaged node that the slot's record doesn't name
+    ∷ ends "count: found, another node damaged" (three but (left of 8 := 9 ∷ [])) (reads 10 1 counting 5) (found 100) 6
+    ∷ ends "count: absent, another node damaged" (three but (left of 8 := 9 ∷ [])) (reads 15 1 counting 5) absent 6
+    ∷ ends "count: next, another node damaged" (three but (standing of 8 := 3 ∷ [])) (seeks 25 3 counting 5) (next 30 300) 6
+    ∷ ends "count: none, another node damaged" (three but (colour of 2 := 2 ∷ [])) (seeks 35 3 counting 5) absent 6
+    ∷ goes "count: the node that is loaded is damaged" (three but (left of 1 := 9 ∷ [])) (reads 10 2 counting 5) 6 (reads 10 1 counting 6)
+    ∷ goes "count: the root's node is loaded and is damaged" (three but (colour of 2 := 2 ∷ [])) (seeks 10 0 counting 5) 5 (seeks 10 2 counting 5)
+    -- keys and records at the ends of their range
+    ∷ entry "count: keys and records 0 and 4,294,967,295"
+    (three but (key of 1 := 0 ∷ value of 1 := 0 ∷ key of 3 := 4294967295 ∷ value of 3 := 4294967295 ∷ []))
+    (B 0 0 ⇒ ok ∷ R 0 ⇒ go counted 0 ∷ R 0 ⇒ go counted 1
+    ∷ leaves (reader 0 := (reads 0 1 counting 1) ∷ [])
+    ∷ R 0 ⇒ found 0 counted 2 ∷ S 1 0 ⇒ ok ∷ R 1 ⇒ go counted 0 ∷ R 1 ⇒ go counted 1
+    ∷ leaves (reader 1 := (seeks 0 1 remembering Ticket 20 200 counting 1) ∷ [])
+    ∷ R 1 ⇒ next 20 200 counted 2 ∷ B 2 4294967295 ⇒ ok ∷ R 2 ⇒ go counted 0 ∷ R 2 ⇒ go counted 1
+    ∷ leaves (reader 2 := (reads 4294967295 3 counting 1) ∷ [])
+    ∷ R 2 ⇒ found 4294967295 counted 2 ∷ S 3 4294967295 ⇒ ok ∷ R 3 ⇒ go counted 0 ∷ R 3 ⇒ go counted 1
+    ∷ leaves (reader 3 := (seeks 4294967295 3 counting 1) ∷ [])
+    ∷ R 3 ⇒ absent counted 2 ∷ S 4 4294967294 ⇒ ok ∷ R 4 ⇒ go counted 0 ∷ R 4 ⇒ go counted 1 ∷ R 4 ⇒ next 4294967295 4294967295 counted 2
+    ∷ leaves [] ∷ [])
+    ∷ goes "count: at a node with key and record 0" (three but (key of 2 := 0 ∷ value of 2 := 0 ∷ [])) (reads 30 2 counting 5) 6 (reads 30 3 counting 6)
+    ∷ goes "count: at a node with key 0, a search" (three but (key of 2 := 0 ∷ [])) (seeks 0 2 counting 5) 6 (seeks 0 3 counting 6)
+    ∷ goes "count: at a node with the largest key" (three but (key of 2 := 4294967295 ∷ [])) (reads 0 2 counting 5) 6 (reads 0 1 counting 6)
     -- the largest value
     ∷ entry "count: 4,294,967,294 goes to 4,294,967,295 and stays there, in a lookup" (five but (reader 0 := (reads 30 2 counting 4294967294) ∷ []))
     (R 0 ⇒ go counted 4294967295
