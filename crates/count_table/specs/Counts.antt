@@ -2,10 +2,11 @@
 use Prim.Native.Nat.{ℕ, zero, suc, _+_, _*_, _-_}
 use Prim.Native.String.{String}
 use mathlib.Core.List.{List, [], _∷_, _++_}
+use lib.ListN.{replicate}
 use Rattle.datatypes.specs.declared.Link.the-variants.{Root, Left, Right}
 use Rattle.datatypes.specs.declared.Kind.the-variants as kind
 use Rattle.datatypes.specs.declared.Reader.{Reader}
-use Rattle.spec.specs.Register.{State}
+use Rattle.spec.specs.Register.{State, state}
 use Rattle.spec.specs.Calls.{ok, go, absent, wait, found, next, more, done, refused, Answer}
 use Rattle.table.specs.Picture.{row, _keptBy_, Read, slot_wants_at_, slot_after_at_with_, _past_, Ticket, Stale, _remembering_, root_held_awaited_stores_, picture}
 use Rattle.table.specs.Picture.{rising, Shape, tree, black, redLeaf, nil, key, value, left, right, colour, standing, holders, nextFree, Change, _of_:=_, root:=_, first:=_}
@@ -110,7 +111,11 @@ abbrev chain : ℕ → Shape
 chain zero = nil
 chain (suc k) = black nil (chain k)
 
--- h turns more, each one more compared
+-- a pool of N nodes whose words are all 0, with a register at rest
+abbrev zeros : ℕ → State
+zeros N = state (replicate (N * 8) 0) (three .register)
+
+-- so many turns of slot 0, the first with the count h, each with one more
 abbrev goesDown : ℕ → ℕ → List Line
 goesDown zero h = []
 goesDown (suc k) h = R 0 ⇒ go counted h ∷ goesDown k (h + 1)
@@ -337,6 +342,15 @@ counts =
     (B 0 5 ⇒ ok ∷ S 1 5 ⇒ ok ∷ goesDown 20 0
     ++ R 1 ⇒ go counted 0 ∷ R 1 ⇒ go counted 1 ∷ R 1 ⇒ go counted 2 ∷ R 1 ⇒ go counted 3
     ∷ leaves (reader 0 := (reads 5 1 counting 19) ∷ reader 1 := (seeks 5 1 remembering Ticket 20 200 counting 3) ∷ []) ∷ [])
+    ∷ entry "count: sixty-six nodes one below the other" (tree 70 (chain 66))
+    (B 0 660 ⇒ ok ∷ goesDown 66 0
+    ++ leaves (reader 0 := (reads 660 66 counting 65) ∷ [])
+    ∷ R 0 ⇒ found 6600 counted 66
+    ∷ leaves [] ∷ [])
+    ∷ entry "count: nodes 16, 255, 256 and 1,023"
+    (zeros 1023 but (reader 0 := (reads 30 16) ∷ right of 16 := 255 ∷ right of 255 := 256 ∷ right of 256 := 1023 ∷ right of 1023 := 1022 ∷ []))
+    (R 0 ⇒ go counted 1 ∷ R 0 ⇒ go counted 2 ∷ R 0 ⇒ go counted 3 ∷ R 0 ⇒ go counted 4
+    ∷ leaves (reader 0 := (reads 30 1022 counting 4) ∷ []) ∷ [])
     -- any count is in range
     ∷ entry "count: the largest counts are in range, in every call" (three but largestCounts 32 0)
     (R 0 ⇒ refused 5 counted 0 ∷ E 31 ⇒ refused 5 ∷ B 32 10 ⇒ refused 3 ∷ R 32 ⇒ refused 3 counted 0 ∷ W ⇒ refused 7 ∷ D 10 ⇒ ok ∷ W ⇒ done (Left 2) 0
