@@ -73,6 +73,23 @@ amongAll s =
     ∷ E s ⇒ ok
     ∷ leaves (reader s := (idle 0 0) ∷ []) ∷ [])
 
+-- slot s doesn't read but has a count: its turn and its give up are refused, and a begin of either kind starts at 0
+abbrev overCount : ℕ → Entry
+overCount s =
+    entry "count: refusals and a lookup of each slot over a count" (three but (reader s := (idle 77 3 counting (s + 1)) ∷ []))
+    (R s ⇒ refused 5 counted 0 ∷ E s ⇒ refused 5 ∷ B s 10 ⇒ ok
+    ∷ leaves (reader s := (reads 10 0) ∷ [])
+    ∷ R s ⇒ go counted 0 ∷ R s ⇒ go counted 1
+    ∷ leaves (reader s := (reads 10 1 counting 1) ∷ []) ∷ [])
+
+abbrev searchOver : ℕ → Entry
+searchOver s =
+    entry "count: refusals and a search of each slot over a count" (three but (reader s := (idle 0 0 ofKind kind.Next counting (s + 1)) ∷ []))
+    (R s ⇒ refused 5 counted 0 ∷ E s ⇒ refused 5 ∷ S s 15 ⇒ ok
+    ∷ leaves (reader s := (seeks 15 0) ∷ [])
+    ∷ R s ⇒ go counted 0 ∷ R s ⇒ go counted 1
+    ∷ leaves (reader s := (seeks 15 1 remembering Ticket 20 200 counting 1) ∷ []) ∷ [])
+
 -- a count goes on by one, whatever it is
 abbrev lookupGoesOn : ℕ → Entry
 lookupGoesOn h =
@@ -449,6 +466,8 @@ counts =
     -- each slot, and many counts
     ∷ each inSlot 32 0
     ++ each amongAll 32 0
+    ++ each overCount 32 0
+    ++ each searchOver 32 0
     ++ for lookupGoesOn someCounts
     ++ for searchGoesOn someCounts
     ++ for rootGoesOn someCounts
