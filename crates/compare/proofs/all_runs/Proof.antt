@@ -11,7 +11,8 @@ use Rattle.compare.proofs.nodes_of.Reads as nodes-of-reads
 use Rattle.compare.proofs.run_on.Reads as run-on-reads
 
 abbrev Inv-loop : tie.InvT-loop
-Inv-loop pool₀ tree₀ model₀ lengths₀ counts₀ n₀ pool tree model lengths counts n = (length pool ≡ length pool₀) × (length tree ≡ length tree₀) × (length model ≡ length model₀) × (length lengths ≡ length lengths₀) × (length counts ≡ length counts₀)
+Inv-loop pool₀ tree₀ model₀ lengths₀ counts₀ n₀ pool tree model lengths counts n =
+    (length pool ≡ length pool₀) × (length tree ≡ length tree₀) × (length model ≡ length model₀) × (length lengths ≡ length lengths₀) × (length counts ≡ length counts₀)
 
 abbrev μ-loop : tie.MeasureT-loop
 μ-loop pool₀ tree₀ model₀ lengths₀ counts₀ n₀ pool tree model lengths counts n = 8 - n

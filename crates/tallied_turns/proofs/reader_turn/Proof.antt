@@ -153,7 +153,8 @@ module _ {M : Type 1} (𝓤 : URA M) (H : Heap 𝓤) (A : Atoms 𝓤) (W : Given
   goes-turn : ent 𝓤 (sep 𝓤 (A .lft κ q) (sem 𝓤 H A (MutSlice (named 0) κ u32 .own x (s ∷ [])))) (Turn 𝓤 H A at-mem run .pre to-turn)
   goes-turn =
       qed W (‵ (flft κ q) ∷ ‵ (MutSlice (named 0) κ u32 .own x (s ∷ [])) ∷ []) ∵ nothing ! $ owned ! u32 (Is u32) (uint-makes 𝓤 H A W w32) n _ (refl, fits) $ fjoin ! $
-      owned ! G.the-row (Is G.the-row) ((LL.makes G.the-type G′.the-plain) 𝓤 H A) m _ m-is $ fjoin ! $ move ! (2 ∷ 0 ∷ []) $ fjoin ! $ nothing ! $ move ! (2 ∷ 0 ∷ []) $ join ! $ join ! $ frame ! $ done !
+      owned ! G.the-row (Is G.the-row) ((LL.makes G.the-type G′.the-plain) 𝓤 H A) m _ m-is $ fjoin ! $ move ! (2 ∷ 0 ∷ []) $ fjoin ! $ nothing ! $ move ! (2 ∷ 0 ∷ []) $ join ! $
+      join ! $ frame ! $ done !
 
   abbrev to-count : ReaderReply → Count 𝓤 H A at-mem run .Ghost
   to-count y = ((tt, tt, tt, (h, (y .answer, (y .compared, tt))), (mach ∷ [], (answer-val y ∷ [], (vint w32 (y .compared) ∷ [], tt)))), tt)
@@ -195,7 +196,13 @@ module _ {M : Type 1} (𝓤 : URA M) (H : Heap 𝓤) (A : Atoms 𝓤) (W : Given
   exits y zs r e₁ e₂ e₃ e₄ l =
       qed W (‵ (fobs γ′ (T.the-row .coded .code r)) ∷ ‵ (fbor κ′ (Body (mem T.the-row) b′ o′ γ′)) ∷ ‵ (flft κ′ q′) ∷ ‵ (Y.the-row .own y (reply-val y ∷ []))
       ∷ (‵ (flft κ q) ⊛ ‵ ftrue) ∷ ‵ (finally u32 γ zs) ∷ []) ∵
-      suffices ! _ (ends-at 𝓤 H A f.ended stayed (f.clauses 𝓤 H A at-mem run) W (((κ, (κ′, tt)), (q, (q′, tt)), bounds, a, at), tt) (reply-val y) y (zs, (tt, (tt, (r, tt)))) (l, (tt, (tt, (tt, tt))))) $
+      suffices ! _ (ends-at 𝓤 H A f.ended stayed (f.clauses 𝓤 H A at-mem run) W (((κ, (κ′, tt)), (q, (q′, tt)), bounds, a, at), tt) (reply-val y) y (zs, (tt, (tt, (r, tt)))) (
+        l,
+        (
+          tt,
+          (tt, (tt, tt)),
+        ),
+      )) $
       says-all ! (both 𝓤 (factI 𝓤 (Answers y) (emp 𝓤) e₁) (both 𝓤 (factI 𝓤 (Leaves y zs) (emp 𝓤) e₂) (both 𝓤 (factI 𝓤 (Counts y) (emp 𝓤) e₃) (factI 𝓤 (Tallies r) (emp 𝓤) e₄)))) $
       move ! (4 ∷ []) $ split ! $ move ! (4 ∷ 1 ∷ []) $ join ! $ move ! (1 ∷ 0 ∷ []) $ join ! $ frame ! $
       feqI ! (List Val) (vptr b′ o′ ∷ []) (vptr b′ o′ ∷ []) refl $ fjoin3 ! $ nothing ! $ move ! (1 ∷ 0 ∷ []) $ fjoin ! $
@@ -207,27 +214,32 @@ module _ {M : Type 1} (𝓤 : URA M) (H : Heap 𝓤) (A : Atoms 𝓤) (W : Given
     walk room =
         qed W ((‵ (flft κ q) ⊛ ‵ (flft κ′ q′) ⊛ ‵ ftrue) ∷ ‵ (owns (MutSlice (named 0) κ u32 ∷ G.the-row ∷ u32 ∷ MutRef (named 1) κ′ T.the-row ∷ []) a at) ∷ []) ∵
         enter ! C Λ code.function (s ∷ g ∷ vint w32 n ∷ vptr b′ o′ ∷ []) _ $
-        alloc1 ! (λ l₀. alloc1 ! (λ l₁. alloc1 ! (λ l₂. alloc1 ! (λ l₃. alloc1 ! (λ l₄. alloc1 ! (λ l₅. alloc1 ! (λ l₆. alloc1 ! (λ l₇. alloc1 ! (λ l₈. alloc1 ! (λ l₉. alloc1 ! (λ l₁₀. alloc0 ! $ params1 ! $
+        alloc1 ! (λ l₀. alloc1 ! (λ l₁. alloc1 ! (λ l₂. alloc1 ! (λ l₃. alloc1 ! (λ l₄. alloc1 ! (λ l₅. alloc1 ! (λ l₆. alloc1 ! (λ l₇. alloc1 ! (λ l₈. alloc1 ! (λ l₉. alloc1 !
+        (λ l₁₀. alloc0 ! $ params1 ! $
         pass1 ! (init ! 18 refl (tt, (tt, (record { fits = room .0 }, tt)))) $ pass1 ! (init ! 16 refl (LL.lawful G.the-type G′.the-laws 𝓤 H A W .typed m _ m-is .0)) $
         pass1 ! (init ! 14 refl (tt, record { fits = fits })) $ pass1 ! (init ! 12 refl (tt, tt)) $ pass0 ! $
         -- [_10; …; _9; …; _8; …; _7; …; _6; …; _5; …; _4; …; _3; …; _2; …; _1; …; room for _0; …; the tokens; what the parameters own]
         assigns ! (addr ! (from ! (fld ! refl (hop ! (look-in ! 18 (sub ! 0 refl (whole !))) (stop !))))) (from ! (stop !)) (init ! 6 refl (tt, tt)) $
-        assigns ! (agg ! (and-then ! (load ! (from ! (stop !)) (look ! 6 refl)) (and-then ! (load ! (from ! (fld ! refl (stop !))) (look-in ! 18 (sub ! 1 refl (whole !)))) (no-more !)))) (from ! (stop !))
+        assigns ! (agg ! (and-then ! (load ! (from ! (stop !)) (look ! 6 refl)) (and-then ! (load ! (from ! (fld ! refl (stop !))) (look-in ! 18 (sub ! 1 refl (whole !))))
+        (no-more !)))) (from ! (stop !))
         (init ! 4 refl (tt, (tt, (record { fits = room .0 }, tt)))) $
         move ! (23 ∷ []) $ fsplit ! $ move ! (24 ∷ 0 ∷ []) $ split ! $ move ! (0 ∷ 2 ∷ []) $ use2 W (raw (Turn 𝓤 H A at-mem run .pre to-turn)) goes-turn $
         -- [what the turn asks; the other token; what the other parameters own; _10; …]
         calls-at ! fm (Turn 𝓤 H A at-mem run) known-turn to-turn
         (and-then ! (load ! (from ! (stop !)) (look ! 7 refl)) (and-then ! (load ! (from ! (stop !)) (look ! 19 refl)) (and-then ! (load ! (from ! (stop !)) (look ! 17 refl)) (no-more !)))) (λ w.
-        use1 W (later (some (λ (y : ReaderReply). ((‵ (flft κ q) ⊛ ‵ ftrue) ⊛ ‵ (Y.the-row .own y (w ∷ []))) ⊛ raw (ensured 𝓤 H A turn.ended (turn.clauses 𝓤 H A at-mem run) (κ, tt) (x, (m, (n, tt))) tt y)))) (id⊢ 𝓤 _) $ await ! tt $ pick ! (λ y.
+        use1 W (later (some (λ (y : ReaderReply). ((‵ (flft κ q) ⊛ ‵ ftrue) ⊛ ‵ (Y.the-row .own y (w ∷ []))) ⊛ raw (ensured 𝓤 H A turn.ended (turn.clauses 𝓤 H A at-mem run) (κ, tt)
+        (x, (m, (n, tt))) tt y)))) (id⊢ 𝓤 _) $ await ! tt $ pick ! (λ y.
         split ! $ move ! (1 ∷ []) $
-        use1 W (some (λ (zs : List ℕ × (Unit {0} × (Unit {0} × Unit {0}))). ‵ (lasts turn.ended (κ, tt) (x, (m, (n, tt))) zs) ⊛ (raw (fact 𝓤 (Answers y)) ⊛ (raw (fact 𝓤 (Leaves y (zs .0))) ⊛ raw (fact 𝓤 (Counts y)))))) (id⊢ 𝓤 _) $ pick ! (λ zs.
+        use1 W (some (λ (zs : List ℕ × (Unit {0} × (Unit {0} × Unit {0}))). ‵ (lasts turn.ended (κ, tt) (x, (m, (n, tt))) zs) ⊛ (raw (fact 𝓤 (Answers y)) ⊛ (raw (fact 𝓤 (Leaves y
+        (zs .0))) ⊛ raw (fact 𝓤 (Counts y)))))) (id⊢ 𝓤 _) $ pick ! (λ zs.
         split ! $ move ! (1 ∷ []) $ split ! $ heard ! (Answers y) (λ e₁. split ! $ heard ! (Leaves y (zs .0)) (λ e₂. heard ! (Counts y) (λ e₃. fsplit ! $ fsplit ! $ move ! (1 ∷ []) $ feqL ! (λ l.
         move ! (2 ∷ []) $ split ! $ move ! (1 ∷ []) $ peeks ! Y.the-row (Is Y.the-row) (shows 𝓤 H A Y.the-row) y (w ∷ []) (λ y-is.
         -- [what the reply owns; the token; the last list; …; the other token; what the other parameters own; _10; …]; the reply's machine value is written out
         land ! (from ! (stop !)) (init ! 16 refl (LL.lawful Y.the-type Y′.the-laws 𝓤 H A W .typed y _ y-is .0)) $
         rewrite ! 16 (λ (us : List Val). ‵ (fat fullShare reply-type l₅ 0 (only us))) (LL.tells Y.the-type Y′.the-laws y (w ∷ []) y-is) refl $
         rewrite ! 0 (λ (us : List Val). ‵ (Y.the-row .own y us)) (LL.tells Y.the-type Y′.the-laws y (w ∷ []) y-is) refl $
-        assigns ! (of-opd ! (load ! (from ! (fld ! refl (stop !))) (look-in ! 16 (sub ! 0 refl (whole !))))) (from ! (stop !)) (init ! 14 refl (EL.lawful N.the-type N′.the-laws 𝓤 H A W tt .typed (y .answer) _ (answer-is y y-is) .0)) $
+        assigns ! (of-opd ! (load ! (from ! (fld ! refl (stop !))) (look-in ! 16 (sub ! 0 refl (whole !))))) (from ! (stop !)) (init ! 14 refl
+        (EL.lawful N.the-type N′.the-laws 𝓤 H A W tt .typed (y .answer) _ (answer-is y y-is) .0)) $
         move ! (5 ∷ []) $ fsplit ! $ drop ! $ fsplit ! $ drop ! $ fsplit ! $ fsplit3 ! $ drop ! $ move ! (7 ∷ []) $ split ! $ move ! (2 ∷ 3 ∷ 0 ∷ []) $
         opens ! tt T.the-row {h = h} b′ o′ (λ vs. spelt ! T.the-row (Is T.the-row) (shows 𝓤 H A T.the-row) (LL.vals T.the-type T′.the-laws) (LL.tells T.the-type T′.the-laws) fullShare h vs b′ o′ $
         move ! (1 ∷ []) $ peeks ! T.the-row (Is T.the-row) (shows 𝓤 H A T.the-row) h (LL.vals T.the-type T′.the-laws h) (λ t-is. move ! (1 ∷ 0 ∷ []) $
@@ -235,8 +247,15 @@ module _ {M : Type 1} (𝓤 : URA M) (H : Heap 𝓤) (A : Atoms 𝓤) (W : Given
         assigns ! (of-opd ! (load ! (from ! (hop ! (look ! 23 refl) (stop !))) (look-raw ! 0 refl))) (from ! (stop !)) (init ! 11 refl (LL.lawful T.the-type T′.the-laws 𝓤 H A W .typed h _ t-is .0)) $
         nothing ! $ use1 W (raw (Count 𝓤 H A at-mem run .pre (to-count y))) (goes-count y t-is (answer-is y y-is) (count-fits y y-is)) $
         calls-at ! fm (Count 𝓤 H A at-mem run) known-count (to-count y)
-        (and-then ! (load ! (from ! (stop !)) (look ! 12 refl)) (and-then ! (load ! (from ! (stop !)) (look ! 20 refl)) (and-then ! (load ! (from ! (fld ! refl (stop !))) (look-in ! 22 (sub ! 2 refl (whole !)))) (no-more !)))) (λ v.
-        use1 W (later (some (λ (r : Tally). (‵ ftrue ⊛ ‵ (T.the-row .own r (v ∷ []))) ⊛ raw (ensured 𝓤 H A tally.ended (tally.clauses 𝓤 H A at-mem run) tt (h, (y .answer, (y .compared, tt))) tt r)))) (id⊢ 𝓤 _) $ await ! tt $ pick ! (λ r.
+        (and-then ! (load ! (from ! (stop !)) (look ! 12 refl)) (and-then ! (load ! (from ! (stop !)) (look ! 20 refl)) (and-then ! (load ! (from ! (fld ! refl (stop !)))
+        (look-in ! 22 (sub ! 2 refl (whole !)))) (no-more !)))) (λ v.
+        use1 W (later (some (λ (r : Tally). (‵ ftrue ⊛ ‵ (T.the-row .own r (v ∷ []))) ⊛ raw (ensured 𝓤 H A tally.ended (tally.clauses 𝓤 H A at-mem run) tt (
+          h,
+          (
+            y .answer,
+            (y .compared, tt),
+          ),
+        ) tt r)))) (id⊢ 𝓤 _) $ await ! tt $ pick ! (λ r.
         split ! $ move ! (1 ∷ []) $ use1 W (raw (fact 𝓤 (r ≡ tallied h (readerSays (y .answer)) (y .compared)))) (count-of 𝓤 H A at-mem run h (y .answer) (y .compared) r) $
         heard ! (r ≡ tallied h (readerSays (y .answer)) (y .compared)) (λ e₄. split ! $ drop ! $
         peeks ! T.the-row (Is T.the-row) (shows 𝓤 H A T.the-row) r (v ∷ []) (λ is.
@@ -245,10 +264,13 @@ module _ {M : Type 1} (𝓤 : URA M) (H : Heap 𝓤) (A : Atoms 𝓤) (W : Given
         assigns ! (of-opd ! (load ! (from ! (stop !)) (look ! 14 refl))) (from ! (hop ! (look ! 24 refl) (stop !))) (store-raw ! 1 refl (LL.lawful T.the-type T′.the-laws 𝓤 H A W .typed r _ is .0)) $
         assigns ! (of-opd ! (load ! (from ! (stop !)) (look ! 22 refl))) (from ! (stop !)) (init ! 32 refl (LL.lawful Y.the-type Y′.the-laws 𝓤 H A W .typed y _ (reply-is y (w ∷ []) y-is) .0)) $
         move ! (2 ∷ []) $ drop ! $ move ! (1 ∷ 0 ∷ []) $ closes ! tt T.the-row r (v ∷ []) b′ o′ $
-        returns ! (look ! 29 refl) $ forget ! 9 refl $ forget ! 11 refl $ forget ! 13 refl $ forget ! 15 refl $ forget ! 17 refl $ forget ! 19 refl $ forget ! 21 refl $ forget ! 23 refl $ forget ! 25 refl $ forget ! 27 refl $ forget ! 29 refl $
-        move ! (29 ∷ 30 ∷ []) $ free1 ! $ move ! (27 ∷ 28 ∷ []) $ free1 ! $ move ! (25 ∷ 26 ∷ []) $ free1 ! $ move ! (23 ∷ 24 ∷ []) $ free1 ! $ move ! (21 ∷ 22 ∷ []) $ free1 ! $ move ! (19 ∷ 20 ∷ []) $ free1 ! $
+        returns ! (look ! 29 refl) $ forget ! 9 refl $ forget ! 11 refl $ forget ! 13 refl $ forget ! 15 refl $ forget ! 17 refl $ forget ! 19 refl $ forget ! 21 refl $
+        forget ! 23 refl $ forget ! 25 refl $ forget ! 27 refl $ forget ! 29 refl $
+        move ! (29 ∷ 30 ∷ []) $ free1 ! $ move ! (27 ∷ 28 ∷ []) $ free1 ! $ move ! (25 ∷ 26 ∷ []) $ free1 ! $ move ! (23 ∷ 24 ∷ []) $ free1 ! $ move ! (21 ∷ 22 ∷ []) $ free1 ! $
+        move ! (19 ∷ 20 ∷ []) $ free1 ! $
         move ! (17 ∷ 18 ∷ []) $ free1 ! $ move ! (15 ∷ 16 ∷ []) $ free1 ! $ move ! (13 ∷ 14 ∷ []) $ free1 ! $ move ! (11 ∷ 12 ∷ []) $ free1 ! $ move ! (9 ∷ 10 ∷ []) $ free1 ! $ free0 ! $
-        keep ! (0 ∷ 1 ∷ 2 ∷ 5 ∷ 6 ∷ 7 ∷ []) $ by ! (exits y (zs .0) r e₁ e₂ e₃ (e₄ ∙ ap (λ z. tallied h z (y .compared)) e₁ ∙ ap (tallied h (readerTurn (state ys m) n .answer)) e₃) l))))))))))))))))))))))))))
+        keep ! (0 ∷ 1 ∷ 2 ∷ 5 ∷ 6 ∷ 7 ∷ []) $
+        by ! (exits y (zs .0) r e₁ e₂ e₃ (e₄ ∙ ap (λ z. tallied h z (y .compared)) e₁ ∙ ap (tallied h (readerTurn (state ys m) n .answer)) e₃) l))))))))))))))))))))))))))
 
 module _ {M : Type 1} (𝓤 : URA M) (H : Heap 𝓤) (A : Atoms 𝓤) (W : Given 𝓤 H A) (at-mem : Memory → SProp 𝓤) (run : Routine → Fun 𝓤) where
   lent-walks : (C : Calls 𝓤 H) (Λ : Loops 𝓤 H) → FmC 𝓤 H (W .laws) C → Triple 𝓤 (C #turn) (Turn 𝓤 H A at-mem run) → Triple 𝓤 (C #tally) (Count 𝓤 H A at-mem run)
@@ -256,7 +278,8 @@ module _ {M : Type 1} (𝓤 : URA M) (H : Heap 𝓤) (A : Atoms 𝓤) (W : Given
   lent-walks C Λ fm known-turn known-count = walked 𝓤 H A f.ended stayed (f.clauses 𝓤 H A at-mem run) (WpFn 𝓤 H C Λ code.function)
       (λ κs. (slice-vals, (LL.vals G.the-type G′.the-laws, (uint-vals w32, (ptr-vals, tt)))))
       (λ κs. (mut-slice-tells (named 0) (κs .0) u32, (LL.tells G.the-type G′.the-laws, (uint-tells w32, (mut-tells (named 1) (κs .1 .0) T.the-row, tt)))))
-      (λ κs qs bounds a g are. via 𝓤 _ (fst∗ 𝓤 _ (emp 𝓤)) (walk 𝓤 H A W at-mem run (κs .0) (κs .1 .0) bounds (qs .0) (qs .1 .0) (a .0 .ptr .0) (a .0 .ptr .1) (a .0 .name) (a .0 .now) (a .1 .0) (a .1 .1 .0)
+      (λ κs qs bounds a g are. via 𝓤 _ (fst∗ 𝓤 _ (emp 𝓤)) (walk 𝓤 H A W at-mem run (κs .0) (κs .1 .0) bounds (qs .0) (qs .1 .0) (a .0 .ptr .0) (a .0 .ptr .1) (a .0 .name) (a .0 .now)
+      (a .1 .0) (a .1 .1 .0)
       (a .1 .1 .1 .0 .ptr .0) (a .1 .1 .1 .0 .ptr .1) (a .1 .1 .1 .0 .name) (a .1 .1 .1 .0 .now) (are .1 .0) (are .1 .1 .0 .1) C Λ fm known-turn known-count (are .0 .0 .1)))
 
   goes : AllGo 𝓤 H A W 2 (f.signature .params) (f.ended .kept) stayed
