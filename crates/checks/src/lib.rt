@@ -4,5 +4,5 @@ pub mod draws;
 pub mod lengths;
 pub mod model;
 pub mod print;
-pub mod tally;
+pub mod rows;
 pub mod walk;

@@ -1,7 +1,7 @@
 // The counts, a line each.
 use crate::draws;
 use crate::lengths;
-use crate::tally;
+use crate::rows;
 ghost use Prim.Native.Nat.{_<_};
 ghost use Rattle.spec.specs.Numbers.{slots};
 
@@ -50,11 +50,11 @@ pub fn run(nodes: u32, calls: u64, most: u32, lengths: &[u32]) {
 
 // how many calls of a kind were made
 fn made(counts: &[u64], kind: u32) -> u64 {
-    tally::get(counts, tally::CALLS + kind as usize)
+    rows::get(counts, rows::CALLS + kind as usize)
 }
 
 fn calls(counts: &[u64]) {
-    line(b"set up", tally::get(counts, tally::CALLS));
+    line(b"set up", rows::get(counts, rows::CALLS));
     line(b"insert", made(counts, draws::INSERT));
     line(b"delete", made(counts, draws::DELETE));
     line(b"writer's turn", made(counts, draws::WRITER_TURN));
@@ -72,7 +72,7 @@ fn refusals(counts: &[u64]) {
     while n < 13 {
         io::write_all(1, b"refused by ");
         io::print_decimal(1, n as u64);
-        line(b"", tally::get(counts, tally::REFUSALS + n));
+        line(b"", rows::get(counts, rows::REFUSALS + n));
         n += 1;
     }
 }
@@ -80,95 +80,92 @@ fn refusals(counts: &[u64]) {
 fn inserts(counts: &[u64]) {
     line(
         b"inserts of a new key accepted",
-        tally::get(counts, tally::ACCEPTED + 1),
+        rows::get(counts, rows::ACCEPTED + 1),
     );
     line(
         b"inserts of a new key finished",
-        tally::get(counts, tally::FINISHED + 1),
+        rows::get(counts, rows::FINISHED + 1),
     );
     line(
         b"inserts of a held key accepted",
-        tally::get(counts, tally::ACCEPTED + 3),
+        rows::get(counts, rows::ACCEPTED + 3),
     );
     line(
         b"inserts of a held key finished",
-        tally::get(counts, tally::FINISHED + 3),
+        rows::get(counts, rows::FINISHED + 3),
     );
     line(
         b"inserts of a held key accepted in a full index",
-        tally::get(counts, tally::REPLACED_FULL),
+        rows::get(counts, rows::REPLACED_FULL),
     );
     line(
         b"inserts of a held key accepted with the record that it has",
-        tally::get(counts, tally::REPLACED_SAME),
+        rows::get(counts, rows::REPLACED_SAME),
     );
     line(
         b"inserts of a held key refused by 11",
-        tally::get(counts, tally::REPLACED_FEW),
+        rows::get(counts, rows::REPLACED_FEW),
     );
 }
 
 fn deletes(counts: &[u64]) {
-    line(b"deletes accepted", tally::get(counts, tally::ACCEPTED + 2));
-    line(b"deletes finished", tally::get(counts, tally::FINISHED + 2));
+    line(b"deletes accepted", rows::get(counts, rows::ACCEPTED + 2));
+    line(b"deletes finished", rows::get(counts, rows::FINISHED + 2));
     line(
         b"deletes of a node with at most one child",
-        tally::get(counts, tally::FORMS + 1),
+        rows::get(counts, rows::FORMS + 1),
     );
     line(
         b"deletes of a node whose right child has no left child",
-        tally::get(counts, tally::FORMS + 2),
+        rows::get(counts, rows::FORMS + 2),
     );
     line(
         b"deletes of the other form",
-        tally::get(counts, tally::FORMS + 3),
+        rows::get(counts, rows::FORMS + 3),
     );
 }
 
 fn turns(counts: &[u64]) {
-    line(b"more", tally::get(counts, tally::MORE));
-    line(b"done", tally::get(counts, tally::DONE));
-    line(b"wait", tally::get(counts, tally::WAIT));
+    line(b"more", rows::get(counts, rows::MORE));
+    line(b"done", rows::get(counts, rows::DONE));
+    line(b"wait", rows::get(counts, rows::WAIT));
 }
 
 fn readers(counts: &[u64]) {
-    line(b"lookups begun", tally::get(counts, tally::BEGUN));
-    line(b"go", tally::get(counts, tally::GO));
-    line(b"found", tally::get(counts, tally::FOUND));
-    line(b"absent", tally::get(counts, tally::ABSENT));
+    line(b"lookups begun", rows::get(counts, rows::BEGUN));
+    line(b"go", rows::get(counts, rows::GO));
+    line(b"found", rows::get(counts, rows::FOUND));
+    line(b"absent", rows::get(counts, rows::ABSENT));
     line(
         b"answers that held at an earlier moment than the last",
-        tally::get(counts, tally::OLDER),
+        rows::get(counts, rows::OLDER),
     );
     line(
         b"found with a record that its key no longer has",
-        tally::get(counts, tally::FOUND_OUTDATED),
+        rows::get(counts, rows::FOUND_OUTDATED),
     );
-    line(b"given up", tally::get(counts, tally::GIVEN_UP));
+    line(b"given up", rows::get(counts, rows::GIVEN_UP));
 }
 
 fn next_searches(counts: &[u64]) {
     line(
         b"searches for the next ticket begun",
-        tally::get(counts, tally::NEXT_BEGUN),
+        rows::get(counts, rows::NEXT_BEGUN),
     );
-    line(b"next", tally::get(counts, tally::NEXT));
-    line(b"none", tally::get(counts, tally::NONE));
+    line(b"next", rows::get(counts, rows::NEXT));
+    line(b"none", rows::get(counts, rows::NONE));
     line(
         b"answers that are no longer the next ticket at the last moment",
-        tally::get(counts, tally::NEXT_OLDER),
+        rows::get(counts, rows::NEXT_OLDER),
     );
     line(
         b"next with a record that its key no longer has",
-        tally::get(counts, tally::NEXT_OUTDATED),
+        rows::get(counts, rows::NEXT_OUTDATED),
     );
-    line(
-        b"searches given up",
-        tally::get(counts, tally::NEXT_GIVEN_UP),
-    );
+    line(b"searches given up", rows::get(counts, rows::NEXT_GIVEN_UP));
 }
 
-// Prints so many counts in a line, from a row on; both numbers are below tally::ROWS.
+// Prints so many counts in a line, from a row on; both numbers are below rows::ROWS.
 fn row(label: &[u8], counts: &[u64], first: usize, many: usize)
     requires { ⌜ (first < 192) × (many < 192) ⌝ }
 {
@@ -176,7 +173,7 @@ fn row(label: &[u8], counts: &[u64], first: usize, many: usize)
     let mut i: usize = 0;
     while i < many {
         io::write_all(1, b"\t");
-        io::print_decimal(1, tally::get(counts, first + i));
+        io::print_decimal(1, rows::get(counts, first + i));
         i += 1;
     }
     io::write_all(1, b"\n");
@@ -186,36 +183,36 @@ fn slots(counts: &[u64]) {
     row(
         b"begun in slots 0 to 31",
         counts,
-        tally::SLOT_BEGUN,
+        rows::SLOT_BEGUN,
         numbers::SLOTS,
     );
     row(
         b"calls with slots 0 to 31 awaited",
         counts,
-        tally::SLOT_AWAITED,
+        rows::SLOT_AWAITED,
         numbers::SLOTS,
     );
     line(
         b"calls with every slot awaited",
-        tally::get(counts, tally::ALL_AWAITED),
+        rows::get(counts, rows::ALL_AWAITED),
     );
 }
 
 fn steps(counts: &[u64]) {
-    line(b"store insert", tally::get(counts, tally::STEPS));
-    line(b"store replace", tally::get(counts, tally::STEPS + 1));
-    line(b"store unlink", tally::get(counts, tally::STEPS + 2));
-    line(b"store adopt", tally::get(counts, tally::STEPS + 3));
-    line(b"store promote", tally::get(counts, tally::STEPS + 4));
-    line(b"store publish", tally::get(counts, tally::STEPS + 5));
-    line(b"store detach", tally::get(counts, tally::STEPS + 6));
+    line(b"store insert", rows::get(counts, rows::STEPS));
+    line(b"store replace", rows::get(counts, rows::STEPS + 1));
+    line(b"store unlink", rows::get(counts, rows::STEPS + 2));
+    line(b"store adopt", rows::get(counts, rows::STEPS + 3));
+    line(b"store promote", rows::get(counts, rows::STEPS + 4));
+    line(b"store publish", rows::get(counts, rows::STEPS + 5));
+    line(b"store detach", rows::get(counts, rows::STEPS + 6));
 }
 
 // Prints the counts of a rotation's step, by purpose (insert, red sibling, black sibling) and side.
 fn rotation(label: &[u8], counts: &[u64], step: usize)
     requires { ⌜ step < 5 ⌝ }
 {
-    row(label, counts, tally::ROTATIONS + step * 6, 6);
+    row(label, counts, rows::ROTATIONS + step * 6, 6);
 }
 
 fn rotations(counts: &[u64]) {
@@ -231,37 +228,37 @@ fn rotations(counts: &[u64]) {
 }
 
 fn comparisons(counts: &[u64]) {
-    line(b"answers compared", tally::get(counts, tally::ANSWERS));
+    line(b"answers compared", rows::get(counts, rows::ANSWERS));
     line(
         b"lookups compared with their moments",
-        tally::get(counts, tally::LOOKUPS),
+        rows::get(counts, rows::LOOKUPS),
     );
     line(
         b"searches compared with their moments",
-        tally::get(counts, tally::NEXT_SEARCHES),
+        rows::get(counts, rows::NEXT_SEARCHES),
     );
     line(
         b"trees and standings compared",
-        tally::get(counts, tally::TREES),
+        rows::get(counts, rows::TREES),
     );
-    line(b"nodes compared", tally::get(counts, tally::NODES));
+    line(b"nodes compared", rows::get(counts, rows::NODES));
     line(
         b"keys held, free count and awaited slots compared",
-        tally::get(counts, tally::STATES),
+        rows::get(counts, rows::STATES),
     );
     line(
         b"counts of nodes compared, and no node twice",
-        tally::get(counts, tally::COUNTS),
+        rows::get(counts, rows::COUNTS),
     );
     line(
         b"counts bounded with no write in hand since the begin",
-        tally::get(counts, tally::QUIET_COUNTS),
+        rows::get(counts, rows::QUIET_COUNTS),
     );
     line(
         b"tallies of cameras compared",
-        tally::get(counts, tally::TALLIES),
+        rows::get(counts, rows::TALLIES),
     );
-    line(b"differences", tally::get(counts, tally::DIFFERENCES));
+    line(b"differences", rows::get(counts, rows::DIFFERENCES));
 }
 
 // Prints every count.

@@ -12,7 +12,7 @@ use checks::draws::Call;
 use checks::lengths;
 use checks::model;
 use checks::print;
-use checks::tally;
+use checks::rows;
 use checks::walk;
 use datatypes::Register;
 use datatypes::Tally;
@@ -90,7 +90,7 @@ fn copy_taken(before: u32, after: u32, reading: bool) -> bool {
 fn compare_copy(model: &[u32], counts: &mut [u64], said: Said) {
     if (said.number == calls::DONE) & (said.row == writing::REPLACE_ROW) {
         let reading = model::reading_slots(model) != 0;
-        tally::same(counts, copy_taken(said.free_before, said.free, reading));
+        rows::same(counts, copy_taken(said.free_before, said.free, reading));
     }
 }
 
@@ -133,17 +133,17 @@ fn compare_state(pool: &[u32], model: &mut [u32], counts: &mut [u64], said: Said
     let held = said.held == model::held(model);
     let free = said.free == walk::free_nodes(pool);
     let awaited = said.awaited == model::awaited(model);
-    tally::same(counts, room & held & free & awaited);
-    tally::one(counts, tally::STATES);
-    tally::awaited(counts, said.awaited);
+    rows::same(counts, room & held & free & awaited);
+    rows::one(counts, rows::STATES);
+    rows::awaited(counts, said.awaited);
 }
 
 // the count of an answer: with no write in hand since the begin it is bounded by the keys held
 fn compare_answered(lengths: &mut [u32], counts: &mut [u64], s: u32, held: u32) {
     let bounded = lengths::bounded(lengths, s, held);
     if lengths::answer(lengths, s) {
-        tally::same(counts, bounded);
-        tally::one(counts, tally::QUIET_COUNTS);
+        rows::same(counts, bounded);
+        rows::one(counts, rows::QUIET_COUNTS);
     }
 }
 
@@ -152,9 +152,9 @@ fn compare_count(lengths: &mut [u32], counts: &mut [u64], s: u32, said: Said) {
     let once = lengths::turn(lengths, s, said.node);
     let n = lengths::count(lengths, s);
     let goes = said.number == calls::GO;
-    tally::same(counts, once & (said.compared == n));
-    tally::same(counts, said.counted == if goes { n } else { 0 });
-    tally::one(counts, tally::COUNTS);
+    rows::same(counts, once & (said.compared == n));
+    rows::same(counts, said.counted == if goes { n } else { 0 });
+    rows::one(counts, rows::COUNTS);
     if !goes {
         compare_answered(lengths, counts, s, said.held);
     }
@@ -166,24 +166,24 @@ fn compare_reply(lengths: &mut [u32], counts: &mut [u64], s: u32, said: Said) {
         compare_count(lengths, counts, s, said);
         return;
     }
-    tally::same(counts, said.compared == 0);
+    rows::same(counts, said.compared == 0);
 }
 
 fn compare_turn(lengths: &mut [u32], counts: &mut [u64], s: u32, said: Said) {
     compare_reply(lengths, counts, s, said);
     let t = said.tally;
     let camera = lengths::camera_of(s);
-    tally::same(
+    rows::same(
         counts,
         lengths::tally_is(lengths, camera, t.answered, t.compared, t.longest),
     );
-    tally::one(counts, tally::TALLIES);
+    rows::one(counts, rows::TALLIES);
 }
 
 // a begin and a give up leave the count 0
 fn compare_ended(lengths: &mut [u32], counts: &mut [u64], call: Call, said: Said) {
     if said.number == calls::ACCEPTED {
-        tally::same(counts, said.counted == 0);
+        rows::same(counts, said.counted == 0);
         if call.kind != draws::GIVE_UP {
             lengths::begin(lengths, call.slot, call.kind == draws::BEGIN_NEXT);
         }
@@ -217,7 +217,7 @@ fn compare(
     said: Said,
 ) -> u32 {
     compare_answer(pool, tree, model, counts, call, said);
-    tally::one(counts, call.kind as usize);
+    rows::one(counts, call.kind as usize);
     compare_state(pool, model, counts, said);
     let in_hand = model::kind_in_hand(model) != model::NONE;
     compare_lengths(lengths, counts, call, said, in_hand);
@@ -275,7 +275,7 @@ fn run(
     model::clear(model);
     model::clear(lengths);
     let most = make_calls(pool, tree, model, lengths, counts, calls, seed);
-    tally::same(counts, reference::overruns(tree) == 0);
+    rows::same(counts, reference::overruns(tree) == 0);
     print::run(walk::nodes(pool), calls, most, lengths);
 }
 
@@ -350,7 +350,7 @@ fn main() {
     let mut tree = [0u32; reference::WORDS];
     let mut model = [0u32; model::WORDS];
     let mut lengths = [0u32; lengths::WORDS];
-    let mut counts = [0u64; tally::ROWS];
+    let mut counts = [0u64; rows::ROWS];
     all_runs(&mut pool, &mut tree, &mut model, &mut lengths, &mut counts);
     print::all(&counts);
 }

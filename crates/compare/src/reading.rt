@@ -3,7 +3,7 @@ use crate::calls;
 use crate::writing;
 use checks::draws::Call;
 use checks::model;
-use checks::tally;
+use checks::rows;
 
 // document 02, C-15: slots are 0 to 31
 const LAST_SLOT: u32 = 31;
@@ -35,8 +35,8 @@ pub fn begin(model: &mut [u32], counts: &mut [u64], call: Call, number: u32) {
     writing::answered(counts, number, foretold);
     if foretold == calls::ACCEPTED {
         model::begin_lookup(model, call.slot, call.ticket);
-        tally::one(counts, tally::BEGUN);
-        tally::one(counts, tally::SLOT_BEGUN + call.slot as usize);
+        rows::one(counts, rows::BEGUN);
+        rows::one(counts, rows::SLOT_BEGUN + call.slot as usize);
     }
 }
 
@@ -46,38 +46,38 @@ pub fn begin_next(model: &mut [u32], counts: &mut [u64], call: Call, number: u32
     writing::answered(counts, number, foretold);
     if foretold == calls::ACCEPTED {
         model::begin_next(model, call.slot, call.ticket);
-        tally::one(counts, tally::NEXT_BEGUN);
-        tally::one(counts, tally::SLOT_BEGUN + call.slot as usize);
+        rows::one(counts, rows::NEXT_BEGUN);
+        rows::one(counts, rows::SLOT_BEGUN + call.slot as usize);
     }
 }
 
 // An answer is right if it was so at one of the lookup's moments; it is counted as an older one if it isn't so at the last.
 fn end_lookup(model: &mut [u32], counts: &mut [u64], s: u32, right: bool, now: bool) {
-    tally::same(counts, right);
-    tally::one(counts, tally::LOOKUPS);
+    rows::same(counts, right);
+    rows::one(counts, rows::LOOKUPS);
     model::end_reading(model, s);
     if !now {
-        tally::one(counts, tally::OLDER);
+        rows::one(counts, rows::OLDER);
     }
 }
 
 // likewise of a search for the next ticket
 fn end_next(model: &mut [u32], counts: &mut [u64], s: u32, right: bool, now: bool) {
-    tally::same(counts, right);
-    tally::one(counts, tally::NEXT_SEARCHES);
+    rows::same(counts, right);
+    rows::one(counts, rows::NEXT_SEARCHES);
     model::end_reading(model, s);
     if !now {
-        tally::one(counts, tally::NEXT_OLDER);
+        rows::one(counts, rows::NEXT_OLDER);
     }
 }
 
 fn found(model: &mut [u32], counts: &mut [u64], s: u32, v: u32) {
     let right = !model::seeks(model, s) & model::was_listed(model, s, v);
     let now = model::is_listed(model, s, v);
-    tally::one(counts, tally::FOUND);
+    rows::one(counts, rows::FOUND);
     writing::count_if(
         counts,
-        tally::FOUND_OUTDATED,
+        rows::FOUND_OUTDATED,
         model::is_outdated(model, s, v),
     );
     end_lookup(model, counts, s, right, now);
@@ -86,22 +86,22 @@ fn found(model: &mut [u32], counts: &mut [u64], s: u32, v: u32) {
 fn absent(model: &mut [u32], counts: &mut [u64], s: u32) {
     let right = model::was_lacking(model, s);
     let now = model::is_lacking(model, s);
-    tally::one(counts, tally::ABSENT);
+    rows::one(counts, rows::ABSENT);
     end_lookup(model, counts, s, right, now);
 }
 
 fn next(model: &mut [u32], counts: &mut [u64], s: u32, t: u32, v: u32) {
     let right = model::seeks(model, s) & model::was_next(model, s, t, v);
     let now = model::is_next(model, s, t, v);
-    tally::one(counts, tally::NEXT);
-    writing::count_if(counts, tally::NEXT_OUTDATED, model::has_other(model, t, v));
+    rows::one(counts, rows::NEXT);
+    writing::count_if(counts, rows::NEXT_OUTDATED, model::has_other(model, t, v));
     end_next(model, counts, s, right, now);
 }
 
 fn none(model: &mut [u32], counts: &mut [u64], s: u32) {
     let right = model::was_none(model, s);
     let now = model::is_none(model, s);
-    tally::one(counts, tally::NONE);
+    rows::one(counts, rows::NONE);
     end_next(model, counts, s, right, now);
 }
 
@@ -124,7 +124,7 @@ fn follow_turn(
     record: u32,
 ) {
     if number == calls::GO {
-        tally::one(counts, tally::GO);
+        rows::one(counts, rows::GO);
         return;
     }
     if number == calls::FOUND {
@@ -164,9 +164,9 @@ pub fn reader_turn(
 
 fn count_given_up(counts: &mut [u64], seeks: bool) {
     if seeks {
-        tally::one(counts, tally::NEXT_GIVEN_UP);
+        rows::one(counts, rows::NEXT_GIVEN_UP);
     } else {
-        tally::one(counts, tally::GIVEN_UP);
+        rows::one(counts, rows::GIVEN_UP);
     }
 }
 

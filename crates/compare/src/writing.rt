@@ -2,7 +2,7 @@
 use crate::calls;
 use checks::draws::Call;
 use checks::model;
-use checks::tally;
+use checks::rows;
 use checks::walk;
 use datatypes::Purpose;
 use datatypes::Side;
@@ -11,21 +11,21 @@ ghost use Prim.Native.Nat.{_<_};
 
 fn count_refusal(counts: &mut [u64], number: u32) {
     if (0 < number) & (number < 13) {
-        tally::one(counts, tally::REFUSALS + number as usize);
+        rows::one(counts, rows::REFUSALS + number as usize);
     }
 }
 
 // Compares an answer with the one foretold.
 pub fn answered(counts: &mut [u64], number: u32, foretold: u32) {
     count_refusal(counts, number);
-    tally::same(counts, number == foretold);
-    tally::one(counts, tally::ANSWERS);
+    rows::same(counts, number == foretold);
+    rows::one(counts, rows::ANSWERS);
 }
 
 // Compares the answer of set up.
 pub fn set_up(counts: &mut [u64], number: u32) {
     answered(counts, number, calls::ACCEPTED);
-    tally::one(counts, tally::CALLS);
+    rows::one(counts, rows::CALLS);
 }
 
 // the stores of the last write's rotations: two for a single one, three for a double one
@@ -73,13 +73,13 @@ fn begin_insert(tree: &mut [u32], model: &mut [u32], counts: &mut [u64], call: C
     reference::insert(tree, call.key, call.record);
     model::take_in_hand(model, kind, call.ticket, call.record);
     model::plan_stores(model, 0, 1 + rotation_stores(tree));
-    tally::one(counts, tally::ACCEPTED + (kind % 4) as usize);
+    rows::one(counts, rows::ACCEPTED + (kind % 4) as usize);
 }
 
 // Counts in a row what is so.
 pub fn count_if(counts: &mut [u64], row: usize, so: bool) {
     if so {
-        tally::one(counts, row);
+        rows::one(counts, row);
     }
 }
 
@@ -87,9 +87,9 @@ pub fn count_if(counts: &mut [u64], row: usize, so: bool) {
 fn count_replacement(model: &[u32], counts: &mut [u64], call: Call, full: bool, number: u32) {
     let accepted = number == calls::ACCEPTED;
     let same = model::list_record(model, call.ticket) == call.record;
-    count_if(counts, tally::REPLACED_FULL, accepted & full);
-    count_if(counts, tally::REPLACED_SAME, accepted & same);
-    count_if(counts, tally::REPLACED_FEW, number == 11);
+    count_if(counts, rows::REPLACED_FULL, accepted & full);
+    count_if(counts, rows::REPLACED_SAME, accepted & same);
+    count_if(counts, rows::REPLACED_FEW, number == 11);
 }
 
 fn count_insert(model: &[u32], counts: &mut [u64], call: Call, kind: u32, full: bool, number: u32) {
@@ -136,7 +136,7 @@ fn begin_delete(tree: &mut [u32], model: &mut [u32], counts: &mut [u64], key: u3
     reference::delete(tree, key);
     model::take_in_hand(model, model::DELETE, ticket, 0);
     model::plan_stores(model, form, delete_stores(form) + rotation_stores(tree));
-    tally::one(counts, tally::ACCEPTED + 2);
+    rows::one(counts, rows::ACCEPTED + 2);
 }
 
 // Compares the answer of a delete, and makes an accepted one in the reference tree. `free`: the free nodes before the call.
@@ -191,52 +191,52 @@ fn side_column(side: Side) -> usize
 fn rotation_row(step: usize, side: Side, purpose: Purpose) -> usize
     requires { ⌜ step < 5 ⌝ }
 {
-    tally::ROTATIONS + step * 6 + purpose_column(purpose) + side_column(side)
+    rows::ROTATIONS + step * 6 + purpose_column(purpose) + side_column(side)
 }
 
 // the row of a record's replacement
-pub const REPLACE_ROW: usize = tally::STEPS + 1;
+pub const REPLACE_ROW: usize = rows::STEPS + 1;
 
 // Answers the row of a store.
 pub fn step_row(step: Step) -> usize {
     match step {
-        Step::Vacant => tally::STEPS + 7,
-        Step::Insert(_, _) => tally::STEPS,
+        Step::Vacant => rows::STEPS + 7,
+        Step::Insert(_, _) => rows::STEPS,
         Step::Replace(_) => REPLACE_ROW,
         Step::DiagLower(side, purpose) => rotation_row(0, side, purpose),
         Step::DiagRaise(side, purpose) => rotation_row(1, side, purpose),
         Step::ZigLowerA(side, purpose) => rotation_row(2, side, purpose),
         Step::ZigLowerC(side, purpose) => rotation_row(3, side, purpose),
         Step::ZigRaise(side, purpose) => rotation_row(4, side, purpose),
-        Step::Unlink => tally::STEPS + 2,
-        Step::Adopt => tally::STEPS + 3,
-        Step::Promote => tally::STEPS + 4,
-        Step::Publish(_) => tally::STEPS + 5,
-        Step::Detach(_) => tally::STEPS + 6,
+        Step::Unlink => rows::STEPS + 2,
+        Step::Adopt => rows::STEPS + 3,
+        Step::Promote => rows::STEPS + 4,
+        Step::Publish(_) => rows::STEPS + 5,
+        Step::Detach(_) => rows::STEPS + 6,
     }
 }
 
 // both trees after a finished write
 fn compare_trees(pool: &[u32], root: u32, tree: &[u32], counts: &mut [u64]) {
     let same = walk::same_nodes(pool, root, tree);
-    tally::same(counts, same == reference::held(tree));
-    tally::add(counts, tally::NODES, same as u64);
-    tally::one(counts, tally::TREES);
+    rows::same(counts, same == reference::held(tree));
+    rows::add(counts, rows::NODES, same as u64);
+    rows::one(counts, rows::TREES);
 }
 
 // the standings of all nodes after a finished write: as many are linked as keys are held, and reading slots hold the retired ones
 fn compare_standings(pool: &[u32], tree: &[u32], model: &[u32], counts: &mut [u64]) {
     let linked = walk::linked_nodes(pool) == reference::held(tree);
     let holders = walk::all_holders_right(pool, model::reading_slots(model));
-    tally::same(counts, linked & holders);
+    rows::same(counts, linked & holders);
 }
 
 fn finish_write(pool: &[u32], root: u32, tree: &[u32], model: &mut [u32], counts: &mut [u64]) {
     let kind = model::kind_in_hand(model) % 4;
-    tally::one(counts, tally::FINISHED + kind as usize);
-    tally::one(
+    rows::one(counts, rows::FINISHED + kind as usize);
+    rows::one(
         counts,
-        tally::FORMS + (model::form_in_hand(model) % 4) as usize,
+        rows::FORMS + (model::form_in_hand(model) % 4) as usize,
     );
     model::finish_write(model);
     compare_trees(pool, root, tree, counts);
@@ -253,24 +253,24 @@ fn follow_turn(
     number: u32,
 ) {
     if number == calls::MORE {
-        tally::one(counts, tally::MORE);
+        rows::one(counts, rows::MORE);
         model::store_made(model);
         return;
     }
     if number == calls::DONE {
-        tally::one(counts, tally::DONE);
+        rows::one(counts, rows::DONE);
         model::store_made(model);
         finish_write(pool, root, tree, model, counts);
         return;
     }
     if number == calls::WAIT {
-        tally::one(counts, tally::WAIT);
+        rows::one(counts, rows::WAIT);
     }
 }
 
 fn count_step(counts: &mut [u64], number: u32, row: usize) {
     if (number == calls::MORE) | (number == calls::DONE) {
-        tally::one(counts, row);
+        rows::one(counts, row);
     }
 }
 

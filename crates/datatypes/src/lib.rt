@@ -84,7 +84,7 @@ pub enum Kind {
 
 // A reader slot's record: the given key, the node it is at (0 before its first turn); of a search for the next ticket the best so far, its key and
 // record (`best`, `value`); how many nodes its turns have compared (document 02, C-17); reading or not, the kind of search, and whether a search
-// for the next ticket remembers one. The numbers stand first: an array of empty records is then cleared faster (docs/DECISIONS.md).
+// for the next ticket remembers one. The numbers stand first: an array of empty records is then cleared faster (docs/DECISIONS.md, 118).
 pub struct Reader {
     pub key: u32,
     pub node: u32,

@@ -1,7 +1,8 @@
 // The eight calls of the ticket index. A call takes the pool as lent words and the register by value; its reply has the answer and the
 // register to use from then on. No call has a precondition, and every call returns.
 // Each one's promise: answer, register and every pool word are what the definition of the call (crate spec, Calls: documents 01 and 02) makes
-// of what was lent; a refused call leaves both as they were. Above each call: what it needs, answers, refuses and leaves.
+// of what was lent; a refused call leaves both as they were. A reader's turn also replies a count (`turnCount`). Above each call: what it needs,
+// answers, refuses and leaves.
 use datatypes::Kind;
 use datatypes::Link;
 use datatypes::Place;
@@ -138,12 +139,12 @@ pub fn begin_next(pool: &[u32], reg: Register, s: u32, k: u32) -> Reply
 // Needs: nothing; a slot that isn't reading is refused.
 // Answers: Go, the search goes on. A lookup ends with Found and the record, or with Absent, right at one moment since the slot's begin. A
 // search for the next ticket ends with Next and the ticket's key and record, or with Absent: the ticket was held at a moment since the begin,
-// and no key between the given one and it (after Absent: no greater key) was held all the time since. With the answer comes `compared`, how many
-// nodes the search has compared so far, this turn's included.
+// and no key between the given one and it (after Absent: no greater key) was held all the time since. With the answer comes `compared`, how
+// many nodes the lookup or search has compared so far, this turn's included; 0 if the turn is refused.
 // Refuses, tested in this order: 1 length; 2 a field of the register, or a word of the node that the slot's record names, reading or not, out
 // of range; 3 the slot is above 31; 5 the slot is not reading. No other word of the pool is tested.
-// Leaves: after Go only the slot's node, its count and what it remembers changed; after Found, Next and Absent the slot is no longer reading, awaited or
-// a holder of a retired node, and a retired node without a holder is freed; refused, both as they were.
+// Leaves: after Go only the slot's node, its count and what it remembers changed; after Found, Next and Absent the slot is no longer reading,
+// awaited or a holder of a retired node, and a retired node without a holder is freed; refused, both as they were.
 pub fn reader_turn(pool: &mut [u32], reg: Register, s: u32) -> ReaderReply
     ensures { λ r. ⌜ readerSays (r .answer) ≡ readerTurn (state (now (pool .entry)) reg) s .answer ⌝ }
     ensures { λ r. ⌜ state (now (pool .exit)) (r .register) ≡ readerTurn (state (now (pool .entry)) reg) s .after ⌝ }

@@ -28,7 +28,7 @@ state p r = record { pool = p; register = r }
 
 -- A count at an end of its range goes no further; at 0 the difference stays 0.
 abbrev pub countUp : ℕ → ℕ → ℕ
-countUp capacity n = cond (ltb n capacity) (n + 1) n
+countUp most n = cond (ltb n most) (n + 1) n
 
 abbrev pub countDown : ℕ → ℕ
 countDown n = n - 1

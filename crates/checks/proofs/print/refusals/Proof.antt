@@ -5,7 +5,7 @@ use Rattle.checks.proofs.print.refusals.Tie as tie
 use Rattle.checks.proofs.print.refusals.Reads as reads
 use Rattle.checks.proofs.print.refusals.Lts as lts
 use Rattle.checks.proofs.print.line.Reads as line-reads
-use Rattle.checks.proofs.tally.get.Reads as get-reads
+use Rattle.checks.proofs.rows.get.Reads as get-reads
 use Rattle.io.proofs.print_decimal.Reads as print-decimal-reads
 use Rattle.io.proofs.write_all.Reads as write-all-reads
 

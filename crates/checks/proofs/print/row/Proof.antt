@@ -4,7 +4,7 @@ use Rattle.checks.proofs.print.row.Statement.{statement}
 use Rattle.checks.proofs.print.row.Tie as tie
 use Rattle.checks.proofs.print.row.Reads as reads
 use Rattle.checks.proofs.print.row.Lts as lts
-use Rattle.checks.proofs.tally.get.Reads as get-reads
+use Rattle.checks.proofs.rows.get.Reads as get-reads
 use Rattle.io.proofs.print_decimal.Reads as print-decimal-reads
 use Rattle.io.proofs.write_all.Reads as write-all-reads
 

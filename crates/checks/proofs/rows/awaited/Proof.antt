@@ -3,12 +3,12 @@ use mathlib.Core.Path.{_≡_}
 use lib.ListN.{length}
 use Prim.Native.Nat.{_-_}
 use Rattle.spec.specs.Numbers.{slots}
-use Rattle.checks.proofs.tally.awaited.Statement.{statement}
-use Rattle.checks.proofs.tally.awaited.Tie as tie
-use Rattle.checks.proofs.tally.awaited.Reads as reads
-use Rattle.checks.proofs.tally.awaited.Lts as lts
-use Rattle.checks.proofs.tally.one.Reads as one-reads
-use Rattle.checks.proofs.tally.slot_awaited.Reads as slot-awaited-reads
+use Rattle.checks.proofs.rows.awaited.Statement.{statement}
+use Rattle.checks.proofs.rows.awaited.Tie as tie
+use Rattle.checks.proofs.rows.awaited.Reads as reads
+use Rattle.checks.proofs.rows.awaited.Lts as lts
+use Rattle.checks.proofs.rows.one.Reads as one-reads
+use Rattle.checks.proofs.rows.slot_awaited.Reads as slot-awaited-reads
 
 abbrev Inv-loop : tie.InvT-loop
 Inv-loop counts₀ mask s₀ counts s = (length counts ≡ length counts₀)
