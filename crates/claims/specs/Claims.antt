@@ -9,6 +9,7 @@ use mathlib.Core.Logic.{_≢_, _⊎_, inl, inr, ⊎-map, ⊎-elim, _↔_}
 use native.Mathlib.Omega.{arith}
 use native.Mathlib.Decide.{ℕ-discrete}
 use lib.ListN.{length, getD}
+use borrow.Author.Tests.{not-true}
 use Rattle.datatypes.specs.declared.Side.the-variants.{L, R}
 use Rattle.datatypes.specs.declared.Link.{Link}
 use Rattle.datatypes.specs.declared.Link.the-variants.{Root, Left}
@@ -152,12 +153,17 @@ counts-the-root e = let none-compared = ap length (computed .compared4) in omega
 pub counts-nothing : 0 ≢ length (comparedIn start replacing 0 2 7)
 counts-nothing e = let one-compared = ap length (computed .comparedThen) in omega arith
 
--- `low` of every reading, a write in hand or not: slot 0 compares the node of 3 when 3 has been taken out, and no key is held.
-pub low-while-writing : ¬ ((cs : List Call) (κ : Kind) (s k i j : ℕ) → Reading start cs κ s k i j
+-- Asked at the begin and at the turn alone, `low` is false: in `lookup` 3 is taken out between, no write is in hand at either end, slot 0 compares
+-- the node of 3 and no key is held.
+pub low-at-ends-only : ¬ ((cs : List Call) (κ : Kind) (s k i j : ℕ) → Reading start cs κ s k i j
+    → writeInHand (indexAfter start cs (i + 1)) ≡ false → writeInHand (indexAfter start cs j) ≡ false
     → let n = indexAfter start cs j .register .held in 2 ^ turnCount (indexAfter start cs j) s ≤ (n + 1) * (n + 1))
-low-while-writing h =
+low-at-ends-only h =
     let r = promised lookup .demand3 .lookups .inLookup 0 6 (omega arith) (computed .reads6) in
-    let bound : 2 ^ 1 ≤ 1 = rw (computed .counts6, computed .held6) at (h lookup (r .0) 0 (r .1) (r .2) 6 (r .3)) in
+    let i = r .2 in
+    let rest = all-in _ 0 6 (computed .begunIdle) i (omega arith) (r .3 .later) in
+    let idle : writeInHand (indexAfter start lookup (i + 1)) ≡ false = not-true _ (rw (ap isBegin (r .3 .begins .0)) at rest) in
+    let bound : 2 ^ 1 ≤ 1 = rw (computed .counts6, computed .held6) at (h lookup (r .0) 0 (r .1) i 6 (r .3) idle (computed .idle6)) in
     omega arith
 
 -- Claims near to those of demand 3 that are false. A list that changes one call early: `everyKey` with the tickets of the next moment. After the

@@ -1,5 +1,5 @@
 -- Three runs on a pool of eight nodes just set up, one on a pool of nine, and what they compute to. The exclusions (Claims) go by these facts.
-use Prim.Native.Nat.{ℕ}
+use Prim.Native.Nat.{ℕ, _+_}
 use mathlib.Core.Path.{_≡_, refl}
 use mathlib.Core.Bool.{Bool, true, false, not, _&&_}
 use mathlib.Core.List.{List, [], _∷_}
@@ -21,7 +21,7 @@ use Rattle.spec.specs.Plan.{insertPlan, unlinkPlan, deletePlan}
 use Rattle.spec.specs.Turn.{insertStore, replaceStore, unlinkStore, adoptStore, promoteStore, stepFinds, stepMade}
 use Rattle.spec.specs.Calls.{insert, delete, stored, writerTurn, begin, readerStep, readerTurn, turnCount}
 use Rattle.datatypes.specs.declared.Kind.the-variants as kind
-use Rattle.spec.specs.Calls.{ok, absent, found, next, Call, inserting, deleting, writing, beginning, turning, givingUp, call, reading}
+use Rattle.spec.specs.Calls.{ok, absent, found, next, Call, inserting, deleting, writing, beginning, turning, givingUp, call, reading, writeInHand}
 use Rattle.spec.specs.PlainList.{recordFor, acceptedWrites}
 use Rattle.promise.specs.Run.{Start, justSetUp, callAt, after, indexAfter, plainAfter, ticketsAfter, comparedIn}
 use Rattle.promise.specs.Demands.{turnOf, origin, standingAt}
@@ -97,6 +97,9 @@ pub record Computed : Type 0 where
   pub compared4 : comparedIn start lookup 0 2 4 ≡ []
   pub held6 : indexAfter start lookup 6 .register .held ≡ 0
   pub counts6 : turnCount (indexAfter start lookup 6) 0 ≡ 1
+  -- no write is in hand in the end, nor after a begin
+  pub idle6 : writeInHand (indexAfter start lookup 6) ≡ false
+  pub begunIdle : allIn (λ i. not (isBegin (callAt lookup i) && writeInHand (indexAfter start lookup (i + 1)))) 0 6 ≡ true
   -- before the rotation: node 1 (key 3) over node 2 (key 1)
   pub root : before .register .root ≡ 1
   pub left1 : child (before .pool) L 1 ≡ 2
@@ -148,6 +151,8 @@ computed = record {
   compared4 = refl;
   held6 = refl;
   counts6 = refl;
+  idle6 = refl;
+  begunIdle = refl;
   root = refl;
   left1 = refl;
   right1 = refl;

@@ -226,17 +226,17 @@ TurnsAlike S cs = (j s : ℕ) → readerTurn (indexAfter S cs j) s ≡ fullyTest
 
 -- 02, C-17: how many nodes a lookup, or a search for the next ticket, reads. Its reading was begun by call i and has not ended when call j comes.
 pub record CountsRight (S : Start) (cs : List Call) : Type 0 where
-  -- no node is compared twice, by call j neither
+  -- no node is compared twice, call j included
   pub once : (κ : Kind) (s k i j : ℕ) → Reading S cs κ s k i j → Distinct (comparedIn S cs s i (j + 1))
   -- the slot's record counts the nodes compared; the reply of its turn that is call j counts this turn's too
   pub counts : (κ : Kind) (s k i j : ℕ) → Reading S cs κ s k i j → readerOf (indexAfter S cs j .register) s .compared ≡ length (comparedIn S cs s i j)
   pub replies : (κ : Kind) (s k i j : ℕ) (a : Answer) → Reading S cs κ s k i j → Turns S cs s j a → turnCount (indexAfter S cs j) s ≡ length (comparedIn S cs s i (j + 1))
-  -- the count never passes N, in the record of a slot that reads or in the reply of its turn, after any call; the turn of a slot that doesn't read is
-  -- refused, and counts nothing
-  pub most : (j s : ℕ) → s < slots → Reads (indexAfter S cs j) s
-      → (readerOf (indexAfter S cs j .register) s .compared ≤ S .size) × (turnCount (indexAfter S cs j) s ≤ S .size)
-  -- with no write in hand at any moment from begin to call j, and n keys held, the count h of a turn that is call j, its answer's among them:
-  -- 2 to the power h is at most (n + 1) squared
+  -- of every slot: the count of a reply never passes N, nor does that of a record, if the slot reads or if it is at most N at the start (after a
+  -- set up it is 0)
+  pub most : (j s : ℕ) → (turnCount (indexAfter S cs j) s ≤ S .size)
+      × (Reads (indexAfter S cs j) s ⊎ (readerOf (S .index .register) s .compared ≤ S .size) → readerOf (indexAfter S cs j .register) s .compared ≤ S .size)
+  -- with no write in hand at any moment from begin to call j, n keys held, and h the count that a turn of the slot replies as call j, be it go or
+  -- the answer: 2 to the power h is at most (n + 1) squared
   pub low : (κ : Kind) (s k i j : ℕ) → Reading S cs κ s k i j → ((t : ℕ) → i < t → t ≤ j → writeInHand (indexAfter S cs t) ≡ false)
       → let n = indexAfter S cs j .register .held in 2 ^ turnCount (indexAfter S cs j) s ≤ (n + 1) * (n + 1)
 

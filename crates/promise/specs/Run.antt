@@ -1,6 +1,6 @@
 -- 01, 'What demand 3 speaks of': a list of calls, made one after the other from a start. What stands after each of them, what each call
--- answered, and the plain list beside it; what a lookup is, and a search for the next ticket (02, C-11). 01's runs start on a pool of any N just
--- set up, with any arguments.
+-- answered, and the plain list beside it; what a lookup is, and a search for the next ticket (02, C-11); and which nodes are compared in them
+-- (02, C-17). 01's runs start on a pool of any N just set up, with any arguments.
 use Prim.Native.Nat.{ℕ, zero, suc, _<_}
 use mathlib.Core.Path.{_≡_}
 use mathlib.Core.Logic.{_⊎_}
@@ -61,8 +61,8 @@ thenPerhaps m (some c) = thenCall m c
 abbrev pub Reads : State → ℕ → Type 0
 Reads st s = reading st s ≡ true
 
--- 02, C-17: the nodes compared for slot s after a call, those before it being `before` and the slot's record x. A turn of the slot that isn't
--- refused compares the node that the record names, if it names one; no other call compares for it.
+-- 02, C-17: the nodes compared for slot s up to a call and by it; `before` are those up to it, x is the slot's record when the call comes. A turn
+-- of the slot that isn't refused compares the node that the record names, if it names one; no other call compares for it.
 abbrev pub withNamed : List ℕ → Reader → List ℕ
 withNamed before x = cond (eqb (x .node) 0) before (before ++ x .node ∷ [])
 

@@ -139,7 +139,7 @@ turn-case st e =
     go false x w f = waits (eqb-false (st .register .awaited) 0 x)
 
 -- of a turn or a give up, whatever it tests of the ranges
-passed : (st : State) (s : ℕ) (b : Bool) → firstOf (wrongLength st gives 1 ∷ b gives 2 ∷ slotTooHigh s gives 3 ∷ not (reading st s) gives 5 ∷ []) ≡ 0 → Passed st s
+pub passed : (st : State) (s : ℕ) (b : Bool) → firstOf (wrongLength st gives 1 ∷ b gives 2 ∷ slotTooHigh s gives 3 ∷ not (reading st s) gives 5 ∷ []) ≡ 0 → Passed st s
 passed st s b e =
     let c = tests-pass (wrongLength st gives 1 ∷ b gives 2 ∷ slotTooHigh s gives 3 ∷ not (reading st s) gives 5 ∷ []) (omega arith, (omega arith, (omega arith, (omega arith, tt)))) e in
     record { low = leb-false slots s (c .1 .1 .0); reads = not-false (reading st s) (c .1 .1 .1 .0) }

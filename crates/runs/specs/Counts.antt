@@ -5,7 +5,7 @@ use mathlib.Core.Path.{_≡_, refl, sym, ap, _∙_, subst}
 use mathlib.Core.Bool.{Bool, true, false, cond}
 use mathlib.Core.List.{List}
 use mathlib.Core.Option.{Option, none, some}
-use mathlib.Core.Logic.{_⊎_, inl, inr}
+use mathlib.Core.Logic.{_⊎_, inl, inr, ⊎-elim}
 use native.Mathlib.Omega.{arith}
 use native.Mathlib.Decide.{ℕ-discrete}
 use native.Mathlib.Nat.{le-trans}
@@ -13,23 +13,24 @@ use native.Mathlib.Numerals.{add-one}
 use lib.Dec.{eqb}
 use lib.ListN.{length}
 use lib.Pow.{pow-mono}
-use borrow.Author.Tests.{eq-eqb}
+use borrow.Author.Tests.{eq-eqb, ne-eqb}
 use Rattle.base.specs.Lists.{Distinct}
 use Rattle.datatypes.specs.declared.Kind.{Kind}
 use Rattle.datatypes.specs.declared.Reader.{Reader}
 use Rattle.spec.specs.Numbers.{slots}
 use Rattle.spec.specs.Register.{State, readerOf}
-use Rattle.spec.specs.Calls.{Answer, Call, inserting, deleting, writing, beginning, turning, givingUp, call, firstOf, readerTests, comparedBy, turnCount, writeInHand}
+use Rattle.spec.specs.Calls.{Answer, Call, inserting, deleting, writing, beginning, turning, givingUp, call, firstOf, readerTests, comparedBy, namedOutOfRange, turnCount, writeInHand}
 use Rattle.spec.specs.PlainList.{Plain, Notice, turnedDown, waited, carriedOut, noticeOf}
 use Rattle.tree.specs.Linked.{Linked}
-use Rattle.promise.specs.Run.{Start, withNamed, thenCompared, perhapsCompared, thenPerhaps, callAt, after, indexAfter, plainAfter, Turns, Reading, comparedIn}
+use Rattle.promise.specs.Run.{Start, Reads, withNamed, thenCompared, perhapsCompared, thenPerhaps, callAt, after, indexAfter, plainAfter, Turns, Reading, comparedIn}
 use Rattle.promise.specs.Demands.{CountsRight}
-use Rattle.readers.specs.CallCase.{call-case}
+use Rattle.readers.specs.CallCase.{passed, call-case}
 use Rattle.ranges.specs.Calls.{named-in}
 use Rattle.runs.specs.Writer.{Writer}
 use Rattle.runs.specs.Sound.{Sound, Starts}
 use Rattle.runs.specs.Slot.{StandAt, named-longer, stand-named, stand-seen, stand-counts}
 use Rattle.runs.specs.Low.{LowAt, low-turn, low-begun, low-next}
+use Rattle.runs.specs.Most.{MostAt, reads-low, most-next}
 use Rattle.runs.specs.Answers.{begun-is}
 use Rattle.runs.specs.Rest.{Completes, reader-clear, reader-goes}
 use Rattle.runs.specs.Theorem.{next-is, compared-next, Possible, now, ends-at, shorter, sound-at, ranged-at, lent-at, fits, stands, in-reading}
@@ -117,6 +118,32 @@ module _ (W : State → Plain → Linked → Type 0) (writer : Writer W) (comple
         let t = turn-named in
         (omega arith, omega arith)
 
+  -- Every slot: one that reads is in a reading; the turn of any other is refused, and its record counts at most N if it does at the start.
+  read-most : (j s : ℕ) → Reads (at j) s → (readerOf (at j .register) s .compared ≤ S .size) × (turnCount (at j) s ≤ S .size)
+  read-most j s r = let z = in-reading W writer S starts cs s j (reads-low (at j) s (sound j .safe) r) r in most (z .0) s (z .1) (z .2) j (z .3)
+
+  turn-most : (j s : ℕ) → turnCount (at j) s ≤ S .size
+  unfolding turnCount
+  turn-most j s =
+      let n = firstOf (readerTests (at j) s) in
+      elim (ℕ-discrete n 0) [
+        | yes e ↦ read-most j s (passed (at j) s (namedOutOfRange (at j) s) e .reads) .1
+        | no d ↦ (let refused : turnCount (at j) s ≡ 0 = ap (λ b. cond b (comparedBy (readerOf (at j .register) s)) 0) (ne-eqb n 0 d) in omega arith)
+      ]
+
+  most-perhaps : (j s : ℕ) (c : Option Call) → MostAt (S .size) (at j) s → MostAt (S .size) (thenPerhaps (after S cs j) c .index) s
+  most-perhaps j s none m = m
+  most-perhaps j s (some c) m = most-next W writer (S .size) (at j) (plainAfter S cs j) c (call (at j) c) (call-case (at j) c) (sound j) s m
+
+  most-at : (j s : ℕ) → readerOf (S .index .register) s .compared ≤ S .size → MostAt (S .size) (at j) s
+  unfolding after
+  most-at zero s e = inr e
+  most-at (suc j) s e = most-perhaps j s (callAt cs j) (most-at j s e)
+
+  record-most : (j s : ℕ) → Reads (at j) s ⊎ (readerOf (S .index .register) s .compared ≤ S .size) → readerOf (at j .register) s .compared ≤ S .size
+  record-most j s (inl r) = read-most j s r .0
+  record-most j s (inr e) = ⊎-elim (λ r. read-most j s r .0) (λ m. m) (most-at j s e)
+
   -- with no write in hand at its moments
   low-perhaps : (κ : Kind) (s k i j : ℕ) (c : Option Call) → callAt cs j ≡ c → (l : Reading S cs κ s k i j) → Reading S cs κ s k i (suc j) → writeInHand (at j) ≡ false → LowAt (at j) s
       → LowAt (thenPerhaps (after S cs j) c .index) s
@@ -155,6 +182,6 @@ module _ (W : State → Plain → Linked → Type 0) (writer : Writer W) (comple
     once = once;
     counts = λ κ s k i j l. here κ s k i j l .1 .count;
     replies = λ κ s k i j a l t. replies κ s k i j l a t;
-    most = λ j s u r. (let z = in-reading W writer S starts cs s j u r in most (z .0) s (z .1) (z .2) j (z .3));
+    most = λ j s. (turn-most j s, record-most j s);
     low = low;
   }

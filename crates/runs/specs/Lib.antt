@@ -7,6 +7,7 @@ pub mod NextSlot
 pub mod Slot
 pub mod Follow
 pub mod Low
+pub mod Most
 pub mod Starts
 pub mod Begin
 pub mod Answers
