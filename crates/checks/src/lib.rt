@@ -1,8 +1,7 @@
 // What the program compare draws, keeps and prints, without the index: random calls, a model of the plain list and of the readers'
-// moments, how many nodes each reading compares, the walk through a pool beside the reference tree, counts and their text.
+// moments, how many nodes each reading compares, counts and their text.
 pub mod draws;
 pub mod lengths;
 pub mod model;
 pub mod print;
 pub mod rows;
-pub mod walk;

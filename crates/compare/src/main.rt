@@ -13,7 +13,6 @@ use checks::lengths;
 use checks::model;
 use checks::print;
 use checks::rows;
-use checks::walk;
 use datatypes::Register;
 use datatypes::Tally;
 
@@ -103,7 +102,7 @@ fn compare_answer(
     said: Said,
 ) {
     if call.kind == draws::INSERT {
-        let nodes = walk::nodes(pool);
+        let nodes = walks::nodes(pool);
         writing::insert(
             nodes,
             tree,
@@ -124,14 +123,14 @@ fn compare_answer(
         writing::writer_turn(pool, said.root, tree, model, counts, said.row, said.number);
         return;
     }
-    compare_reading(walk::nodes(pool), model, counts, call, said);
+    compare_reading(walks::nodes(pool), model, counts, call, said);
 }
 
 // What holds after every call: keys held, free nodes and awaited slots; and a moment of every lookup and search passes.
 fn compare_state(pool: &[u32], model: &mut [u32], counts: &mut [u64], said: Said) {
     let room = model::observe(model);
     let held = said.held == model::held(model);
-    let free = said.free == walk::free_nodes(pool);
+    let free = said.free == walks::free_nodes(pool);
     let awaited = said.awaited == model::awaited(model);
     rows::same(counts, room & held & free & awaited);
     rows::one(counts, rows::STATES);
@@ -238,7 +237,7 @@ fn make_calls(
     calls: u64,
     seed: u32,
 ) -> u32 {
-    let nodes = walk::nodes(pool);
+    let nodes = walks::nodes(pool);
     let mut made = calls::set_up(pool);
     writing::set_up(counts, made.number);
     let mut most: u32 = 0;
@@ -276,7 +275,7 @@ fn run(
     model::clear(lengths);
     let most = make_calls(pool, tree, model, lengths, counts, calls, seed);
     rows::same(counts, reference::overruns(tree) == 0);
-    print::run(walk::nodes(pool), calls, most, lengths);
+    print::run(walks::nodes(pool), calls, most, lengths);
 }
 
 // a run on the first so many nodes of the words lent

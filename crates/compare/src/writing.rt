@@ -3,7 +3,6 @@ use crate::calls;
 use checks::draws::Call;
 use checks::model;
 use checks::rows;
-use checks::walk;
 use datatypes::Purpose;
 use datatypes::Side;
 use datatypes::Step;
@@ -218,7 +217,7 @@ pub fn step_row(step: Step) -> usize {
 
 // both trees after a finished write
 fn compare_trees(pool: &[u32], root: u32, tree: &[u32], counts: &mut [u64]) {
-    let same = walk::same_nodes(pool, root, tree);
+    let same = walks::same_nodes(pool, root, tree);
     rows::same(counts, same == reference::held(tree));
     rows::add(counts, rows::NODES, same as u64);
     rows::one(counts, rows::TREES);
@@ -226,8 +225,8 @@ fn compare_trees(pool: &[u32], root: u32, tree: &[u32], counts: &mut [u64]) {
 
 // the standings of all nodes after a finished write: as many are linked as keys are held, and reading slots hold the retired ones
 fn compare_standings(pool: &[u32], tree: &[u32], model: &[u32], counts: &mut [u64]) {
-    let linked = walk::linked_nodes(pool) == reference::held(tree);
-    let holders = walk::all_holders_right(pool, model::reading_slots(model));
+    let linked = walks::linked_nodes(pool) == reference::held(tree);
+    let holders = walks::all_holders_right(pool, model::reading_slots(model));
     rows::same(counts, linked & holders);
 }
 

@@ -9,7 +9,7 @@ use Rattle.compare.proofs.make_calls.Reads as reads
 use Rattle.compare.proofs.make_calls.Lts as lts
 use Rattle.checks.proofs.draws.after_call.Reads as after-call-reads
 use Rattle.checks.proofs.draws.draw_call.Reads as draw-call-reads
-use Rattle.checks.proofs.walk.nodes.Reads as nodes-reads
+use Rattle.walks.proofs.nodes.Reads as nodes-reads
 use Rattle.compare.proofs.calls.call_index.Reads as call-index-reads
 use Rattle.compare.proofs.calls.set_up.Reads as calls-set-up-reads
 use Rattle.compare.proofs.compare.Reads as compare-reads

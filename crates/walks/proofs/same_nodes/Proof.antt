@@ -2,15 +2,15 @@ use borrow.Author.Needs.{needs}
 use mathlib.Core.Path.{_≡_}
 use Prim.Native.Nat.{_-_}
 use lib.ListN.{length}
-use Rattle.checks.proofs.walk.same_nodes.Statement.{statement}
-use Rattle.checks.proofs.walk.same_nodes.Tie as tie
-use Rattle.checks.proofs.walk.same_nodes.Reads as reads
-use Rattle.checks.proofs.walk.same_nodes.Lts as lts
-use Rattle.checks.proofs.walk.pair.Reads as pair-reads
-use Rattle.checks.proofs.walk.push.Reads as push-reads
-use Rattle.checks.proofs.walk.same_node.Reads as same-node-reads
-use Rattle.checks.proofs.walk.same_shape.Reads as same-shape-reads
-use Rattle.checks.proofs.walk.word.Reads as word-reads
+use Rattle.walks.proofs.same_nodes.Statement.{statement}
+use Rattle.walks.proofs.same_nodes.Tie as tie
+use Rattle.walks.proofs.same_nodes.Reads as reads
+use Rattle.walks.proofs.same_nodes.Lts as lts
+use Rattle.walks.proofs.pair.Reads as pair-reads
+use Rattle.walks.proofs.push.Reads as push-reads
+use Rattle.walks.proofs.same_node.Reads as same-node-reads
+use Rattle.walks.proofs.same_shape.Reads as same-shape-reads
+use Rattle.walks.proofs.word.Reads as word-reads
 use Rattle.reference.proofs.left.Reads as left-reads
 use Rattle.reference.proofs.right.Reads as right-reads
 use Rattle.reference.proofs.root.Reads as root-reads

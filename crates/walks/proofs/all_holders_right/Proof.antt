@@ -1,11 +1,11 @@
 use borrow.Author.Needs.{needs}
 use Prim.Native.Nat.{_-_, _≤_}
-use Rattle.checks.proofs.walk.all_holders_right.Statement.{statement}
-use Rattle.checks.proofs.walk.all_holders_right.Tie as tie
-use Rattle.checks.proofs.walk.all_holders_right.Reads as reads
-use Rattle.checks.proofs.walk.all_holders_right.Lts as lts
-use Rattle.checks.proofs.walk.holders_right.Reads as holders-right-reads
-use Rattle.checks.proofs.walk.nodes.Reads as nodes-reads
+use Rattle.walks.proofs.all_holders_right.Statement.{statement}
+use Rattle.walks.proofs.all_holders_right.Tie as tie
+use Rattle.walks.proofs.all_holders_right.Reads as reads
+use Rattle.walks.proofs.all_holders_right.Lts as lts
+use Rattle.walks.proofs.holders_right.Reads as holders-right-reads
+use Rattle.walks.proofs.nodes.Reads as nodes-reads
 
 abbrev Inv-loop : tie.InvT-loop
 Inv-loop pool reading capacity n₀ n = 0 ≤ 1

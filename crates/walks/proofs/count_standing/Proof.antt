@@ -2,12 +2,12 @@ use native.Mathlib.Omega.{arith}
 use mathlib.Core.Logic.{⊎-elim}
 use borrow.Author.Needs.{needs}
 use Prim.Native.Nat.{_-_, _≤_}
-use Rattle.checks.proofs.walk.count_standing.Statement.{statement}
-use Rattle.checks.proofs.walk.count_standing.Tie as tie
-use Rattle.checks.proofs.walk.count_standing.Reads as reads
-use Rattle.checks.proofs.walk.count_standing.Lts as lts
-use Rattle.checks.proofs.walk.nodes.Reads as nodes-reads
-use Rattle.checks.proofs.walk.word.Reads as word-reads
+use Rattle.walks.proofs.count_standing.Statement.{statement}
+use Rattle.walks.proofs.count_standing.Tie as tie
+use Rattle.walks.proofs.count_standing.Reads as reads
+use Rattle.walks.proofs.count_standing.Lts as lts
+use Rattle.walks.proofs.nodes.Reads as nodes-reads
+use Rattle.walks.proofs.word.Reads as word-reads
 
 abbrev Inv-loop : tie.InvT-loop
 Inv-loop pool standing capacity count₀ n₀ count n = count ≤ n
