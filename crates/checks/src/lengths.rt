@@ -141,7 +141,7 @@ fn count_answer(words: &mut [u32], camera: usize, n: u32) {
     raise(words, tally_place(camera, 2), n);
 }
 
-// Notes that a slot's reading has been answered, with so many keys held. Answers whether no write was in hand at its moments.
+// Notes that a slot's reading has been answered; answers whether no write was in hand at any of its moments.
 pub fn answer(words: &mut [u32], s: u32) -> bool {
     let n = count(words, s);
     let kind = slot_word(words, s, SEEKS) as usize % 2;

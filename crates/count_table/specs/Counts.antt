@@ -9,7 +9,7 @@ use Rattle.datatypes.specs.declared.Reader.{Reader}
 use Rattle.spec.specs.Register.{State, state}
 use Rattle.spec.specs.Calls.{ok, go, absent, wait, found, next, more, done, refused, Answer}
 use Rattle.table.specs.Picture.{row, _keptBy_, Read, slot_wants_at_, slot_after_at_with_, _past_, Ticket, Stale, _remembering_, root_held_awaited_stores_, picture}
-use Rattle.table.specs.Picture.{rising, Shape, tree, black, redLeaf, nil, key, value, left, right, colour, standing, holders, nextFree, Change, _of_:=_, root:=_, first:=_}
+use Rattle.table.specs.Picture.{rising, Shape, tree, black, redLeaf, nil, key, value, left, right, colour, standing, nextFree, Change, _of_:=_, root:=_, first:=_}
 use Rattle.table.specs.Picture.{last:=_, free:=_, held:=_, fills, reader_:=_, reads, idle, seeks, _ofKind_, _counting_, _but_, unset, words}
 use Rattle.table.specs.Entry.{P, I, D, W, B, S, R, E, _⇒_, _⇒_counted_, Line, stands, leaves, Entry, entry}
 use Rattle.table.specs.Lent.{three, single, five, four}
