@@ -19,7 +19,7 @@ fn accepted(reg: Register, write: Write) -> Reply
 }
 
 // Tests and plans an insert at the empty link l, after the tests of the search.
-pub fn insert_at(pool: &[u32], reg: Register, k: u32, v: u32, l: Link) -> Reply
+pub fn insert_at(pool: &[u32], reg: Register, k: u32, v: u64, l: Link) -> Reply
     requires { ⌜ (lentNumber (state (now pool) reg) ≡ 0) × (writeInHand (state (now pool) reg) ≡ false) × (placeOf (state (now pool) reg) k ≡ Empty l) ⌝ }
     ensures { λ r. ⌜ accepts (r .answer) ≡ insert (state (now (pool .entry)) reg) k v .answer ⌝ }
     ensures { λ r. ⌜ state (now (pool .entry)) (r .register) ≡ insert (state (now (pool .entry)) reg) k v .after ⌝ }
@@ -41,7 +41,7 @@ pub fn insert_at(pool: &[u32], reg: Register, k: u32, v: u32, l: Link) -> Reply
 
 // Tests and plans an insert of a held key, whose node the link l holds, after the tests of the search (document 02, C-13). Keys held doesn't change,
 // so 10 isn't tested.
-pub fn replace_at(pool: &[u32], reg: Register, k: u32, v: u32, l: Link) -> Reply
+pub fn replace_at(pool: &[u32], reg: Register, k: u32, v: u64, l: Link) -> Reply
     requires { ⌜ (lentNumber (state (now pool) reg) ≡ 0) × (writeInHand (state (now pool) reg) ≡ false) × ((n : ℕ) × (placeOf (state (now pool) reg) k ≡ Held l n)) ⌝ }
     ensures { λ r. ⌜ accepts (r .answer) ≡ insert (state (now (pool .entry)) reg) k v .answer ⌝ }
     ensures { λ r. ⌜ state (now (pool .entry)) (r .register) ≡ insert (state (now (pool .entry)) reg) k v .after ⌝ }

@@ -21,8 +21,8 @@ pub enum Said {
     Go,
     Absent,
     Wait,
-    Found(u32),
-    Next(u32, u32),
+    Found(u64),
+    Next(u32, u64),
     More(Link, u32),
     Done(Link, u32),
     No(u32),
@@ -125,13 +125,13 @@ fn numbered(out: &mut [u8], at: usize, word: &[u8], n: u32) -> usize
     texts::number_field(out, last, n as u64, texts::NEWLINE)
 }
 
-fn ticket(out: &mut [u8], at: usize, word: &[u8], k: u32, v: u32) -> usize
+fn ticket(out: &mut [u8], at: usize, word: &[u8], k: u32, v: u64) -> usize
     requires { ⌜ at + length (now word) + 23 ≤ length (now out) ⌝ }
     ensures { λ r. ⌜ Put (now (out .entry)) at (line (now (word .entry) ∷ decimal k ∷ decimal v ∷ [])) (now (out .exit)) r ⌝ }
 {
     let key = texts::text_field(out, at, word, texts::TAB);
     let last = texts::number_field(out, key, k as u64, texts::TAB);
-    texts::number_field(out, last, v as u64, texts::NEWLINE)
+    texts::number_field(out, last, v, texts::NEWLINE)
 }
 
 fn linked(out: &mut [u8], at: usize, word: &[u8], l: Link, n: u32) -> usize

@@ -48,8 +48,8 @@ pub struct Rotation {
 // Publish(C), Detach(key): B's link from above := C'; F's left := C's right. The key is B's, by which the place is found again.
 pub enum Step {
     Vacant,
-    Insert(u32, u32),
-    Replace(u32),
+    Insert(u32, u64),
+    Replace(u64),
     DiagLower(Side, Purpose),
     DiagRaise(Side, Purpose),
     ZigLowerA(Side, Purpose),
@@ -89,7 +89,7 @@ pub struct Reader {
     pub key: u32,
     pub node: u32,
     pub best: u32,
-    pub value: u32,
+    pub value: u64,
     pub compared: u32,
     pub reading: bool,
     pub kind: Kind,
@@ -169,8 +169,8 @@ pub enum WriterAnswer {
 // or a search for the next ticket met none.
 pub enum ReaderAnswer {
     Go,
-    Found(u32),
-    Next(u32, u32),
+    Found(u64),
+    Next(u32, u64),
     Absent,
     Refused(u32),
 }

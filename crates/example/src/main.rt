@@ -92,7 +92,7 @@ fn carry_out(pool: &mut [u32], asked: Reply) -> Register {
 }
 
 // Inserts a key with its record; a held key gets the new record, in one turn.
-fn insert(pool: &mut [u32], reg: Register, key: u32, record: u32) -> Register {
+fn insert(pool: &mut [u32], reg: Register, key: u32, record: u64) -> Register {
     say(b"insert ", key);
     let asked = index::insert(pool, reg, key, record);
     carry_out(pool, asked)

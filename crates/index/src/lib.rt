@@ -40,7 +40,7 @@ pub fn set_up(pool: &mut [u32], reg: Register) -> Reply
 // Refuses, tested in this order: 1 length; 2 a word or field out of range; 6 a write is in hand; 12 a path of over 64 nodes; 10 the key is not
 // held and keys held are N − 4 or more; 11 fewer than 3 free nodes; 12 a step names a node where there is none.
 // Leaves: the pool as it was, and in the register the write in hand; refused, both as they were.
-pub fn insert(pool: &[u32], reg: Register, k: u32, v: u32) -> Reply
+pub fn insert(pool: &[u32], reg: Register, k: u32, v: u64) -> Reply
     ensures { λ r. ⌜ accepts (r .answer) ≡ insert (state (now (pool .entry)) reg) k v .answer ⌝ }
     ensures { λ r. ⌜ state (now (pool .entry)) (r .register) ≡ insert (state (now (pool .entry)) reg) k v .after ⌝ }
 {

@@ -1,4 +1,5 @@
 pub mod Words
+pub mod Records
 pub mod Slots
 pub mod Reading
 pub mod Queue

@@ -6,17 +6,18 @@ use mathlib.Core.Logic.{_≢_, inl, inr}
 use lib.Dec.{eqb}
 use borrow.Author.Tests.{eq-eqb, ne-eqb}
 use native.Mathlib.Omega.{arith}
-use Prim.Native.Nat.{ℕ, _<_}
+use Prim.Native.Nat.{ℕ, _/_, _%_, _<_}
 use Rattle.datatypes.specs.declared.Side.{Side}
 use Rattle.datatypes.specs.declared.Side.the-variants.{L, R}
 use Rattle.datatypes.specs.Side.{other}
 use Rattle.base.specs.Lists.{_∈_, Distinct}
-use Rattle.spec.specs.Numbers.{nodeWords}
-use Rattle.spec.specs.Pool.{word, setWord, recordAt, keyWord, recordWord, leftWord, rightWord, linkWord, colourWord, standingWord, holdersWord, nextWord, standingLinked}
+use Rattle.spec.specs.Numbers.{nodeWords, wordLimit}
+use Rattle.spec.specs.Pool.{word, setWord, recordAt, keyWord, recordLowWord, recordHighWord, leftWord, rightWord, linkWord, colourWord, standingWord, holdersWord, nextWord, standingLinked}
 use Rattle.spec.specs.Register.{State, withQueue}
 use Rattle.spec.specs.Free.{takeFree, fillNode, takeNode, freeNode}
 use Rattle.spec.specs.FreeQueue.{InPool, Chain, lastOf, Queue}
 use Rattle.laws.specs.Words.{length-setWord, word-same, word-other}
+use Rattle.laws.specs.Records.{record-other}
 
 pub node-kept : (p : List ℕ) (m n f v : ℕ) → InPool p m → InPool (setWord p n f v) m
 node-kept p m n f v h = record { low = h .low; high = rw length-setWord (h .high) }
@@ -50,13 +51,14 @@ key-link p d n L b = word-other p d n leftWord keyWord b (omega arith) (omega ar
 key-link p d n R b = word-other p d n rightWord keyWord b (omega arith) (omega arith) (inr (omega arith))
 
 pub record-link : (p : List ℕ) (d n : ℕ) (s : Side) (b : ℕ) → recordAt (setWord p d (linkWord s) b) n ≡ recordAt p n
-record-link p d n L b = word-other p d n leftWord recordWord b (omega arith) (omega arith) (inr (omega arith))
-record-link p d n R b = word-other p d n rightWord recordWord b (omega arith) (omega arith) (inr (omega arith))
+record-link p d n L b = record-other p d n leftWord b (omega arith) (inr (omega arith))
+record-link p d n R b = record-other p d n rightWord b (omega arith) (inr (omega arith))
 
 -- A taken node is filled word by word, here only: what setting a word of it keeps, filling it keeps. G f u says that word f may be set to u.
 pub record Fills (G : ℕ → ℕ → Type 0) (k v : ℕ) (s : Side) (x y c : ℕ) : Type 0 where
   pub key : G keyWord k
-  pub val : G recordWord v
+  pub low : G recordLowWord (v % wordLimit)
+  pub high : G recordHighWord (v / wordLimit)
   pub near : G (linkWord s) x
   pub far : G (linkWord (other s)) y
   pub colour : G colourWord c
@@ -75,14 +77,15 @@ module _ (P : List ℕ → Type 0) (p : List ℕ) (n k v : ℕ) (s : Side) (x y 
       (put _ colourWord c (omega arith) (g .colour)
       (put _ (linkWord (other s)) y (omega (arith, link-low (other s))) (g .far)
       (put _ (linkWord s) x (omega (arith, link-low s)) (g .near)
-      (put _ recordWord v (omega arith) (g .val)
-      (put p keyWord k (omega arith) (g .key) h)))))))
+      (put _ recordHighWord (v / wordLimit) (omega arith) (g .high)
+      (put _ recordLowWord (v % wordLimit) (omega arith) (g .low)
+      (put p keyWord k (omega arith) (g .key) h))))))))
 
   -- what setting any word of it keeps
   pub fill-keeps-any : ((q : List ℕ) (f u : ℕ) → f < nodeWords → P q → P (setWord q n f u)) → P p → P (fillNode p n k v s x y c)
   fill-keeps-any put h =
       fill-keeps (λ f u. Unit {0}) (λ q f u l g i. put q f u l i)
-      record { key = tt; val = tt; near = tt; far = tt; colour = tt; standing = tt; zero = λ f. tt }
+      record { key = tt; low = tt; high = tt; near = tt; far = tt; colour = tt; standing = tt; zero = λ f. tt }
       h
 
 fill-outside : (p : List ℕ) (n k v : ℕ) (s : Side) (x y c a : ℕ) (l : List ℕ) → ¬ (n ∈ l) → Chain p a l → Chain (fillNode p n k v s x y c) a l

@@ -9,7 +9,7 @@ ghost use Rattle.texts.specs.Line.{room};
 ghost use Rattle.node_lines.specs.Shown.{nodeShown};
 
 // three numbers, each with the byte that ends its field
-fn put_three(out: &mut [u8], at: usize, a: u32, b: u32, c: u32, end: u8) -> usize
+fn put_three(out: &mut [u8], at: usize, a: u32, b: u32, c: u64, end: u8) -> usize
     requires { ⌜ at + 33 ≤ length (now out) ⌝ }
     ensures { λ r. ⌜ Put (now (out .entry)) at (decimal a ++ (tab ∷ decimal b ++ (tab ∷ decimal c ++ (end ∷ [])))) (now (out .exit)) r ⌝ }
     ensures { λ r. ⌜ r ≤ at + 33 ⌝ }

@@ -1,7 +1,7 @@
 // Document 01's numbers in code, each named once; their definitions: crate spec, Numbers.
 
-// words a node, and the least and the largest number of nodes
-pub const NODE_WORDS: usize = 8;
+// words a node (document 02, C-18), and the least and the largest number of nodes
+pub const NODE_WORDS: usize = 9;
 
 pub const LEAST_NODES: usize = 8;
 
@@ -9,6 +9,9 @@ pub const MOST_NODES: usize = 1023;
 
 // the words of a program's array: more than the longest pool has
 pub const POOL_WORDS: usize = (MOST_NODES + 1) * NODE_WORDS;
+
+// a word is below this, as is each half of a record
+pub const WORD_LIMIT: u64 = 4_294_967_296;
 
 // reader slots, as a length and as a slot's number
 pub const SLOTS: usize = 32;

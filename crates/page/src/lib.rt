@@ -32,7 +32,7 @@ const NODE_WIDTH: usize = 4;
 
 const KEY_WIDTH: usize = 10;
 
-const RECORD_WIDTH: usize = 10;
+const RECORD_WIDTH: usize = 20;
 
 const LINK_WIDTH: usize = 4;
 
@@ -45,14 +45,14 @@ fn colour_letter(pool: &[u32], n: u32) -> u8
 // Each writer below puts its text into out from position at on and answers the next position, as those of texts do.
 
 // the columns of node, key and record
-fn put_ticket(out: &mut [u8], at: usize, n: u32, k: u32, v: u32) -> usize
+fn put_ticket(out: &mut [u8], at: usize, n: u32, k: u32, v: u64) -> usize
     requires { ⌜ at + ticketBytes ≤ length (now out) ⌝ }
     ensures { λ r. ⌜ Put (now (out .entry)) at (ticketColumns (decimal n) (decimal k) (decimal v)) (now (out .exit)) r ⌝ }
     ensures { λ r. ⌜ r ≡ at + ticketBytes ⌝ }
 {
     let second = texts::put_right(out, at, 0, NODE_WIDTH, n as u64);
     let third = texts::put_right(out, second, GAP, KEY_WIDTH, k as u64);
-    texts::put_right(out, third, GAP, RECORD_WIDTH, v as u64)
+    texts::put_right(out, third, GAP, RECORD_WIDTH, v)
 }
 
 // the columns of colour, left and right, and the newline

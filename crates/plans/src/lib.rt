@@ -120,7 +120,7 @@ fn plan(w: Write, e: Ending) -> Planned
 }
 
 // Plans the insert of the key k with its record v at the empty link l.
-pub fn insert_plan(pool: &[u32], reg: Register, k: u32, v: u32, l: Link) -> Planned
+pub fn insert_plan(pool: &[u32], reg: Register, k: u32, v: u64, l: Link) -> Planned
     ensures { λ r. ⌜ r .possible ≡ insertPlan (state (now (pool .entry)) reg) k v l .possible ⌝ }
     ensures { λ r. ⌜ r .write ≡ writeOf (insertPlan (state (now (pool .entry)) reg) k v l .stores) ⌝ }
 {
@@ -130,7 +130,7 @@ pub fn insert_plan(pool: &[u32], reg: Register, k: u32, v: u32, l: Link) -> Plan
 }
 
 // Plans the insert of a held key, whose node the link l holds, with its record v. Why by `plan`: docs/DECISIONS.md, 87.
-pub fn replace_plan(v: u32, l: Link) -> Planned
+pub fn replace_plan(v: u64, l: Link) -> Planned
     ensures { λ r. ⌜ r .possible ≡ replacePlan v l .possible ⌝ }
     ensures { λ r. ⌜ r .write ≡ writeOf (replacePlan v l .stores) ⌝ }
 {

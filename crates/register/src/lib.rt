@@ -66,7 +66,7 @@ pub fn moved_reader(x: Reader, n: u32) -> Reader
 }
 
 // Makes the record of a slot that remembers the key k with its record v.
-pub fn remembering(x: Reader, k: u32, v: u32) -> Reader
+pub fn remembering(x: Reader, k: u32, v: u64) -> Reader
     ensures { λ r. ⌜ r ≡ remembering x k v ⌝ }
 {
     let kind = x.kind;

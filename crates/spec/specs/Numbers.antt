@@ -1,9 +1,9 @@
 -- 01's numbers, each named once; a definition, a contract or a proof cites the name.
-use Prim.Native.Nat.{ℕ, _+_, _*_}
+use Prim.Native.Nat.{ℕ, _+_, _-_, _*_}
 
--- 'Pool and register': the words of a node; the least and the largest number of nodes.
+-- 'Pool and register': the words of a node (02, C-18: nine); the least and the largest number of nodes.
 abbrev pub nodeWords : ℕ
-nodeWords = 8
+nodeWords = 9
 
 abbrev pub leastNodes : ℕ
 leastNodes = 8
@@ -22,9 +22,16 @@ slots = 32
 abbrev pub wordBits : ℕ
 wordBits = 32
 
+-- A word is below two to the power 32, and a record, which is two words (02, C-18), below two to the power 64.
+abbrev pub wordLimit : ℕ
+wordLimit = 4_294_967_296
+
+abbrev pub recordLimit : ℕ
+recordLimit = 18_446_744_073_709_551_616
+
 -- 02, C-17: a count and a sum of 32 bits stay at the largest value.
 abbrev pub largestWord : ℕ
-largestWord = 4294967295
+largestWord = wordLimit - 1
 
 -- 'Calls': a path from the root has at most 64 nodes.
 abbrev pub pathBound : ℕ

@@ -8,17 +8,21 @@ use lib.Dec.{eqb, leb}
 use Rattle.base.specs.Walk.{allIn}
 use Rattle.datatypes.specs.declared.Side.{Side}
 use Rattle.datatypes.specs.declared.Side.the-variants.{L, R}
-use Rattle.spec.specs.Numbers.{nodeWords, leastNodes, mostNodes}
+use Rattle.spec.specs.Numbers.{nodeWords, wordLimit, leastNodes, mostNodes}
 
--- A node's words in order, each after the one before: key 0, record 1, left 2, right 3, colour 4, standing 5, holders 6, next free 7.
+-- A node's words in order, each after the one before: key 0, record low 1 and high 2 (02, C-18: two words, low word first), left 3, right 4,
+-- colour 5, standing 6, holders 7, next free 8.
 abbrev pub keyWord : ℕ
 keyWord = 0
 
-abbrev pub recordWord : ℕ
-recordWord = keyWord + 1
+abbrev pub recordLowWord : ℕ
+recordLowWord = keyWord + 1
+
+abbrev pub recordHighWord : ℕ
+recordHighWord = recordLowWord + 1
 
 abbrev pub leftWord : ℕ
-leftWord = recordWord + 1
+leftWord = recordHighWord + 1
 
 abbrev pub rightWord : ℕ
 rightWord = leftWord + 1
@@ -73,12 +77,12 @@ word p n f = cond (eqb n 0) 0 (getD p (place n f) 0)
 unfoldable pub setWord : List ℕ → ℕ → ℕ → ℕ → List ℕ
 setWord p n f v = cond (eqb n 0) p (set p (place n f) v)
 
--- node n's record, which is one word; the pool with it changed to v
-abbrev pub recordAt : List ℕ → ℕ → ℕ
-recordAt p n = word p n recordWord
+-- node n's record, the number whose low and high 32 bits are its two words; the pool with it changed to v
+unfoldable pub recordAt : List ℕ → ℕ → ℕ
+recordAt p n = word p n recordLowWord + word p n recordHighWord * wordLimit
 
 abbrev pub setRecord : List ℕ → ℕ → ℕ → List ℕ
-setRecord p n v = setWord p n recordWord v
+setRecord p n v = setWord (setWord p n recordLowWord (v % wordLimit)) n recordHighWord (v / wordLimit)
 
 -- the pool with node n's ticket, key and record, changed
 abbrev pub setTicket : List ℕ → ℕ → ℕ → ℕ → List ℕ
@@ -95,8 +99,9 @@ isRed p n = eqb (word p n colourWord) redColour
 abbrev pub paint : List ℕ → ℕ → ℕ → List ℕ
 paint p n colour = setWord p n colourWord colour
 
--- Key and record are any 32-bit numbers, and so is holders: with 32 slots (02, C-15) each of its bits is a slot's. A pool is lent as 32-bit
--- words, so a test of these three could not fail, and none is made. Links are 0 to N; colour 0 or 1; standing 0 to 2; next free a link.
+-- Key and the record's two words are any 32-bit numbers, and so is holders: with 32 slots (02, C-15) each of its bits is a slot's. A pool is
+-- lent as 32-bit words, so a test of these four could not fail, and none is made. Links are 0 to N; colour 0 or 1; standing 0 to 2; next free
+-- a link.
 unfoldable pub nodeInRange : List ℕ → ℕ → ℕ → Bool
 nodeInRange p capacity n =
     leb (word p n leftWord) capacity && leb (word p n rightWord) capacity

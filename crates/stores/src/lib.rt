@@ -24,7 +24,7 @@ ghost use Rattle.heads.specs.Head.{Follows, Tries, TriesReading};
 ghost use Rattle.stores.specs.Published.{Publishes};
 
 // Stores a new red node in the link l; one key more is held.
-fn link_new(pool: &mut [u32], h: Head, l: Link, k: u32, v: u32) -> Head
+fn link_new(pool: &mut [u32], h: Head, l: Link, k: u32, v: u64) -> Head
     requires { ⌜ length (now pool) < poolLimit ⌝ }
     ensures { λ r. ⌜ Follows (λ st. oneMore (setLink (takeNode st k v L 0 0 redColour) l (h .first))) (now (pool .entry)) h (now (pool .exit)) r ⌝ }
 {
@@ -50,7 +50,7 @@ fn end_insert(pool: &mut [u32], root: u32, e: Ending)
 }
 
 // Inserts under a black parent, or at the root: nothing but the root's colour changes besides.
-fn insert_under_black(pool: &mut [u32], h: Head, l: Link, k: u32, v: u32) -> StepResult
+fn insert_under_black(pool: &mut [u32], h: Head, l: Link, k: u32, v: u64) -> StepResult
     requires { ⌜ (length (now pool) < poolLimit) × (isRed (now pool) (owner l) ≡ false) × (h .first ≡ 0 → ⊥) ⌝ }
     ensures { λ r. ⌜ Tries l (Insert k v) (now (pool .entry)) h (now (pool .exit)) r ⌝ }
 {
@@ -73,7 +73,7 @@ fn insert_under_black(pool: &mut [u32], h: Head, l: Link, k: u32, v: u32) -> Ste
 //     P r   A r    =>   P b   A b
 //                      /
 //                    z r
-fn insert_under_red(pool: &mut [u32], h: Head, l: Link, k: u32, v: u32) -> StepResult
+fn insert_under_red(pool: &mut [u32], h: Head, l: Link, k: u32, v: u64) -> StepResult
     requires { ⌜ (length (now pool) < poolLimit) × (isRed (now pool) (owner l) ≡ true) × (h .first ≡ 0 → ⊥) ⌝ }
     ensures { λ r. ⌜ Tries l (Insert k v) (now (pool .entry)) h (now (pool .exit)) r ⌝ }
 {
@@ -97,7 +97,7 @@ fn insert_under_red(pool: &mut [u32], h: Head, l: Link, k: u32, v: u32) -> StepR
 }
 
 // Inserts: stores a new red node in the empty link l and makes the fix-up's colour work. This is the write's list store.
-pub fn insert(pool: &mut [u32], h: Head, l: Link, k: u32, v: u32) -> StepResult
+pub fn insert(pool: &mut [u32], h: Head, l: Link, k: u32, v: u64) -> StepResult
     requires { ⌜ length (now pool) < poolLimit ⌝ }
     ensures { λ r. ⌜ Tries l (Insert k v) (now (pool .entry)) h (now (pool .exit)) r ⌝ }
 {
@@ -116,7 +116,7 @@ pub fn insert(pool: &mut [u32], h: Head, l: Link, k: u32, v: u32) -> StepResult
 //        B               B'           B retired: its children are l and r
 //       / \             / \
 //      l   r     =>    l   r
-pub fn replace(pool: &mut [u32], h: Head, reading: u32, l: Link, v: u32) -> StepResult
+pub fn replace(pool: &mut [u32], h: Head, reading: u32, l: Link, v: u64) -> StepResult
     requires { ⌜ length (now pool) < poolLimit ⌝ }
     ensures { λ r. ⌜ TriesReading reading l (Replace v) (now (pool .entry)) h (now (pool .exit)) r ⌝ }
 {
