@@ -20,6 +20,7 @@ use Rattle.spec.specs.Register.{State, withQueue, readingSlots}
 use Rattle.spec.specs.Free.{queueEmpty, takeFree, fillNode, takeNode, freeNode, retire, retireTwo}
 use Rattle.spec.specs.FreeQueue.{InPool}
 use Rattle.laws.specs.Words.{length-setWord, word-set}
+use Rattle.laws.specs.Records.{halves}
 use Rattle.tree.specs.Linked.{Linked, at, nodes}
 use Rattle.tree.specs.Occurs.{occ, occ-apart}
 use Rattle.heap.specs.Rep.{Rep, rep-at, Agree, rep-agree, Alike, alike-trans, alike-set, upToColour}
@@ -36,7 +37,7 @@ pub record Filled (p q : List ℕ) (n k v : ℕ) (s : Side) (x y c : ℕ) : Type
   pub colour-is : colours q n ≡ hue c
 
 pub fill-node : (p : List ℕ) (n k v : ℕ) (s : Side) (x y c : ℕ) → InPool p n → Filled p (fillNode p n k v s x y c) n k v s x y c
-unfolding fillNode
+unfolding fillNode recordAt
 fill-node p n k v L x y c w =
     let a = le-leb 1 n (w .low) in
     let b = le-leb (n * nodeWords) (length p) (w .high) in
@@ -45,7 +46,7 @@ fill-node p n k v L x y c w =
       size = simp length-setWord;
       others = λ m f d h. simp (word-set, length-setWord, a, b, ne-eqb n m d, lt-ltb f nodeWords h);
       key-is = simp (word-set, length-setWord, a, b, e);
-      val-is = simp (word-set, length-setWord, a, b, e);
+      val-is = simp (word-set, length-setWord, a, b, e) (halves v);
       near-is = simp (word-set, length-setWord, a, b, e);
       far-is = simp (word-set, length-setWord, a, b, e);
       colour-is = colours-is _ n c (simp (word-set, length-setWord, a, b, e));
@@ -58,7 +59,7 @@ fill-node p n k v R x y c w =
       size = simp length-setWord;
       others = λ m f d h. simp (word-set, length-setWord, a, b, ne-eqb n m d, lt-ltb f nodeWords h);
       key-is = simp (word-set, length-setWord, a, b, e);
-      val-is = simp (word-set, length-setWord, a, b, e);
+      val-is = simp (word-set, length-setWord, a, b, e) (halves v);
       near-is = simp (word-set, length-setWord, a, b, e);
       far-is = simp (word-set, length-setWord, a, b, e);
       colour-is = colours-is _ n c (simp (word-set, length-setWord, a, b, e));

@@ -10,9 +10,10 @@ use Rattle.datatypes.specs.declared.Side.{Side}
 use Rattle.datatypes.specs.declared.Side.the-variants.{L, R}
 use Rattle.datatypes.specs.Side.{other}
 use Rattle.spec.specs.Numbers.{nodeWords}
-use Rattle.spec.specs.Pool.{word, setWord, child, keyWord, recordAt, recordWord, rightWord, colourWord, leftWord}
+use Rattle.spec.specs.Pool.{word, setWord, child, keyWord, recordAt, rightWord, colourWord, leftWord}
 use Rattle.spec.specs.FreeQueue.{InPool}
 use Rattle.laws.specs.Words.{length-setWord, word-other}
+use Rattle.laws.specs.Records.{record-kept}
 use Rattle.tree.specs.Linked.{Node, Linked, nil, cell, at, nodes}
 use Rattle.tree.specs.Occurs.{one-same, one-other, occ, occ-append, occ-apart}
 
@@ -49,7 +50,7 @@ words-agree p q e h w = record {
   is = w .is;
   within = record { low = w .within .low; high = rw e (w .within .high) };
   key-is = h keyWord (omega arith) ∙ w .key-is;
-  val-is = h recordWord (omega arith) ∙ w .val-is;
+  val-is = record-kept p q _ (λ f l. h f (omega arith)) ∙ w .val-is;
 }
 
 -- a pool that agrees at the tree's nodes has the tree

@@ -4,7 +4,7 @@ use mathlib.Core.List.{List}
 use mathlib.Core.Logic.{_≢_, _⊎_, inl, inr}
 use lib.ListN.{length}
 use native.Mathlib.Omega.{arith}
-use Prim.Native.Nat.{ℕ, _+_, _*_, _/_, _%_, _<_}
+use Prim.Native.Nat.{ℕ, _+_, _*_, _/_, _%_, _<_, _≤_}
 use Rattle.spec.specs.Numbers.{nodeWords, wordLimit, recordLimit}
 use Rattle.spec.specs.Pool.{word, setWord, recordAt, setRecord, recordLowWord, recordHighWord}
 use Rattle.spec.specs.FreeQueue.{InPool}
@@ -16,8 +16,8 @@ pub record-words : (p q : List ℕ) (n m : ℕ) → word q m recordLowWord ≡ w
 unfolding recordAt
 record-words p q n m low high = rw (low, high)
 
--- a node all of whose words stay keeps its record
-pub record-kept : (p q : List ℕ) (n : ℕ) → ((f : ℕ) → f < nodeWords → word q n f ≡ word p n f) → recordAt q n ≡ recordAt p n
+-- a node whose words up to the record's high one stay keeps its record
+pub record-kept : (p q : List ℕ) (n : ℕ) → ((f : ℕ) → f ≤ recordHighWord → word q n f ≡ word p n f) → recordAt q n ≡ recordAt p n
 record-kept p q n h = record-words p q n n (h recordLowWord (omega arith)) (h recordHighWord (omega arith))
 
 -- no node has the record 0
