@@ -5,9 +5,10 @@ use mathlib.Core.List.{List, [], _∷_}
 use native.Mathlib.Omega.{arith}
 use lib.ListN.{length}
 use Rattle.datatypes.specs.declared.Link.{Link}
-use Rattle.spec.specs.Pool.{word, keyWord, recordWord, linkWord, standingWord, holdersWord, nextWord}
+use Rattle.spec.specs.Pool.{word, keyWord, linkWord, standingWord, holdersWord, nextWord}
 use Rattle.spec.specs.Register.{State, state}
 use Rattle.spec.specs.FreeQueue.{Chain}
+use Rattle.laws.specs.Records.{record-kept}
 use Rattle.laws.specs.Queue.{link-low}
 use Rattle.heap.specs.ColourWork.{ColoursOnly}
 use Rattle.readers.specs.Words.{node-length}
@@ -55,7 +56,7 @@ stored-recoloured st a b came l v t h = record {
   standing = λ n i. t .only .words n standingWord (omega arith) (omega arith) ∙ h .standing n i;
   holders = λ n i. t .only .words n holdersWord (omega arith) (omega arith) ∙ h .holders n i;
   keys = λ n i. t .only .words n keyWord (omega arith) (omega arith) ∙ h .keys n i;
-  records = λ n i. t .only .words n recordWord (omega arith) (omega arith) ∙ h .records n i;
+  records = λ n i. record-kept (a .pool) (b .pool) n (λ f u. t .only .words n f (omega arith) (omega arith)) ∙ h .records n i;
   links = λ n z i. t .only .words n (linkWord z) (let u = link-low z in omega arith) (let u = link-low z in omega arith) ∙ h .links n z i;
   new = λ n i. (let e = h .new n i in (e .0, t .only .words n standingWord (omega arith) (omega arith) ∙ e .1));
   root = t .root ∙ h .root;

@@ -16,12 +16,13 @@ use Rattle.datatypes.specs.declared.Link.the-variants.{Root, Left, Right}
 use Rattle.datatypes.specs.declared.Register.{Register}
 use Rattle.datatypes.specs.Side.{sameSide}
 use Rattle.spec.specs.Numbers.{nodeWords, slots}
-use Rattle.spec.specs.Pool.{word, setWord, child, keyWord, recordAt, recordWord, leftWord, rightWord, linkWord, colourWord, standingWord, holdersWord, standingFree, standingLinked}
+use Rattle.spec.specs.Pool.{word, setWord, child, keyWord, recordAt, leftWord, rightWord, linkWord, colourWord, standingWord, holdersWord, standingFree, standingLinked}
 use Rattle.spec.specs.Register.{State, state, withRoot, withQueue, setLink}
 use Rattle.spec.specs.Free.{takeFree, takeNode}
 use Rattle.base.specs.Lists.{_∈_}
 use Rattle.spec.specs.FreeQueue.{InPool}
 use Rattle.laws.specs.Words.{length-setWord, word-same, word-other}
+use Rattle.laws.specs.Records.{record-kept}
 use Rattle.laws.specs.Queue.{link-low, key-link, record-link}
 use Rattle.laws.specs.Reading.{ReadingOnly}
 use Rattle.promise.specs.Demands.{TreeLink}
@@ -143,7 +144,7 @@ taking-stored st n q k w s x y c l v whole o h =
       standing = λ m i. g .standing m (λ z. z) ∙ out m standingWord (omega arith) i;
       holders = λ m i. g .holders m (λ z. z) ∙ out m holdersWord (omega arith) i;
       keys = λ m i. g .keys m (λ z. z) ∙ out m keyWord (omega arith) i;
-      records = λ m i. g .records m (λ z. z) ∙ out m recordWord (omega arith) i;
+      records = λ m i. g .records m (λ z. z) ∙ record-kept p (base .pool) m (λ f u. out m f (omega arith) i);
       links = λ m z i. g .links m z (λ z. z) ∙ ap (cond (hitsLink l m z) v) (out m (linkWord z) (let u = link-low z in omega arith) i);
       new = λ m i. only m i (here .1, g .standing n (λ z. z) ∙ subst (λ i. HasStanding (base .pool) i standingLinked) first (fill-standing p a k w s x y c ha));
       root = g .root;

@@ -15,13 +15,14 @@ use Rattle.datatypes.specs.declared.Link.{Link}
 use Rattle.datatypes.specs.declared.Link.the-variants.{Root, Left, Right}
 use Rattle.datatypes.specs.declared.Write.{Write}
 use Rattle.datatypes.specs.Side.{linkAt, owner, owner-at}
-use Rattle.spec.specs.Pool.{word, child, linkWord, keyWord, recordAt, recordWord, standingWord, holdersWord, standingFree, standingLinked, standingRetired}
+use Rattle.spec.specs.Pool.{word, child, linkWord, keyWord, recordAt, standingWord, holdersWord, standingFree, standingLinked, standingRetired}
 use Rattle.spec.specs.Register.{State, state, nodeAt, linkNode, withWrite}
 use Rattle.spec.specs.Free.{retire, retireTwo}
 use Rattle.base.specs.Lists.{_∈_}
 use Rattle.spec.specs.FreeQueue.{InPool}
 use Rattle.laws.specs.Queue.{link-low}
 use Rattle.laws.specs.Words.{word-none}
+use Rattle.laws.specs.Records.{record-kept}
 use Rattle.laws.specs.Reading.{readingIn}
 use Rattle.promise.specs.Run.{Reads}
 use Rattle.promise.specs.Demands.{TreeLink, StoresOne}
@@ -139,7 +140,7 @@ module _ (st mid after : State) (q came gone : List ℕ) (l : Link) (v : ℕ) (w
     linked = linked-of;
     new = λ n i. s .new n i .0;
     keys = λ n i. quiet .words .words n keyWord (omega arith) ∙ s .keys n i;
-    records = λ n i. quiet .words .words n recordWord (omega arith) ∙ s .records n i;
+    records = λ n i. record-kept (mid .pool) (after .pool) n (λ f u. quiet .words .words n f (omega arith)) ∙ s .records n i;
     links = λ n z i. same-link n z ∙ s .links n z i;
     root = quiet .fields .root ∙ s .root;
     readers = quiet .fields .readers ∙ s .readers;
