@@ -20,7 +20,7 @@ use Rattle.datatypes.specs.declared.Reader.{Reader}
 use Rattle.datatypes.specs.declared.Write.{Write}
 use Rattle.datatypes.specs.Side.{other}
 use Rattle.spec.specs.Numbers.{nodeWords}
-use Rattle.spec.specs.Pool.{place, word, setWord, child, paint, nodes, keyWord, recordWord, leftWord, rightWord, linkWord, redColour, standingRetired}
+use Rattle.spec.specs.Pool.{place, word, setWord, child, paint, nodes, recordHighWord, leftWord, rightWord, linkWord, redColour, standingRetired}
 use Rattle.spec.specs.Pool.{colourWord, standingWord, holdersWord, nextWord, standingFree, standingLinked, standingRetired}
 use Rattle.spec.specs.Register.{State, state, noReader, readerOf, withRoot, withQueue, withHeld, withReader, withAwaited, withWrite, countUp}
 use Rattle.spec.specs.Register.{countDown, nodeAt, linkNode, setLink, dropSlot, readingSlots}
@@ -68,12 +68,9 @@ fits-set capacity p d f v hf fit h m g hg = go (set-cases p d m f g v hf hg)
     go (inr (inl e)) = rw (e .1) (subst (λ x. WordOk capacity x v) (e .0) fit)
     go (inr (inr e)) = rw e (fit-zero capacity g)
 
--- values that fit
-fit-key : (capacity v : ℕ) → WordOk capacity keyWord v
-fit-key capacity v = omega arith
-
-fit-record : (capacity v : ℕ) → WordOk capacity recordWord v
-fit-record capacity v = omega arith
+-- values that fit: of key and record any
+fit-ticket : (capacity f v : ℕ) → f ≤ recordHighWord → WordOk capacity f v
+fit-ticket capacity f v h = omega arith
 
 fit-link : (capacity : ℕ) (s : Side) (v : ℕ) → v ≤ capacity → WordOk capacity (linkWord s) v
 fit-link capacity L v h = omega arith
@@ -143,8 +140,9 @@ within-take capacity st k v s x y c hx hy hc h =
     record {
       size = ap (λ m. m / nodeWords) (fill-length p n k v s x y c) ∙ h .size;
       fits = fill-keeps (PoolOk capacity) p n k v s x y c (WordOk capacity) (λ q f u. fits-set capacity q n f u) record {
-        key = fit-key capacity k;
-        val = fit-record capacity v;
+        key = fit-ticket capacity _ k (omega arith);
+        low = fit-ticket capacity _ _ (omega arith);
+        high = fit-ticket capacity _ _ (omega arith);
         near = fit-link capacity s x hx;
         far = fit-link capacity (other s) y hy;
         colour = fit-colour capacity c hc;
