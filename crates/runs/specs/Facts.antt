@@ -13,12 +13,13 @@ use Rattle.base.specs.Lists.{_∈_, in-append}
 use Rattle.datatypes.specs.declared.Link.{Link}
 use Rattle.datatypes.specs.declared.Kind.{Kind}
 use Rattle.spec.specs.Numbers.{slots}
-use Rattle.spec.specs.Pool.{word, keyWord, recordAt, recordWord, standingWord, holdersWord, standingFree, standingLinked, standingRetired}
+use Rattle.spec.specs.Pool.{word, keyWord, recordAt, standingWord, holdersWord, standingFree, standingLinked, standingRetired}
 use Rattle.spec.specs.Register.{State, hasSlot, dropSlot}
 use Rattle.spec.specs.Free.{endReading}
 use Rattle.spec.specs.Calls.{ok, Outcome, reading, Call, beginning, call}
 use Rattle.spec.specs.PlainList.{Plain, recordFor}
 use Rattle.laws.specs.Slots.{drop-same, drop-other}
+use Rattle.laws.specs.Records.{record-kept}
 use Rattle.tree.specs.Linked.{Linked, nil, cell, find, nodes}
 use Rattle.tree.specs.Tickets.{Tickets}
 use Rattle.heap.specs.Rep.{Rep}
@@ -71,7 +72,7 @@ end-was st t s m safe h =
     record {
       kept = inr (o .0, sym (drop-other holders t s apart) ∙ bit);
       key = r .words m keyWord (omega arith);
-      value = r .words m recordWord (omega arith);
+      value = record-kept (st .pool) (endReading st t .pool) m (λ f u. r .words m f (omega arith));
     }
 
 -- a store
