@@ -23,7 +23,7 @@ use Rattle.laws.specs.Words.{length-setWord, word-set}
 use Rattle.laws.specs.Records.{halves}
 use Rattle.tree.specs.Linked.{Linked, at, nodes}
 use Rattle.tree.specs.Occurs.{occ, occ-apart}
-use Rattle.heap.specs.Rep.{Rep, rep-at, Agree, rep-agree, Alike, alike-trans, alike-set, upToColour}
+use Rattle.heap.specs.Rep.{Rep, rep-at, Agree, agree-words, rep-agree, Alike, alike-trans, alike-set, upToColour}
 use Rattle.heap.specs.Colours.{hue, colours, colours-word, colours-is}
 
 -- q is p with node n filled
@@ -68,7 +68,7 @@ fill-node p n k v R x y c w =
 module _ {p q : List ℕ} {n k v : ℕ} {s : Side} {x y c : ℕ} (h : Filled p q n k v s x y c) where
   -- trees without the new node stay
   pub filled-agree : (m : ℕ) → n ≢ m → Agree p q m
-  filled-agree m d f l = h .others m f d (omega arith)
+  filled-agree m d = agree-words p q m (λ f l. h .others m f d (omega arith))
 
   pub filled-keeps : (t : Linked) (a : ℕ) → occ n (nodes t) ≡ 0 → Rep p a t → Rep q a t
   filled-keeps t a o r = rep-agree p q (h .size) t a (λ m i. filled-agree m (occ-apart n m (nodes t) o i)) r

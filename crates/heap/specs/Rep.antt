@@ -10,10 +10,11 @@ use Rattle.datatypes.specs.declared.Side.{Side}
 use Rattle.datatypes.specs.declared.Side.the-variants.{L, R}
 use Rattle.datatypes.specs.Side.{other}
 use Rattle.spec.specs.Numbers.{nodeWords}
-use Rattle.spec.specs.Pool.{word, setWord, child, keyWord, recordAt, rightWord, colourWord, leftWord}
+use Rattle.spec.specs.Pool.{word, setWord, child, keyWord, recordAt, linkWord, rightWord, colourWord}
 use Rattle.spec.specs.FreeQueue.{InPool}
 use Rattle.laws.specs.Words.{length-setWord, word-other}
 use Rattle.laws.specs.Records.{record-kept}
+use Rattle.laws.specs.Queue.{link-low}
 use Rattle.tree.specs.Linked.{Node, Linked, nil, cell, at, nodes}
 use Rattle.tree.specs.Occurs.{one-same, one-other, occ, occ-append, occ-apart}
 
@@ -41,16 +42,25 @@ upToLinks = rightWord + 1
 abbrev pub upToColour : ℕ
 upToColour = colourWord + 1
 
--- the words of key, record and links of node n are the same in q
-abbrev pub Agree : List ℕ → List ℕ → ℕ → Type 0
-Agree p q n = (f : ℕ) → f < upToLinks → word q n f ≡ word p n f
+-- key, record and links of node n are the same in q
+pub record Agree (p q : List ℕ) (n : ℕ) : Type 0 where
+  pub key : word q n keyWord ≡ word p n keyWord
+  pub value : recordAt q n ≡ recordAt p n
+  pub links : (s : Side) → child q s n ≡ child p s n
+
+pub agree-words : (p q : List ℕ) (n : ℕ) → ((f : ℕ) → f < upToLinks → word q n f ≡ word p n f) → Agree p q n
+agree-words p q n h = record {
+  key = h keyWord (omega arith);
+  value = record-kept p q n (λ f l. h f (omega arith));
+  links = λ s. h (linkWord s) (link-low s);
+}
 
 pub words-agree : (p q : List ℕ) {a : ℕ} {N : Node} → length q ≡ length p → Agree p q (N .num) → Words p a N → Words q a N
 words-agree p q e h w = record {
   is = w .is;
   within = record { low = w .within .low; high = rw e (w .within .high) };
-  key-is = h keyWord (omega arith) ∙ w .key-is;
-  val-is = record-kept p q _ (λ f l. h f (omega arith)) ∙ w .val-is;
+  key-is = h .key ∙ w .key-is;
+  val-is = h .value ∙ w .val-is;
 }
 
 -- a pool that agrees at the tree's nodes has the tree
@@ -59,8 +69,8 @@ rep-agree p q e nil a h r = r
 rep-agree p q e (cell N l r) a h w =
     let top = h (N .num) (let x = one-same (N .num) in omega arith) in (
       words-agree p q e top (w .0),
-      rw (top leftWord (omega arith)) (rep-agree p q e l _ (λ n i. h n (let x = occ-append n (nodes l) (nodes r) in omega arith)) (w .1)),
-      rw (top rightWord (omega arith)) (rep-agree p q e r _ (λ n i. h n (let x = occ-append n (nodes l) (nodes r) in omega arith)) (w .2)),
+      rw (top .links L) (rep-agree p q e l _ (λ n i. h n (let x = occ-append n (nodes l) (nodes r) in omega arith)) (w .1)),
+      rw (top .links R) (rep-agree p q e r _ (λ n i. h n (let x = occ-append n (nodes l) (nodes r) in omega arith)) (w .2)),
     )
 
 -- q has the same words below the k-th of each node
@@ -81,11 +91,11 @@ pub alike-set : (k : ℕ) (p : List ℕ) (n f v : ℕ) → k ≤ f → f < nodeW
 alike-set k p n f v l h = record { size = length-setWord p n f v; words = λ m g i. word-other p n m f g v h (omega arith) (inr (omega arith)) }
 
 pub rep-alike : {p q : List ℕ} → Alike upToLinks p q → (t : Linked) (a : ℕ) → Rep p a t → Rep q a t
-rep-alike {p} {q} h t a r = rep-agree p q (h .size) t a (λ n _. h .words n) r
+rep-alike {p} {q} h t a r = rep-agree p q (h .size) t a (λ n _. agree-words p q n (h .words n)) r
 
 -- a change of a node that does not occur
 pub set-elsewhere : (p : List ℕ) (d f v n : ℕ) → f < nodeWords → d ≢ n → Agree p (setWord p d f v) n
-set-elsewhere p d f v n h e g i = word-other p d n f g v h (omega arith) (inl e)
+set-elsewhere p d f v n h e = agree-words p (setWord p d f v) n (λ g i. word-other p d n f g v h (omega arith) (inl e))
 
 pub rep-elsewhere : (p : List ℕ) (d f v : ℕ) → f < nodeWords → (t : Linked) (a : ℕ) → occ d (nodes t) ≡ 0 → Rep p a t → Rep (setWord p d f v) a t
 rep-elsewhere p d f v h t a o r = rep-agree p (setWord p d f v) (length-setWord p d f v) t a (λ n i. set-elsewhere p d f v n h (occ-apart d n (nodes t) o i)) r

@@ -19,7 +19,7 @@ use Rattle.laws.specs.Queue.{link-low, key-link, record-link}
 use Rattle.tree.specs.Linked.{Node, Linked, at, nodes}
 use Rattle.tree.specs.Zipper.{Frame, hole, plug}
 use Rattle.tree.specs.Occurs.{one-same, occ, occWay, occ-plug}
-use Rattle.heap.specs.Rep.{Words, Rep, rep-at, Agree, words-agree, rep-agree, Alike, set-elsewhere, rep-elsewhere, upToLinks}
+use Rattle.heap.specs.Rep.{Words, Rep, rep-at, Agree, agree-words, words-agree, rep-agree, Alike, set-elsewhere, rep-elsewhere, upToLinks}
 
 -- the link at the hole, and the path of links from it up to the root link
 abbrev pub linkTo : List Frame → Link
@@ -85,14 +85,14 @@ links-apart R = omega arith
 pub linkTo-agree : (p q : List ℕ) (root : ℕ) (fs : List Frame) → ((n : ℕ) → 0 < occWay n fs → Agree p q n) → nodeAt q root (linkTo fs) ≡ nodeAt p root (linkTo fs)
 linkTo-agree p q root [] h = rw (node-root p root, node-root q root)
 linkTo-agree p q root (hole s N y ∷ fs) h =
-    rw (node-at p root s (N .num), node-at q root s (N .num)) (h (N .num) (let x = one-same (N .num) in omega arith) (linkWord s) (link-low s))
+    rw (node-at p root s (N .num), node-at q root s (N .num)) (h (N .num) (let x = one-same (N .num) in omega arith) .links s)
 
 pub way-agree : (p q : List ℕ) (root : ℕ) → length q ≡ length p → (fs : List Frame) → ((n : ℕ) → 0 < occWay n fs → Agree p q n) → Way p root fs → Way q root fs
 way-agree p q root e [] h w = tt
 way-agree p q root e (hole s N y ∷ fs) h w =
     let top = h (N .num) (let x = one-same (N .num) in omega arith) in (
       rw (linkTo-agree p q root fs (λ n i. h n (omega arith))) (words-agree p q e top (w .0)),
-      rw (top (linkWord (other s)) (link-low (other s))) (rep-agree p q e y _ (λ n i. h n (omega arith)) (w .1)),
+      rw (top .links (other s)) (rep-agree p q e y _ (λ n i. h n (omega arith)) (w .1)),
       way-agree p q root e fs (λ n i. h n (omega arith)) (w .2),
     )
 
@@ -104,7 +104,7 @@ site-agree p q root e fs t h i = record {
 }
 
 pub site-alike : {p q : List ℕ} → Alike upToLinks p q → (root : ℕ) (fs : List Frame) (t : Linked) → Site p root fs t → Site q root fs t
-site-alike {p} {q} a root fs t h = site-agree p q root (a .size) fs t (λ n _. a .words n) h
+site-alike {p} {q} a root fs t h = site-agree p q root (a .size) fs t (λ n _. agree-words p q n (a .words n)) h
 
 -- A store of the link at the hole. Its node stands nowhere else on the way or in the new subtree.
 abbrev pub Clear : List Frame → Linked → Type 0

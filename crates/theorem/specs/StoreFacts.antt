@@ -1,6 +1,6 @@
 -- A turn on a phase (heap: Writes.turn) gives all that the readers' side asks of a store (runs: Writer.Stores), and the nodes linked afterwards are
 -- again those of the tree.
-use Prim.Native.Nat.{ℕ, zero, suc}
+use Prim.Native.Nat.{ℕ}
 use mathlib.Core.Path.{_≡_, refl, sym, ap, _∙_, subst}
 use mathlib.Core.Logic.{_≢_, _⊎_, inl, inr, ⊎-elim, _↔_}
 use mathlib.Core.Bool.{Bool, true, false, cond}
@@ -98,11 +98,7 @@ tree-still st after came gone k v T T′ t h h′ lk e =
     (rep-agree p (after .pool) (t .size) T root (λ n u. agree n (old n (occ-in n (nodes T) u))) h) h′
   where
     agree : (n : ℕ) → ¬ (n ∈ came) → Agree (st .pool) (after .pool) n
-    agree n d zero u = t .keys n d
-    agree n d (suc zero) u = t .records n d
-    agree n d (suc (suc zero)) u = t .links n L d ∙ links-still (st .pool) (st .register .root) k v e n L
-    agree n d (suc (suc (suc zero))) u = t .links n R d ∙ links-still (st .pool) (st .register .root) k v e n R
-    agree n d (suc (suc (suc (suc f)))) u = absurd (omega arith)
+    agree n d = record { key = t .keys n d; value = t .records n d; links = λ z. t .links n z d ∙ links-still (st .pool) (st .register .root) k v e n z }
 
 -- awaited slots afterwards
 await-slots : (x : Step) (r : Register) → ReadingOnly slots (r .readers) (r .awaited) → ReadingOnly slots (r .readers) (awaitedAfter x r)
