@@ -130,7 +130,7 @@ pub record Computed : Type 0 where
   pub listedLast : recordFor 3 (ticketsAfter start replacing 7) ≡ some 31
 
 pub computed : Computed
-unfolding after rel allFrom allIn foldFrom foldIn word setWord nodeInRange poolInRange lengthRight freshNodes freshPool withRoot withQueue withHeld
+unfolding after rel allFrom allIn foldFrom foldIn word setWord recordAt nodeInRange poolInRange lengthRight freshNodes freshPool withRoot withQueue withHeld
     withReader withAwaited withWrite nodeAt setLink putSlot dropSlot readingSlots storeInRange registerInRange freshRegister fresh writeOf lessFirst takeFree fillNode
     takeNode freeNode retire release endReading seek trail insertFixup fixupAfterInsert paintInsertFixup deleteFixup fixupAfterRemoval paintDeleteLevels paintDeleteFixup
     insertPlan unlinkPlan deletePlan leftmost unlinkStore adoptStore promoteStore insertStore replaceStore stepFinds stepMade insert delete stored writerTurn begin readerStep readerTurn turnCount
