@@ -11,8 +11,10 @@ use Rattle.pool.proofs.fill_whole.Statement.{statement}
 use Rattle.pool.proofs.fill_whole.Tie as tie
 use Rattle.pool.proofs.fill_whole.Reads as reads
 use Rattle.pool.proofs.fill_whole.Lts as lts
-use Rattle.pool.proofs.link_place.Reads as link-place-reads
 use Rattle.links.proofs.other.Reads as other-reads
+use Rattle.pool.proofs.high_word.Reads as high-word-reads
+use Rattle.pool.proofs.link_place.Reads as link-place-reads
+use Rattle.pool.proofs.low_word.Reads as low-word-reads
 
 mul-i : tie.Need-mul-i
 mul-i c = search needs
@@ -28,6 +30,12 @@ other-requires c κs = search needs
 
 link-place-requires-2 : tie.Need-link-place-requires-2
 link-place-requires-2 c κs = search needs
+
+low-word-requires : tie.Need-low-word-requires
+low-word-requires c κs = search needs
+
+high-word-requires : tie.Need-high-word-requires
+high-word-requires c κs = search needs
 
 mul-pool : tie.Need-mul-pool
 mul-pool c = search needs
@@ -98,14 +106,35 @@ mul-pool-8 c = search needs
 slice-write-pool-8 : tie.Need-slice-write-pool-8
 slice-write-pool-8 c = simp length-set (omega arith)
 
+add-pool-8 : tie.Need-add-pool-8
+add-pool-8 c = search needs
+
+mul-pool-9 : tie.Need-mul-pool-9
+mul-pool-9 c = search needs
+
+slice-write-pool-9 : tie.Need-slice-write-pool-9
+slice-write-pool-9 c = simp length-set (omega arith)
+
 same-length : tie.Need-same-length
 same-length c = simp length-set
 
 returns : tie.Need-returns
 unfolding fillNode setWord
-returns c = let a = c .before .before .before .before .args in let h = c .before .before .before .before .pre in
+returns c =
+    let c2 = c .before .before in
+    let c4 = c2 .before .before in
+    let a = c4 .before .before .args in
+    let h = c4 .before .before .pre in
     let first : place (a .n) 0 ≡ a .n * nodeWords - nodeWords = omega arith in
-    rw (ne-eqb (a .n) 0 (λ e. omega arith), first, c .link-place2 .ensures .0, c .before .other .ensures, c .before .before .link-place .ensures .0)
+    rw (
+      ne-eqb (a .n) 0 (λ e. omega arith),
+      first,
+      c .high-word .ensures,
+      c .before .low-word .ensures,
+      c2 .link-place2 .ensures .0,
+      c2 .before .other .ensures,
+      c4 .link-place .ensures .0,
+    )
 
 pub fill-whole-spec : {M : Type 1} → statement M
 fill-whole-spec =
@@ -116,6 +145,8 @@ fill-whole-spec =
     link-place-requires
     other-requires
     link-place-requires-2
+    low-word-requires
+    high-word-requires
     mul-pool
     slice-write-pool
     add-pool
@@ -139,5 +170,8 @@ fill-whole-spec =
     add-pool-7
     mul-pool-8
     slice-write-pool-8
+    add-pool-8
+    mul-pool-9
+    slice-write-pool-9
     same-length
     returns)
