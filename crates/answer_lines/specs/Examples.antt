@@ -6,7 +6,7 @@ use Rattle.datatypes.specs.declared.Link.the-variants.{Root, Left, Right}
 use Rattle.spec.specs.Calls.{ok, found, next, more, done, refused}
 use Rattle.command_fields.specs.declared.Command.the-variants as command
 use Rattle.texts.specs.Ascii.{text}
-use Rattle.texts.specs.Decimal.{digits, decimal}
+use Rattle.texts.specs.Decimal.{digits, decimal, twenty-digits}
 use Rattle.answer_lines.specs.Text.{linkText, letterOf, lineOf, badLine}
 
 line-1 : lineOf 1 (code "P") ok ≡ text "1\tP\tok\t-\t-\n"
@@ -32,6 +32,15 @@ line-14 = refl
 line-next : lineOf 9 (code "R") (next 2 20) ≡ text "9\tR\tfound\t2\t20\n"
 unfolding digits decimal lineOf
 line-next = refl
+
+-- 02, C-18: a record above 32 bits, and the widest line
+line-wide : lineOf 14 (code "R") (found 4294967296) ≡ text "14\tR\tfound\t-\t4294967296\n"
+unfolding digits lineOf
+line-wide = simp twenty-digits
+
+line-widest : lineOf 9 (code "R") (next 4294967295 18446744073709551615) ≡ text "9\tR\tfound\t4294967295\t18446744073709551615\n"
+unfolding digits lineOf
+line-widest = simp twenty-digits
 
 line-refused : lineOf 7 (code "D") (refused 11) ≡ text "7\tD\tno\t-\t11\n"
 unfolding digits decimal lineOf

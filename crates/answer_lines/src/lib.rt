@@ -116,17 +116,17 @@ fn plain(out: &mut [u8], at: usize, word: &[u8]) -> usize
     texts::text_field(out, last, b"-", texts::NEWLINE)
 }
 
-fn numbered(out: &mut [u8], at: usize, word: &[u8], n: u32) -> usize
-    requires { ⌜ at + length (now word) + 14 ≤ length (now out) ⌝ }
+fn numbered(out: &mut [u8], at: usize, word: &[u8], n: u64) -> usize
+    requires { ⌜ at + length (now word) + 24 ≤ length (now out) ⌝ }
     ensures { λ r. ⌜ Put (now (out .entry)) at (line (now (word .entry) ∷ text "-" ∷ decimal n ∷ [])) (now (out .exit)) r ⌝ }
 {
     let link = texts::text_field(out, at, word, texts::TAB);
     let last = texts::text_field(out, link, b"-", texts::TAB);
-    texts::number_field(out, last, n as u64, texts::NEWLINE)
+    texts::number_field(out, last, n, texts::NEWLINE)
 }
 
 fn ticket(out: &mut [u8], at: usize, word: &[u8], k: u32, v: u64) -> usize
-    requires { ⌜ at + length (now word) + 23 ≤ length (now out) ⌝ }
+    requires { ⌜ at + length (now word) + 33 ≤ length (now out) ⌝ }
     ensures { λ r. ⌜ Put (now (out .entry)) at (line (now (word .entry) ∷ decimal k ∷ decimal v ∷ [])) (now (out .exit)) r ⌝ }
 {
     let key = texts::text_field(out, at, word, texts::TAB);
@@ -145,7 +145,7 @@ fn linked(out: &mut [u8], at: usize, word: &[u8], l: Link, n: u32) -> usize
 
 // an answer's fields, to the line's end
 fn put_said(out: &mut [u8], at: usize, a: Said) -> usize
-    requires { ⌜ at + 32 ≤ length (now out) ⌝ }
+    requires { ⌜ at + 38 ≤ length (now out) ⌝ }
     ensures { λ r. ⌜ Put (now (out .entry)) at (line (answerFields (says a))) (now (out .exit)) r ⌝ }
 {
     match a {
@@ -157,7 +157,7 @@ fn put_said(out: &mut [u8], at: usize, a: Said) -> usize
         Said::Next(k, v) => ticket(out, at, b"found", k, v),
         Said::More(l, n) => linked(out, at, b"more", l, n),
         Said::Done(l, n) => linked(out, at, b"done", l, n),
-        Said::No(n) => numbered(out, at, b"no", n),
+        Said::No(n) => numbered(out, at, b"no", n as u64),
     }
 }
 

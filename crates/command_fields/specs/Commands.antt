@@ -1,6 +1,6 @@
 -- 01, 'Examples': the command that a line's bytes, without the newline, are. Commands: P nodes; I key record; D key; W; B slot key; R slot;
 -- E slot; T; S slot key (02, C-11); and L (02, C-16). A tab stands between two fields. A line that isn't one of these letters with just its
--- fields, each of decimal digits and below 4,294,967,296, is ill-formed.
+-- fields, each of decimal digits and below 4,294,967,296 (02, C-18: a record below two to the power 64), is ill-formed.
 use Prim.Native.Nat.{ℕ, _+_, _*_, _-_}
 use Prim.Native.Char.{code}
 use mathlib.Core.Bool.{Bool, true, false, cond, _&&_}
@@ -9,6 +9,7 @@ use mathlib.Core.Option.{Option, none, some}
 use lib.Dec.{eqb, leb, ltb}
 use Rattle.command_fields.specs.declared.Command.{Command}
 use Rattle.command_fields.specs.declared.Command.the-variants.{SetUp, Insert, Delete, Write, Begin, BeginNext, Turn, GiveUp, Show, Page, Ill}
+use Rattle.spec.specs.Numbers.{wordLimit, recordLimit}
 use Rattle.texts.specs.Ascii.{tab}
 
 -- the bytes before the first tab, and the fields after it
@@ -32,27 +33,28 @@ unfoldable pub valueAfter : ℕ → List ℕ → ℕ
 valueAfter v [] = v
 valueAfter v (b ∷ bs) = valueAfter (v * 10 + (b - code "0")) bs
 
-abbrev pub limit : ℕ
-limit = 4_294_967_296
-
--- a field's number: one digit or more, leading zeros too, with a value below the limit
+-- a field's number: one digit or more, leading zeros too, with a value that a record may have
 unfoldable pub numberOf : List ℕ → Option ℕ
 numberOf [] = none
-numberOf (b ∷ bs) = cond (allDigits (b ∷ bs) && ltb (valueAfter 0 (b ∷ bs)) limit) (some (valueAfter 0 (b ∷ bs))) none
+numberOf (b ∷ bs) = cond (allDigits (b ∷ bs) && ltb (valueAfter 0 (b ∷ bs)) recordLimit) (some (valueAfter 0 (b ∷ bs))) none
 
--- the commands with no field, with one and with two
+-- the commands with no field, with one and with two; every number but I's record is a word
 unfoldable pub withNone : ℕ → Command
 withNone l = cond (eqb l (code "W")) Write (cond (eqb l (code "T")) Show (cond (eqb l (code "L")) Page Ill))
 
 unfoldable pub withOne : ℕ → ℕ → Command
 withOne l a =
-    cond (eqb l (code "P"))
-    (SetUp a)
-    (cond (eqb l (code "D")) (Delete a) (cond (eqb l (code "R")) (Turn a) (cond (eqb l (code "E")) (GiveUp a) Ill)))
+    cond (ltb a wordLimit)
+    (cond (eqb l (code "P")) (SetUp a) (cond (eqb l (code "D")) (Delete a) (cond (eqb l (code "R")) (Turn a) (cond (eqb l (code "E")) (GiveUp a) Ill))))
+    Ill
 
 unfoldable pub withTwo : ℕ → ℕ → ℕ → Command
 withTwo l a b =
-    cond (eqb l (code "I")) (Insert a b) (cond (eqb l (code "B")) (Begin a b) (cond (eqb l (code "S")) (BeginNext a b) Ill))
+    cond (ltb a wordLimit)
+    (cond (eqb l (code "I"))
+    (Insert a b)
+    (cond (ltb b wordLimit) (cond (eqb l (code "B")) (Begin a b) (cond (eqb l (code "S")) (BeginNext a b) Ill)) Ill))
+    Ill
 
 -- a letter and what its fields are
 abbrev pub ofNumbers : ℕ → List (Option ℕ) → Command

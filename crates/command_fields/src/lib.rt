@@ -4,13 +4,10 @@ ghost use Prim.Native.Nat.{_≤_};
 ghost use Rattle.command_fields.specs.Commands.{withNone, withOne, withTwo};
 ghost use Rattle.command_fields.specs.Taken.{withDigit, fieldTaken};
 
-// A number of a line is below this.
-const LIMIT: u64 = 4_294_967_296;
-
 // What a line asks for.
 pub enum Command {
     SetUp(u32),
-    Insert(u32, u32),
+    Insert(u32, u64),
     Delete(u32),
     Write,
     Begin(u32, u32),
@@ -25,19 +22,18 @@ pub enum Command {
 // A field so far: no byte, digits that make a number, or anything else.
 pub enum Field {
     Empty,
-    Number(u32),
+    Number(u64),
     Wrong,
 }
 
 // Answers a field's number after one digit more.
-pub fn with_digit(v: u32, b: u8) -> Field
+pub fn with_digit(v: u64, b: u8) -> Field
     requires { ⌜ (48 ≤ b) × (b ≤ 57) ⌝ }
     ensures { λ r. ⌜ r ≡ withDigit v b ⌝ }
 {
-    let digit = b - b'0';
-    let n = v as u64 * 10 + digit as u64;
-    if n < LIMIT {
-        return Field::Number(n as u32);
+    let digit = (b - b'0') as u64;
+    if v <= (u64::MAX - digit) / 10 {
+        return Field::Number(v * 10 + digit);
     }
     Field::Wrong
 }
@@ -76,36 +72,48 @@ pub fn with_none(l: u8) -> Command
 }
 
 // Answers the command of a letter and one number.
-pub fn with_one(l: u8, a: u32) -> Command
+pub fn with_one(l: u8, a: u64) -> Command
     ensures { λ r. ⌜ r ≡ withOne l a ⌝ }
 {
+    if numbers::WORD_LIMIT <= a {
+        return Command::Ill;
+    }
+    let n = a as u32;
     if l == b'P' {
-        return Command::SetUp(a);
+        return Command::SetUp(n);
     }
     if l == b'D' {
-        return Command::Delete(a);
+        return Command::Delete(n);
     }
     if l == b'R' {
-        return Command::Turn(a);
+        return Command::Turn(n);
     }
     if l == b'E' {
-        return Command::GiveUp(a);
+        return Command::GiveUp(n);
     }
     Command::Ill
 }
 
 // Answers the command of a letter and two numbers.
-pub fn with_two(l: u8, a: u32, b: u32) -> Command
+pub fn with_two(l: u8, a: u64, b: u64) -> Command
     ensures { λ r. ⌜ r ≡ withTwo l a b ⌝ }
 {
-    if l == b'I' {
-        return Command::Insert(a, b);
+    if numbers::WORD_LIMIT <= a {
+        return Command::Ill;
     }
+    let first = a as u32;
+    if l == b'I' {
+        return Command::Insert(first, b);
+    }
+    if numbers::WORD_LIMIT <= b {
+        return Command::Ill;
+    }
+    let second = b as u32;
     if l == b'B' {
-        return Command::Begin(a, b);
+        return Command::Begin(first, second);
     }
     if l == b'S' {
-        return Command::BeginNext(a, b);
+        return Command::BeginNext(first, second);
     }
     Command::Ill
 }

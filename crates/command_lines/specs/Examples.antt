@@ -27,7 +27,24 @@ ill-formed :
 unfolding commandsOf firstField otherFields isDigit allDigits valueAfter numberOf withNone withOne withTwo commandOf
 ill-formed = refl
 
--- the same of L, which has no field
+-- 02, C-18: a record may be any number of 64 bits, and none above; every other number has 32 bits
+wide-records :
+    commandsOf ("I\t4294967295\t4294967295" ∷ "I\t0\t4294967296" ∷ "I\t1\t18446744073709551615" ∷ "I\t1\t00018446744073709551615"
+    ∷ "I\t1\t10000000000000000000" ∷ "B\t4294967295\t4294967295" ∷ "S\t4294967295\t4294967295" ∷ "P\t4294967295" ∷ [])
+    ≡ Insert 4294967295 4294967295 ∷ Insert 0 4294967296 ∷ Insert 1 18446744073709551615 ∷ Insert 1 18446744073709551615
+    ∷ Insert 1 10000000000000000000 ∷ Begin 4294967295 4294967295 ∷ BeginNext 4294967295 4294967295 ∷ SetUp 4294967295 ∷ []
+unfolding commandsOf firstField otherFields isDigit allDigits valueAfter numberOf withNone withOne withTwo commandOf
+wide-records = refl
+
+too-wide :
+    commandsOf ("I\t1\t18446744073709551616" ∷ "I\t1\t18446744073709551620" ∷ "I\t1\t20000000000000000000" ∷ "I\t1\t100000000000000000000"
+    ∷ "I\t4294967296\t1" ∷ "I\t18446744073709551615\t1" ∷ "B\t0\t4294967296" ∷ "B\t4294967296\t0" ∷ "S\t0\t4294967296" ∷ "S\t4294967296\t0"
+    ∷ "P\t18446744073709551615" ∷ "D\t4294967296" ∷ "R\t4294967296" ∷ "E\t4294967296" ∷ [])
+    ≡ replicate 14 Ill
+unfolding commandsOf firstField otherFields isDigit allDigits valueAfter numberOf withNone withOne withTwo commandOf
+too-wide = refl
+
+-- L, which has no field
 ill-formed-page :
     commandsOf ("L\t" ∷ "L\t1" ∷ "L\t1\t2" ∷ "L\t1\t2\t3" ∷ "L " ∷ "L\r" ∷ "LL" ∷ "l" ∷ " L" ∷ "\tL" ∷ []) ≡ replicate 10 Ill
 unfolding commandsOf firstField otherFields isDigit allDigits valueAfter numberOf withNone withOne withTwo commandOf

@@ -15,8 +15,9 @@ use Rattle.command_fields.specs.declared.Field.{Field}
 use Rattle.command_fields.specs.declared.Field.the-variants.{Empty, Number, Wrong}
 use Rattle.command_lines.specs.declared.Reading.{Reading}
 use Rattle.command_lines.specs.declared.Reading.the-variants.{Fresh, Letter, One, Two, Ill}
+use Rattle.spec.specs.Numbers.{recordLimit}
 use Rattle.texts.specs.Ascii.{tab}
-use Rattle.command_fields.specs.Commands.{firstField, otherFields, isDigit, allDigits, valueAfter, limit, numberOf, ofNumbers, ofFields, commandOf}
+use Rattle.command_fields.specs.Commands.{firstField, otherFields, isDigit, allDigits, valueAfter, numberOf, ofNumbers, ofFields, commandOf}
 use Rattle.command_fields.specs.Taken.{withDigit, fieldTaken}
 
 -- a line after one byte more
@@ -72,23 +73,23 @@ value-grows (b ∷ bs) v = omega (arith, value-grows bs (v * 10 + (b - code "0")
 
 -- the number of v's digits followed by these
 abbrev numberAfter : ℕ → List ℕ → Option ℕ
-numberAfter v bs = cond (allDigits bs && ltb (valueAfter v bs) limit) (some (valueAfter v bs)) none
+numberAfter v bs = cond (allDigits bs && ltb (valueAfter v bs) recordLimit) (some (valueAfter v bs)) none
 
-number-after : (bs : List ℕ) (v : ℕ) → v < limit → numberRead (fieldRead (Number v) bs) ≡ numberAfter v bs
+number-after : (bs : List ℕ) (v : ℕ) → v < recordLimit → numberRead (fieldRead (Number v) bs) ≡ numberAfter v bs
 unfolding fieldRead fieldTaken withDigit allDigits valueAfter
-number-after [] v h = rw (lt-ltb v limit h)
-number-after (b ∷ bs) v h = split (number-after bs) (isDigit b) refl (ltb next limit) refl
+number-after [] v h = rw (lt-ltb v recordLimit h)
+number-after (b ∷ bs) v h = split (number-after bs) (isDigit b) refl (ltb next recordLimit) refl
   where
     next : ℕ
     next = v * 10 + (b - code "0")
 
-    split : ((v : ℕ) → v < limit → numberRead (fieldRead (Number v) bs) ≡ numberAfter v bs)
-        → (d : Bool) → isDigit b ≡ d → (t : Bool) → ltb next limit ≡ t
+    split : ((v : ℕ) → v < recordLimit → numberRead (fieldRead (Number v) bs) ≡ numberAfter v bs)
+        → (d : Bool) → isDigit b ≡ d → (t : Bool) → ltb next recordLimit ≡ t
         → numberRead (fieldRead (Number v) (b ∷ bs)) ≡ numberAfter v (b ∷ bs)
     split rest false e t u = rw e (wrong-stays bs)
     split rest true e true u = rw (e, u) (rest next (ltb-true _ _ u))
     split rest true e false u =
-        let g : limit ≤ valueAfter next bs = omega (arith, value-grows bs next, ltb-false next limit u) in
+        let g : recordLimit ≤ valueAfter next bs = omega (arith, value-grows bs next, ltb-false next recordLimit u) in
         rw (e, u, le-ltb _ _ g, and-false) (wrong-stays bs)
 
 number-read : (bs : List ℕ) → numberRead (fieldRead Empty bs) ≡ numberOf bs

@@ -1,5 +1,5 @@
 -- Worked calls of T and L, checked by computation: they answer ok and change nothing, or are refused by tests 1 and 2 alone.
-use Prim.Native.Nat.{ℕ}
+use Prim.Native.Nat.{ℕ, _/_, _%_}
 use mathlib.Core.Path.{_≡_, refl}
 use mathlib.Core.Bool.{true}
 use mathlib.Core.List.{List, [], _∷_, _++_}
@@ -10,6 +10,7 @@ use Rattle.datatypes.specs.declared.Step.the-variants.{Insert}
 use Rattle.datatypes.specs.declared.Kind.the-variants as kind
 use Rattle.datatypes.specs.declared.Reader.{Reader}
 use Rattle.datatypes.specs.declared.Register.{Register}
+use Rattle.spec.specs.Numbers.{wordLimit}
 use Rattle.spec.specs.Pool.{word, nodeInRange, poolInRange, lengthRight, freshNodes, freshPool}
 use Rattle.spec.specs.Register.{State, state, noReader, vacant, storeInRange, registerInRange, freshRegister, fresh}
 use Rattle.spec.specs.Calls.{Answer, ok, refused, Outcome, outcome}
@@ -25,11 +26,11 @@ unchanged a st = outcome a st ∷ outcome a st ∷ []
 
 -- Slot 0 reads and is awaited, a write is in hand, two nodes are free; nodes 3 and 4 are retired, with words at their largest.
 abbrev node : (key value left right colour standing holders next : ℕ) → List ℕ
-node k v l r c s h n = k ∷ v ∷ l ∷ r ∷ c ∷ s ∷ h ∷ n ∷ []
+node k v l r c s h n = k ∷ v % wordLimit ∷ v / wordLimit ∷ l ∷ r ∷ c ∷ s ∷ h ∷ n ∷ []
 
 abbrev sixNodes : List ℕ
 sixNodes =
-    node 3 30 2 5 0 1 0 0 ++ (node 1 10 0 0 1 1 0 0 ++ (node 2 20 8 8 1 2 1 8 ++ (node 4294967295 4294967295 8 8 1 2 4294967295 8
+    node 3 30 2 5 0 1 0 0 ++ (node 1 10 0 0 1 1 0 0 ++ (node 2 20 8 8 1 2 1 8 ++ (node 4294967295 18446744073709551615 8 8 1 2 4294967295 8
     ++ (node 7 70 0 6 0 1 0 0 ++ node 9 90 0 0 1 1 0 0))))
 
 -- with the colour of node 8
@@ -85,7 +86,7 @@ field-shown = refl
 abbrev bothOf : (words : List ℕ) (lent : ℕ) → Register → List Outcome
 bothOf words lent r = performed words lent r command.Show ∷ performed words lent r command.Page ∷ []
 
-lent-shown : bothOf (pool 1 ++ node 9 9 9 9 9 9 9 9) 64 (register 1) ≡ unchanged ok (state (pool 1) (register 1))
+lent-shown : bothOf (pool 1 ++ node 9 9 9 9 9 9 9 9) 72 (register 1) ≡ unchanged ok (state (pool 1) (register 1))
 unfolding allFrom allIn word nodeInRange poolInRange lengthRight storeInRange registerInRange shown performed
 lent-shown = refl
 

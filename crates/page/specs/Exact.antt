@@ -1,6 +1,6 @@
--- 02, C-16: 'All widths are exact for every value.' Each line has 43 columns by its definition; of a pool and register that pass tests 1 and 2
+-- 02, C-16: 'All widths are exact for every value.' Each line has 53 columns (C-18) by its definition; of a pool and register that pass tests 1 and 2
 -- every number stands whole in its column.
-use Prim.Native.Nat.{ℕ, _+_, _-_, _^_, _<_, _≤_}
+use Prim.Native.Nat.{ℕ, _+_, _-_, _<_, _≤_}
 use mathlib.Core.Path.{_≡_}
 use mathlib.Core.Bool.{true, _&&_}
 use mathlib.Core.List.{List, _++_}
@@ -11,7 +11,8 @@ use borrow.Author.Tests.{leb-true}
 use Rattle.base.specs.Walk.{all-in}
 use Rattle.base.specs.Lists.{_∈_}
 use Rattle.datatypes.specs.declared.Side.the-variants.{L, R}
-use Rattle.spec.specs.Pool.{word, keyWord, leftWord, rightWord, colourWord, standingWord, nextWord, recordWord, redColour, standingRetired, recordAt, child, nodes, nodeInRange, poolInRange}
+use Rattle.spec.specs.Numbers.{wordLimit, recordLimit}
+use Rattle.spec.specs.Pool.{word, keyWord, leftWord, rightWord, colourWord, standingWord, nextWord, recordLowWord, recordHighWord, redColour, standingRetired, recordAt, child, nodes, nodeInRange, poolInRange}
 use Rattle.spec.specs.Register.{State, registerInRange}
 use Rattle.laws.specs.Tests.{and-left, and-right, lentNumber, lent}
 use Rattle.texts.specs.Ascii.{blank}
@@ -34,7 +35,11 @@ pub record WholeLine (p : List ℕ) (n : ℕ) : Type 0 where
 
 -- A pool is lent as 32-bit words.
 abbrev pub Words : List ℕ → Type 0
-Words p = (n f : ℕ) → word p n f < 2 ^ 32
+Words p = (n f : ℕ) → word p n f < wordLimit
+
+record-below : (p : List ℕ) → Words p → (n : ℕ) → recordAt p n < recordLimit
+unfolding recordAt
+record-below p w n = let x = w n recordLowWord in let y = w n recordHighWord in omega arith
 
 -- a node's links, out of the tests of its words
 links-of : (p : List ℕ) (c n : ℕ) → nodeInRange p c n ≡ true → (child p L n ≤ c) × (child p R n ≤ c)
@@ -61,7 +66,7 @@ lines-whole st h w n i =
     record {
       node = right-number 3 n (omega arith);
       key = right-number 9 (word p n keyWord) (let x = w n keyWord in omega arith);
-      value = right-number 9 (recordAt p n) (let x = w n recordWord in omega arith);
+      value = right-number 19 (recordAt p n) (let x = record-below p w n in omega arith);
       left = right-number 3 (child p L n) (let x = links .0 in omega arith);
       right = right-number 3 (child p R n) (let x = links .1 in omega arith);
     }

@@ -1,4 +1,4 @@
--- 02, C-16: the foreman's page of a pool, as bytes.
+-- 02, C-16 and C-18: the foreman's page of a pool, as bytes.
 use Prim.Native.Nat.{ℕ, zero, suc, _-_}
 use Prim.Native.Char.{code}
 use mathlib.Core.Bool.{cond}
@@ -11,7 +11,7 @@ use Rattle.texts.specs.Decimal.{decimal}
 use Rattle.texts.specs.Column.{rightIn}
 use Rattle.page_order.specs.Listed.{listed}
 
--- 'node 4, key 10, record 10, colour 1 (B or R), left 4, right 4': the columns' widths
+-- 'node 4, key 10, record 10, colour 1 (B or R), left 4, right 4': the columns' widths; 02, C-18: the record's is 20
 abbrev pub nodeWidth : ℕ
 nodeWidth = 4
 
@@ -19,7 +19,7 @@ abbrev pub keyWidth : ℕ
 keyWidth = 10
 
 abbrev pub recordWidth : ℕ
-recordWidth = 10
+recordWidth = 20
 
 abbrev pub colourWidth : ℕ
 colourWidth = 1

@@ -64,7 +64,7 @@ columns-parts : (a b c d e f : List ℕ) → ticketColumns a b c ++ linkColumns 
 unfolding columns ticketColumns linkColumns
 columns-parts a b c d e f = simp append-assoc
 
--- Every line has 43 columns and its newline.
+-- Every line has 53 columns and its newline.
 abbrev pub ticketBytes : ℕ
 ticketBytes = nodeWidth + (gapWidth + keyWidth) + (gapWidth + recordWidth)
 
@@ -72,7 +72,7 @@ abbrev pub linkBytes : ℕ
 linkBytes = gapWidth + colourWidth + (gapWidth + linkWidth) + (gapWidth + linkWidth) + 1
 
 abbrev pub lineBytes : ℕ
-lineBytes = 44
+lineBytes = 54
 
 column-length : (w : ℕ) (t : List ℕ) → length (column w t) ≡ gapWidth + w
 unfolding column

@@ -14,7 +14,7 @@ ghost use Rattle.page.specs.Sheets.{ticketBytes, linkBytes, lineBytes, t
 // node lines of a sheet, the bytes of a line, and room enough for any sheet
 const SHEET_LINES: usize = 60;
 
-const LINE_BYTES: usize = 44;
+const LINE_BYTES: usize = 54;
 
 pub const SHEET_ROOM: usize = 1 + LINE_BYTES + SHEET_LINES * LINE_BYTES;
 
@@ -113,7 +113,7 @@ fn put_head(out: &mut [u8], at: usize, last: u64) -> usize
     texts::text_field(
         out,
         next,
-        b"node         key      record  c  left  righ",
+        b"node         key                record  c  left  righ",
         texts::NEWLINE,
     )
 }

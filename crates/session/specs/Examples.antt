@@ -30,7 +30,7 @@ before-set-up = refl
 
 -- 01's run after call 14, with a linked node in the words after those lent; and with another root
 abbrev node : (key value left right colour standing next : ℕ) → List ℕ
-node k v l r c s n = k ∷ v ∷ l ∷ r ∷ c ∷ s ∷ 0 ∷ n ∷ []
+node k v l r c s n = k ∷ v ∷ 0 ∷ l ∷ r ∷ c ∷ s ∷ 0 ∷ n ∷ []
 
 abbrev pool : List ℕ
 pool =
@@ -41,7 +41,7 @@ abbrev kept : (root : ℕ) → Kept
 kept root =
     record {
       words = pool ++ node 4 40 0 0 0 1 0;
-      lent = 64;
+      lent = 72;
       register = record { root = root; first = 6; last = 2; free = 5; held = 3; readers = replicate 32 noReader; awaited = 0; write = noWrite };
       number = 14;
     }

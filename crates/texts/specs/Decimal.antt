@@ -9,7 +9,7 @@ use native.Mathlib.Omega.{arith}
 use native.Mathlib.Decide.{decLt}
 use lib.Dec.{ltb}
 use lib.ListN.{length, length-append}
-use borrow.Author.Tests.{lt-ltb, le-ltb, ltb-false}
+use borrow.Author.Tests.{lt-ltb, le-ltb, ltb-true, ltb-false}
 
 abbrev pub digit : ℕ → ℕ
 digit d = code "0" + d
@@ -97,6 +97,10 @@ decimal-short (suc k) n h =
       | yes l ↦ rw (decimal-one n l, lt-ltb n 10 l)
       | no l ↦ rw (decimal-more n (omega arith), le-ltb n 10 (omega arith), decimal-short k (n / 10) (omega arith))
     ]
+
+-- the same of twenty digits, by a test, so that `simp` applies it at numerals
+pub twenty-digits : (n : ℕ) → ltb n 100_000_000_000_000_000_000 ≡ true → decimal n ≡ digits 20 n
+twenty-digits n h = decimal-short 19 n (ltb-true n 100_000_000_000_000_000_000 h)
 
 -- a 32-bit number, and a 64-bit one
 pub short-length : (n : ℕ) → n < 2 ^ 32 → length (decimal n) ≤ 10

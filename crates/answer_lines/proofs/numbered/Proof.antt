@@ -1,6 +1,6 @@
 use lib.ListN.{length-append}
 use Rattle.texts.specs.Ascii.{text}
-use Rattle.texts.specs.Decimal.{short-length}
+use Rattle.texts.specs.Decimal.{long-length}
 use Rattle.texts.specs.Put.{put-field}
 use native.Mathlib.Omega.{arith}
 use borrow.Author.Needs.{needs}
@@ -25,7 +25,7 @@ number-field-requires c κs =
     let c3 = c .before .before .before in
     let c8 = c3 .before .before .before .before .before in
     let c12 = c8 .before .before .before .before in
-    omega (arith, simp length-append at (c8 .text-field .ensures .ends), c3 .text-field2 .ensures .ends, short-length (c12 .args .n) (search needs))
+    omega (arith, simp length-append at (c8 .text-field .ensures .ends), c3 .text-field2 .ensures .ends, long-length (c12 .args .n) (search needs))
 
 same-length : tie.Need-same-length
 same-length c = search needs

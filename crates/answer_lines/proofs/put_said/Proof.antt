@@ -86,6 +86,9 @@ enum-known-a-5 c = search needs
 slice-aggregate-numbered-2 : tie.Need-slice-aggregate-numbered-2
 slice-aggregate-numbered-2 c = search needs
 
+cast-numbered : tie.Need-cast-numbered
+cast-numbered c = search needs
+
 numbered-requires-2 : tie.Need-numbered-requires-2
 numbered-requires-2 c κs = search needs
 
@@ -173,6 +176,7 @@ put-said-spec =
     linked-requires-2
     enum-known-a-5
     slice-aggregate-numbered-2
+    cast-numbered
     numbered-requires-2
     same-length
     returns

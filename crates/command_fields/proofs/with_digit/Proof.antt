@@ -1,4 +1,8 @@
+use Prim.Native.Nat.{_+_, _-_, _*_}
+use Prim.Native.Char.{code}
+use Rattle.spec.specs.Numbers.{recordLimit}
 use Rattle.command_fields.specs.Taken.{withDigit}
+use native.Mathlib.Omega.{arith}
 use borrow.Author.Tests.{lt-ltb, le-ltb}
 use borrow.Author.Needs.{needs}
 use Rattle.command_fields.proofs.with_digit.Statement.{statement}
@@ -9,25 +13,25 @@ use Rattle.command_fields.proofs.with_digit.Lts as lts
 sub-digit : tie.Need-sub-digit
 sub-digit c = search needs
 
-mul-n : tie.Need-mul-n
-mul-n c = search needs
+cast-digit : tie.Need-cast-digit
+cast-digit c = search needs
 
-cast-n : tie.Need-cast-n
-cast-n c = search needs
+sub-if1 : tie.Need-sub-if1
+sub-if1 c = search needs
 
-add-n : tie.Need-add-n
-add-n c = search needs
+mul-t8 : tie.Need-mul-t8
+mul-t8 c = search needs
 
-cast-t9 : tie.Need-cast-t9
-cast-t9 c = search needs
+add-t9 : tie.Need-add-t9
+add-t9 c = search needs
 
 returns : tie.Need-returns
 unfolding withDigit
-returns c = rw (lt-ltb _ _ (c .if1 .taken))
+returns c = let a = c .before .args in rw (lt-ltb (a .v * 10 + (a .b - code "0")) recordLimit (let h = c .if1 .taken in omega arith))
 
 returns-2 : tie.Need-returns-2
 unfolding withDigit
-returns-2 c = rw (le-ltb _ _ (c .if1 .left))
+returns-2 c = let a = c .before .args in rw (le-ltb (a .v * 10 + (a .b - code "0")) recordLimit (let h = c .if1 .left in omega arith))
 
 pub with-digit-spec : {M : Type 1} → statement M
-with-digit-spec = tie.close (tie.spec sub-digit mul-n cast-n add-n cast-t9 returns returns-2)
+with-digit-spec = tie.close (tie.spec sub-digit cast-digit sub-if1 mul-t8 add-t9 returns returns-2)

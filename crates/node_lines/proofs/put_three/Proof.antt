@@ -1,5 +1,5 @@
 use lib.ListN.{length-append}
-use Rattle.texts.specs.Decimal.{decimal, short-length}
+use Rattle.texts.specs.Decimal.{decimal, short-length, long-length}
 use Rattle.texts.specs.Put.{put-field}
 use native.Mathlib.Omega.{arith}
 use borrow.Author.Needs.{needs}
@@ -25,7 +25,7 @@ number-field-requires-3 c κs = omega (
   simp length-append at (c .before .before .before .before .before .before .before .number-field .ensures .ends),
   short-length (c .before .before .before .before .before .before .before .before .before .before .args .b) (search needs),
   simp length-append at (c .before .before .before .number-field2 .ensures .ends),
-  short-length (c .before .before .before .before .before .before .before .before .before .before .args .c) (search needs),
+  long-length (c .before .before .before .before .before .before .before .before .before .before .args .c) (search needs),
 )
 
 same-length : tie.Need-same-length
@@ -43,7 +43,7 @@ returns c =
         simp length-append at (c10 .number-field .ensures .ends),
         short-length (c13 .args .b) (search needs),
         simp length-append at (c6 .number-field2 .ensures .ends),
-        short-length (c13 .args .c) (search needs),
+        long-length (c13 .args .c) (search needs),
         simp length-append at (c .before .before .number-field3 .ensures .ends),
       ),
     )

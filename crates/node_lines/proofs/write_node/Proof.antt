@@ -37,6 +37,9 @@ word-requires-5 c κs = search needs
 put-three-requires : tie.Need-put-three-requires
 put-three-requires c κs = search needs
 
+cast-put-three : tie.Need-cast-put-three
+cast-put-three c = search needs
+
 put-three-requires-2 : tie.Need-put-three-requires-2
 put-three-requires-2 c κs = omega (arith, c .before .before .before .put-three .ensures .1)
 
@@ -70,6 +73,7 @@ write-node-spec =
     word-requires-4
     word-requires-5
     put-three-requires
+    cast-put-three
     put-three-requires-2
     same-length
     returns-2)

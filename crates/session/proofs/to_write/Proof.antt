@@ -6,6 +6,7 @@ use native.Mathlib.Omega.{arith}
 use lib.ListN.{take}
 use types.Run.{OneOf, miss}
 use denote.Enum.Declared.{tagOf}
+use Rattle.spec.specs.Numbers.{nodeWords}
 use Rattle.command_fields.proofs.Command.{the-type as a-command}
 use Rattle.command_fields.specs.declared.Command.{Command}
 use Rattle.command_fields.specs.declared.Command.the-variants as command
@@ -61,7 +62,7 @@ returns c =
     let a = c5 .args in
     let h = lent-length (a .words .now) (a .lent) (c5 .pre .0) (c5 .pre .1) in
     let told = c .before .before .enum-told .given .1 in
-    (omega (arith, c5 .pre), rw (c .enum-told2 .given .1, told) (rest-nodes (take (a .lent) (a .words .now)) (a .lent / 8) (omega (arith, h))))
+    (omega (arith, c5 .pre), rw (c .enum-told2 .given .1, told) (rest-nodes (take (a .lent) (a .words .now)) (a .lent / nodeWords) (omega (arith, h))))
 
 enum-told-3 : tie.Need-enum-told-3
 enum-told-3 c = search needs
