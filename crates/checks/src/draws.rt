@@ -27,7 +27,7 @@ pub struct Call {
     pub slot: u32,
     pub ticket: u32,
     pub key: u32,
-    pub record: u32,
+    pub record: u64,
 }
 
 // What most calls of a stretch are: more inserts than deletes or fewer, many readers or few.
@@ -38,7 +38,7 @@ pub struct Mood {
 
 // 1,664,525 times x modulo two to the power 32
 fn wrapping_times(x: u32) -> u32 {
-    (x as u64 * 1_664_525 % 4_294_967_296) as u32
+    (x as u64 * 1_664_525 % numbers::WORD_LIMIT) as u32
 }
 
 fn next(x: u32) -> u32 {
@@ -178,9 +178,22 @@ fn kind_of(c: u32, m: Mood) -> u32 {
     reader_kind(c, bound(m.busy, 38, 52))
 }
 
-// the record of an insert: one in eight is the ticket's number, so that a held key now and then gets the record that it has
-fn record_of(q: u32, ticket: u32) -> u32 {
-    if q / 16_777_216 % 8 == 0 { ticket } else { q }
+// a record of two words
+fn joined(low: u32, high: u32) -> u64 {
+    low as u64 + high as u64 * numbers::WORD_LIMIT
+}
+
+// The record of an insert, from two draws. One in eight is the ticket's number, so that a held key now and then gets the record that it has;
+// one in eight has that as its low word alone, so that two of a key differ in the high word alone; one in eight has a high word of 0, and one
+// a low word of 0.
+fn record_of(p: u32, q: u32, ticket: u32) -> u64 {
+    match q / 16_777_216 % 8 {
+        0 => joined(ticket, 0),
+        1 => joined(ticket, p),
+        2 => joined(p, 0),
+        3 => joined(0, p),
+        _ => joined(q, p),
+    }
 }
 
 // Draws a run's call number i, on so many nodes, with these slots reading.
@@ -195,6 +208,6 @@ pub fn draw_call(x: u32, i: u64, nodes: u32, reading: u32) -> Call {
         slot: aimed_slot(slot, kind, reading, first / 4_194_304),
         ticket,
         key: key_of(ticket, tickets(nodes)),
-        record: record_of(second, ticket),
+        record: record_of(first, second, ticket),
     }
 }

@@ -2,40 +2,44 @@
 // for the next ticket, and the write in hand. It is lent as WORDS words; a word past the end reads 0, and setting one changes nothing.
 use crate::draws;
 
-// The plain list has three words for each ticket number: whether it is there, its record, and how many changes the list had made once this
+// The plain list has four words for each ticket number: whether it is there, its record's low and high word, and how many changes the list had made once this
 // ticket last came or went. That a ticket comes is a change, and that it goes; a record that takes another's place is two, one for each record.
-const TICKET_SPAN: usize = 3;
+const TICKET_SPAN: usize = 4;
 
 const THERE: u32 = 0;
 
-const ITS_RECORD: u32 = 1;
+const ITS_LOW: u32 = 1;
 
-const CHANGED: u32 = 2;
+const ITS_HIGH: u32 = 2;
+
+const CHANGED: u32 = 3;
 
 const FIRST_SLOT: usize = draws::TICKETS as usize * TICKET_SPAN;
 
-const SLOT_SPAN: usize = 32;
+const SLOT_SPAN: usize = 56;
 
 const HAND: usize = FIRST_SLOT + numbers::SLOTS * SLOT_SPAN;
 
-const HAND_SPAN: usize = 8;
+const HAND_SPAN: usize = 9;
 
-// The latest changes of the list, in a ring by their numbers: the ticket, and the record that it had before or has since.
+// The latest changes of the list, in a ring by their numbers: the ticket, and the record (low and high word) that it had before or has since.
 const LOG: usize = HAND + HAND_SPAN;
 
-const LOG_SPAN: usize = 2;
+const LOG_SPAN: usize = 3;
 
 const LOGGED: u32 = 256;
 
 const LOG_TICKET: u32 = 0;
 
-const LOG_RECORD: u32 = 1;
+const LOG_LOW: u32 = 1;
+
+const LOG_HIGH: u32 = 2;
 
 pub const WORDS: usize = LOG + LOGGED as usize * LOG_SPAN;
 
 // A slot's words: reading, the wanted ticket (or the one given to a search for the next), awaited, whether the list lacked the ticket at some
 // moment, how many records it was seen with, whether it searches for the next ticket, how many changes the list had made at its begin, and
-// the records seen.
+// the records seen, all low words and then all high words.
 const READING: u32 = 0;
 
 const WANTED: u32 = 1;
@@ -50,27 +54,31 @@ const SEEKS: u32 = 5;
 
 const SINCE: u32 = 6;
 
-const RECORDS: u32 = 8;
+const LOWS: u32 = 8;
 
 const MEMORY: u32 = 24;
 
-// The words of the write in hand: its kind, ticket, record, the form of a delete, its stores in all and those made; the number of tickets in
+const HIGHS: u32 = LOWS + MEMORY;
+
+// The words of the write in hand: its kind, ticket, record (low and high word), the form of a delete, its stores in all and those made; the number of tickets in
 // the list, and of its changes.
 const KIND: u32 = 0;
 
 const TICKET: u32 = 1;
 
-const RECORD: u32 = 2;
+const LOW: u32 = 2;
 
-const FORM: u32 = 3;
+const HIGH: u32 = 3;
 
-const STORES: u32 = 4;
+const FORM: u32 = 4;
 
-const MADE: u32 = 5;
+const STORES: u32 = 5;
 
-const HELD: u32 = 6;
+const MADE: u32 = 6;
 
-const CHANGES: u32 = 7;
+const HELD: u32 = 7;
+
+const CHANGES: u32 = 8;
 
 pub const NONE: u32 = 0;
 
@@ -138,6 +146,19 @@ fn set_logged_word(model: &mut [u32], change: u32, f: u32, v: u32) {
     );
 }
 
+// A record and its two words.
+fn joined(low: u32, high: u32) -> u64 {
+    low as u64 + high as u64 * numbers::WORD_LIMIT
+}
+
+fn low_word(v: u64) -> u32 {
+    (v % numbers::WORD_LIMIT) as u32
+}
+
+fn high_word(v: u64) -> u32 {
+    (v / numbers::WORD_LIMIT) as u32
+}
+
 // Clears the model: no ticket, no reading slot, no write in hand.
 pub fn clear(model: &mut [u32]) {
     let mut i: usize = 0;
@@ -158,47 +179,64 @@ pub fn listed(model: &[u32], t: u32) -> bool {
 }
 
 // Answers the record of a ticket in the plain list.
-pub fn list_record(model: &[u32], t: u32) -> u32 {
-    ticket_word(model, t, ITS_RECORD)
+pub fn list_record(model: &[u32], t: u32) -> u64 {
+    joined(
+        ticket_word(model, t, ITS_LOW),
+        ticket_word(model, t, ITS_HIGH),
+    )
+}
+
+fn set_list_record(model: &mut [u32], t: u32, v: u64) {
+    set_ticket_word(model, t, ITS_LOW, low_word(v));
+    set_ticket_word(model, t, ITS_HIGH, high_word(v));
+}
+
+// the record of a change of the list
+fn logged_record(model: &[u32], change: u32) -> u64 {
+    joined(
+        logged_word(model, change, LOG_LOW),
+        logged_word(model, change, LOG_HIGH),
+    )
 }
 
 // Notes a change of the list: this ticket had this record until now, or has it from now on.
-fn note_change(model: &mut [u32], t: u32, v: u32) {
+fn note_change(model: &mut [u32], t: u32, v: u64) {
     let n = hand_word(model, CHANGES);
     if n < MOST {
         set_logged_word(model, n, LOG_TICKET, t);
-        set_logged_word(model, n, LOG_RECORD, v);
+        set_logged_word(model, n, LOG_LOW, low_word(v));
+        set_logged_word(model, n, LOG_HIGH, high_word(v));
         set_hand_word(model, CHANGES, n + 1);
     }
 }
 
 // a ticket with this record comes or goes
-fn come_or_go(model: &mut [u32], t: u32, v: u32) {
+fn come_or_go(model: &mut [u32], t: u32, v: u64) {
     note_change(model, t, v);
     let n = hand_word(model, CHANGES);
     set_ticket_word(model, t, CHANGED, n);
 }
 
-fn add(model: &mut [u32], t: u32, v: u32) {
+fn add(model: &mut [u32], t: u32, v: u64) {
     let n = held(model);
     if n < MOST {
         set_ticket_word(model, t, THERE, 1);
-        set_ticket_word(model, t, ITS_RECORD, v);
+        set_list_record(model, t, v);
         set_hand_word(model, HELD, n + 1);
         come_or_go(model, t, v);
     }
 }
 
 // A ticket stays, with a new record.
-fn replace(model: &mut [u32], t: u32, v: u32) {
+fn replace(model: &mut [u32], t: u32, v: u64) {
     let old = list_record(model, t);
     note_change(model, t, old);
     note_change(model, t, v);
-    set_ticket_word(model, t, ITS_RECORD, v);
+    set_list_record(model, t, v);
 }
 
 // puts a ticket in, in place of any there with its key
-fn put_in(model: &mut [u32], t: u32, v: u32) {
+fn put_in(model: &mut [u32], t: u32, v: u64) {
     if listed(model, t) {
         replace(model, t, v);
     } else {
@@ -250,19 +288,27 @@ pub fn end_reading(model: &mut [u32], s: u32) {
     set_slot_word(model, s, AWAITED, 0);
 }
 
-fn seen_last(model: &[u32], s: u32, v: u32) -> bool {
+// the i-th record that a slot's ticket was seen with
+fn seen_record(model: &[u32], s: u32, i: u32) -> u64 {
+    if MEMORY <= i {
+        return 0;
+    }
+    joined(
+        slot_word(model, s, LOWS + i),
+        slot_word(model, s, HIGHS + i),
+    )
+}
+
+fn seen_last(model: &[u32], s: u32, v: u64) -> bool {
     let seen = slot_word(model, s, SEEN);
     if seen == 0 {
         return false;
     }
-    if MEMORY < seen {
-        return false;
-    }
-    slot_word(model, s, RECORDS - 1 + seen) == v
+    seen_record(model, s, seen - 1) == v
 }
 
 // Adds a record to those seen; false if there is no room.
-fn remember(model: &mut [u32], s: u32, v: u32) -> bool {
+fn remember(model: &mut [u32], s: u32, v: u64) -> bool {
     if seen_last(model, s, v) {
         return true;
     }
@@ -270,7 +316,8 @@ fn remember(model: &mut [u32], s: u32, v: u32) -> bool {
     if MEMORY <= seen {
         return false;
     }
-    set_slot_word(model, s, RECORDS + seen, v);
+    set_slot_word(model, s, LOWS + seen, low_word(v));
+    set_slot_word(model, s, HIGHS + seen, high_word(v));
     set_slot_word(model, s, SEEN, seen + 1);
     true
 }
@@ -314,11 +361,11 @@ pub fn observe(model: &mut [u32]) -> bool {
 }
 
 // Answers whether the list had a slot's ticket with this record at one of the lookup's moments.
-pub fn was_listed(model: &[u32], s: u32, v: u32) -> bool {
+pub fn was_listed(model: &[u32], s: u32, v: u64) -> bool {
     let seen = slot_word(model, s, SEEN);
     let mut i: u32 = 0;
     while i < MEMORY {
-        if (i < seen) & (slot_word(model, s, RECORDS + i) == v) {
+        if (i < seen) & (seen_record(model, s, i) == v) {
             return true;
         }
         i += 1;
@@ -332,18 +379,23 @@ pub fn was_lacking(model: &[u32], s: u32) -> bool {
 }
 
 // Answers whether the list has a slot's ticket with this record now.
-pub fn is_listed(model: &[u32], s: u32, v: u32) -> bool {
+pub fn is_listed(model: &[u32], s: u32, v: u64) -> bool {
     let t = slot_word(model, s, WANTED);
     listed(model, t) & (list_record(model, t) == v)
 }
 
 // Answers whether the list has a slot's ticket with another record now.
-pub fn is_outdated(model: &[u32], s: u32, v: u32) -> bool {
+pub fn is_outdated(model: &[u32], s: u32, v: u64) -> bool {
     has_other(model, slot_word(model, s, WANTED), v)
 }
 
+// Answers whether two records differ in the high word alone.
+pub fn differ_high(v: u64, w: u64) -> bool {
+    (low_word(v) == low_word(w)) & (high_word(v) != high_word(w))
+}
+
 // Answers whether the list has a ticket with another record now.
-pub fn has_other(model: &[u32], t: u32, v: u32) -> bool {
+pub fn has_other(model: &[u32], t: u32, v: u64) -> bool {
     listed(model, t) & (list_record(model, t) != v)
 }
 
@@ -354,11 +406,11 @@ pub fn is_lacking(model: &[u32], s: u32) -> bool {
 }
 
 // whether a change since a search's begin was of this ticket with this record
-fn was_changed(model: &[u32], s: u32, t: u32, v: u32) -> bool {
+fn was_changed(model: &[u32], s: u32, t: u32, v: u64) -> bool {
     let changes = hand_word(model, CHANGES);
     let mut i = slot_word(model, s, SINCE);
     while i < changes {
-        if (logged_word(model, i, LOG_TICKET) == t) & (logged_word(model, i, LOG_RECORD) == v) {
+        if (logged_word(model, i, LOG_TICKET) == t) & (logged_record(model, i) == v) {
             return true;
         }
         i += 1;
@@ -367,7 +419,7 @@ fn was_changed(model: &[u32], s: u32, t: u32, v: u32) -> bool {
 }
 
 // whether the list had this ticket with this record at one of the search's moments: it has it now, or a change since the begin was of it
-fn was_held(model: &[u32], s: u32, t: u32, v: u32) -> bool {
+fn was_held(model: &[u32], s: u32, t: u32, v: u64) -> bool {
     let now = listed(model, t) & (list_record(model, t) == v);
     now | was_changed(model, s, t, v)
 }
@@ -397,7 +449,7 @@ fn first_now(model: &[u32], s: u32) -> u32 {
 
 // Answers whether a search may answer this ticket with this record: it comes after the given one, the list had it at one of the search's
 // moments, and none between at all of them.
-pub fn was_next(model: &[u32], s: u32, t: u32, v: u32) -> bool {
+pub fn was_next(model: &[u32], s: u32, t: u32, v: u64) -> bool {
     let after = (slot_word(model, s, WANTED) < t) & (t < draws::TICKETS);
     after & was_held(model, s, t, v) & (t <= first_throughout(model, s))
 }
@@ -408,7 +460,7 @@ pub fn was_none(model: &[u32], s: u32) -> bool {
 }
 
 // Answers whether this ticket with this record is the next one now.
-pub fn is_next(model: &[u32], s: u32, t: u32, v: u32) -> bool {
+pub fn is_next(model: &[u32], s: u32, t: u32, v: u64) -> bool {
     (first_now(model, s) == t) & (list_record(model, t) == v)
 }
 
@@ -459,10 +511,11 @@ pub fn form_in_hand(model: &[u32]) -> u32 {
 }
 
 // Takes a write in hand.
-pub fn take_in_hand(model: &mut [u32], kind: u32, t: u32, v: u32) {
+pub fn take_in_hand(model: &mut [u32], kind: u32, t: u32, v: u64) {
     set_hand_word(model, KIND, kind);
     set_hand_word(model, TICKET, t);
-    set_hand_word(model, RECORD, v);
+    set_hand_word(model, LOW, low_word(v));
+    set_hand_word(model, HIGH, high_word(v));
     set_hand_word(model, MADE, 0);
 }
 
@@ -488,7 +541,7 @@ fn list_store(model: &[u32]) -> u32 {
 
 fn change_list(model: &mut [u32]) {
     let t = hand_word(model, TICKET);
-    let v = hand_word(model, RECORD);
+    let v = joined(hand_word(model, LOW), hand_word(model, HIGH));
     if kind_in_hand(model) == DELETE {
         take_out(model, t);
     } else {

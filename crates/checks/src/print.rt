@@ -108,6 +108,21 @@ fn inserts(counts: &[u64]) {
     );
 }
 
+fn wide_records(counts: &[u64]) {
+    line(
+        b"inserts accepted with a record above 32 bits",
+        rows::get(counts, rows::WIDE_INSERTED),
+    );
+    line(
+        b"inserts accepted with a record that differs in the high word alone",
+        rows::get(counts, rows::HIGH_REPLACED),
+    );
+    line(
+        b"found and next with a record above 32 bits",
+        rows::get(counts, rows::WIDE_ANSWERED),
+    );
+}
+
 fn deletes(counts: &[u64]) {
     line(b"deletes accepted", rows::get(counts, rows::ACCEPTED + 2));
     line(b"deletes finished", rows::get(counts, rows::FINISHED + 2));
@@ -270,6 +285,7 @@ pub fn all(counts: &[u64]) {
     turns(counts);
     readers(counts);
     next_searches(counts);
+    wide_records(counts);
     slots(counts);
     steps(counts);
     rotations(counts);

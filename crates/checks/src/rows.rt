@@ -89,6 +89,13 @@ pub const TALLIES: usize = 168;
 
 pub const QUIET_COUNTS: usize = 169;
 
+// records above 32 bits: inserted, and answered by found or next; and records replaced by one that differs in the high word alone
+pub const WIDE_INSERTED: usize = 170;
+
+pub const WIDE_ANSWERED: usize = 171;
+
+pub const HIGH_REPLACED: usize = 172;
+
 // calls after which every slot was awaited; by slot: readings begun, and calls after which it was awaited
 pub const ALL_AWAITED: usize = 102;
 

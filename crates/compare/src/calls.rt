@@ -35,7 +35,7 @@ pub struct Made {
     pub register: Register,
     pub number: u32,
     pub key: u32,
-    pub record: u32,
+    pub record: u64,
     pub compared: u32,
     pub tally: Tally,
 }
@@ -76,7 +76,7 @@ fn key_found(a: ReaderAnswer) -> u32 {
     }
 }
 
-fn record_found(a: ReaderAnswer) -> u32 {
+fn record_found(a: ReaderAnswer) -> u64 {
     match a {
         ReaderAnswer::Go => 0,
         ReaderAnswer::Found(v) => v,

@@ -30,7 +30,7 @@ struct Said {
     tally: Tally,
     number: u32,
     key: u32,
-    record: u32,
+    record: u64,
     root: u32,
     free: u32,
     held: u32,

@@ -71,10 +71,16 @@ fn end_next(model: &mut [u32], counts: &mut [u64], s: u32, right: bool, now: boo
     }
 }
 
-fn found(model: &mut [u32], counts: &mut [u64], s: u32, v: u32) {
+// an answered record above 32 bits
+fn count_wide(counts: &mut [u64], v: u64) {
+    writing::count_if(counts, rows::WIDE_ANSWERED, numbers::WORD_LIMIT <= v);
+}
+
+fn found(model: &mut [u32], counts: &mut [u64], s: u32, v: u64) {
     let right = !model::seeks(model, s) & model::was_listed(model, s, v);
     let now = model::is_listed(model, s, v);
     rows::one(counts, rows::FOUND);
+    count_wide(counts, v);
     writing::count_if(
         counts,
         rows::FOUND_OUTDATED,
@@ -90,10 +96,11 @@ fn absent(model: &mut [u32], counts: &mut [u64], s: u32) {
     end_lookup(model, counts, s, right, now);
 }
 
-fn next(model: &mut [u32], counts: &mut [u64], s: u32, t: u32, v: u32) {
+fn next(model: &mut [u32], counts: &mut [u64], s: u32, t: u32, v: u64) {
     let right = model::seeks(model, s) & model::was_next(model, s, t, v);
     let now = model::is_next(model, s, t, v);
     rows::one(counts, rows::NEXT);
+    count_wide(counts, v);
     writing::count_if(counts, rows::NEXT_OUTDATED, model::has_other(model, t, v));
     end_next(model, counts, s, right, now);
 }
@@ -121,7 +128,7 @@ fn follow_turn(
     s: u32,
     number: u32,
     ticket: u32,
-    record: u32,
+    record: u64,
 ) {
     if number == calls::GO {
         rows::one(counts, rows::GO);
@@ -155,7 +162,7 @@ pub fn reader_turn(
     s: u32,
     number: u32,
     ticket: u32,
-    record: u32,
+    record: u64,
 ) {
     let foretold = slot_foretold(model, s);
     writing::answered(counts, turn_number(number), foretold);

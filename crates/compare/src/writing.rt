@@ -69,6 +69,11 @@ fn insert_foretold(nodes: u32, tree: &[u32], model: &[u32], kind: u32, free: u32
 
 // takes an accepted insert in hand
 fn begin_insert(tree: &mut [u32], model: &mut [u32], counts: &mut [u64], call: Call, kind: u32) {
+    count_if(
+        counts,
+        rows::WIDE_INSERTED,
+        numbers::WORD_LIMIT <= call.record,
+    );
     reference::insert(tree, call.key, call.record);
     model::take_in_hand(model, kind, call.ticket, call.record);
     model::plan_stores(model, 0, 1 + rotation_stores(tree));
@@ -85,9 +90,14 @@ pub fn count_if(counts: &mut [u64], row: usize, so: bool) {
 // counts the answer to an insert of a held key, by what is special about it; `full`: one of a new key would be refused by 10
 fn count_replacement(model: &[u32], counts: &mut [u64], call: Call, full: bool, number: u32) {
     let accepted = number == calls::ACCEPTED;
-    let same = model::list_record(model, call.ticket) == call.record;
+    let old = model::list_record(model, call.ticket);
     count_if(counts, rows::REPLACED_FULL, accepted & full);
-    count_if(counts, rows::REPLACED_SAME, accepted & same);
+    count_if(counts, rows::REPLACED_SAME, accepted & (old == call.record));
+    count_if(
+        counts,
+        rows::HIGH_REPLACED,
+        accepted & model::differ_high(old, call.record),
+    );
     count_if(counts, rows::REPLACED_FEW, number == 11);
 }
 

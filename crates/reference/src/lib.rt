@@ -1,23 +1,25 @@
 // A plain sequential red-black tree with parent links and loops: insert after document 000 (appendix A.2), delete after Cormen, Leiserson,
 // Rivest and Stein (third edition). The index is compared with it; it uses nothing of the index.
 //
-// A tree is lent as WORDS words: six arrays one after another (keys, records, left, right, parent, colour), each with a word for every node
-// number, and then the words of the head. Node 0 is nil. A word past the end reads 0, and setting one changes nothing.
+// A tree is lent as WORDS words: seven arrays one after another (keys, the low and the high words of the records, left, right, parent,
+// colour), each with a word for every node number, and then the words of the head. Node 0 is nil. A word past the end reads 0, and setting one changes nothing.
 const SPAN: usize = 1024;
 
 const KEY: u32 = 0;
 
-const RECORD: u32 = 1;
+const RECORD_LOW: u32 = 1;
 
-const LEFT: u32 = 2;
+const RECORD_HIGH: u32 = 2;
 
-const RIGHT: u32 = 3;
+const LEFT: u32 = 3;
 
-const PARENT: u32 = 4;
+const RIGHT: u32 = 4;
 
-const COLOUR: u32 = 5;
+const PARENT: u32 = 5;
 
-const HEAD: u32 = 6;
+const COLOUR: u32 = 6;
+
+const HEAD: u32 = 7;
 
 // The head: the root, the keys held, the first free node (free nodes hang together by their left links), the rotations since the last
 // write began (single ones and double ones), and the loops that ran out.
@@ -33,9 +35,12 @@ const DOUBLES: u32 = 4;
 
 const OVERRUNS: u32 = 5;
 
-pub const WORDS: usize = 6150;
+pub const WORDS: usize = 7174;
 
 pub const NIL: u32 = 0;
+
+// a record is two words, each below this
+const WORD_LIMIT: u64 = 4_294_967_296;
 
 const BLACK: u32 = 0;
 
@@ -100,8 +105,13 @@ pub fn key(tree: &[u32], n: u32) -> u32 {
 }
 
 // Answers a node's record.
-pub fn record(tree: &[u32], n: u32) -> u32 {
-    field(tree, RECORD, n)
+pub fn record(tree: &[u32], n: u32) -> u64 {
+    field(tree, RECORD_LOW, n) as u64 + field(tree, RECORD_HIGH, n) as u64 * WORD_LIMIT
+}
+
+fn set_record(tree: &mut [u32], n: u32, v: u64) {
+    set_field(tree, RECORD_LOW, n, (v % WORD_LIMIT) as u32);
+    set_field(tree, RECORD_HIGH, n, (v / WORD_LIMIT) as u32);
 }
 
 // Answers a node's left child.
@@ -260,12 +270,12 @@ fn last_on_path(tree: &mut [u32], k: u32) -> u32 {
 }
 
 // takes a free node and fills it: red, no children
-fn make_node(tree: &mut [u32], k: u32, v: u32) -> u32 {
+fn make_node(tree: &mut [u32], k: u32, v: u64) -> u32 {
     let node = field(tree, HEAD, FREE);
     let next = left(tree, node);
     set_field(tree, HEAD, FREE, next);
     set_field(tree, KEY, node, k);
-    set_field(tree, RECORD, node, v);
+    set_record(tree, node, v);
     set_field(tree, COLOUR, node, RED);
     node
 }
@@ -358,7 +368,7 @@ fn begin_write(tree: &mut [u32]) {
 }
 
 // Add, of a key that is not held
-fn add(tree: &mut [u32], k: u32, v: u32) {
+fn add(tree: &mut [u32], k: u32, v: u64) {
     let above = last_on_path(tree, k);
     let node = make_node(tree, k, v);
     attach(tree, above, node);
@@ -368,13 +378,13 @@ fn add(tree: &mut [u32], k: u32, v: u32) {
 }
 
 // Inserts a key with its record; a held key's record is overwritten.
-pub fn insert(tree: &mut [u32], k: u32, v: u32) {
+pub fn insert(tree: &mut [u32], k: u32, v: u64) {
     begin_write(tree);
     let node = find(tree, k);
     if node == NIL {
         add(tree, k, v);
     } else {
-        set_field(tree, RECORD, node, v);
+        set_record(tree, node, v);
     }
 }
 

@@ -3,17 +3,19 @@
 // a node's words in a pool
 const KEY: usize = 0;
 
-const RECORD: usize = 1;
+const RECORD_LOW: usize = 1;
 
-const LEFT: usize = 2;
+const RECORD_HIGH: usize = 2;
 
-const RIGHT: usize = 3;
+const LEFT: usize = 3;
 
-const COLOUR: usize = 4;
+const RIGHT: usize = 4;
 
-const STANDING: usize = 5;
+const COLOUR: usize = 5;
 
-const HOLDERS: usize = 6;
+const STANDING: usize = 6;
+
+const HOLDERS: usize = 7;
 
 // standings
 const FREE: u32 = 0;
@@ -29,7 +31,7 @@ fn word(pool: &[u32], n: u32, f: usize) -> u32 {
     if n == 0 {
         return 0;
     }
-    if 7 < f {
+    if numbers::NODE_WORDS <= f {
         return 0;
     }
     let at = (n as usize - 1) * numbers::NODE_WORDS + f;
@@ -91,10 +93,16 @@ pub fn all_holders_right(pool: &[u32], reading: u32) -> bool {
     true
 }
 
+// a node's record, of two words
+fn record(pool: &[u32], n: u32) -> u64 {
+    let high = word(pool, n, RECORD_HIGH);
+    word(pool, n, RECORD_LOW) as u64 + high as u64 * numbers::WORD_LIMIT
+}
+
 // a node of each tree: the same key, record and colour
 fn same_node(pool: &[u32], a: u32, tree: &[u32], b: u32) -> bool {
     (word(pool, a, KEY) == reference::key(tree, b))
-        & (word(pool, a, RECORD) == reference::record(tree, b))
+        & (record(pool, a) == reference::record(tree, b))
         & (word(pool, a, COLOUR) == reference::colour(tree, b))
 }
 

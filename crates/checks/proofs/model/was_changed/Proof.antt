@@ -5,6 +5,7 @@ use Rattle.checks.proofs.model.was_changed.Tie as tie
 use Rattle.checks.proofs.model.was_changed.Reads as reads
 use Rattle.checks.proofs.model.was_changed.Lts as lts
 use Rattle.checks.proofs.model.hand_word.Reads as hand-word-reads
+use Rattle.checks.proofs.model.logged_record.Reads as logged-record-reads
 use Rattle.checks.proofs.model.logged_word.Reads as logged-word-reads
 use Rattle.checks.proofs.model.slot_word.Reads as slot-word-reads
 
@@ -26,8 +27,8 @@ loop-holds c = search needs
 logged-word-requires : tie.Need-logged-word-requires Inv-loop μ-loop
 logged-word-requires c κs = search needs
 
-logged-word-requires-2 : tie.Need-logged-word-requires-2 Inv-loop μ-loop
-logged-word-requires-2 c κs = search needs
+logged-record-requires : tie.Need-logged-record-requires Inv-loop μ-loop
+logged-record-requires c κs = search needs
 
 returns : tie.Need-returns Inv-loop μ-loop
 returns c = search needs
@@ -54,7 +55,7 @@ was-changed-spec =
     slot-word-requires
     loop-holds
     logged-word-requires
-    logged-word-requires-2
+    logged-record-requires
     returns
     add-i
     loop-less

@@ -4,6 +4,7 @@ use Rattle.checks.proofs.model.was_listed.Statement.{statement}
 use Rattle.checks.proofs.model.was_listed.Tie as tie
 use Rattle.checks.proofs.model.was_listed.Reads as reads
 use Rattle.checks.proofs.model.was_listed.Lts as lts
+use Rattle.checks.proofs.model.seen_record.Reads as seen-record-reads
 use Rattle.checks.proofs.model.slot_word.Reads as slot-word-reads
 
 abbrev Inv-loop : tie.InvT-loop
@@ -18,11 +19,8 @@ slot-word-requires c κs = search needs
 loop-holds : tie.Need-loop-holds Inv-loop μ-loop
 loop-holds c = search needs
 
-add-slot-word : tie.Need-add-slot-word Inv-loop μ-loop
-add-slot-word c = search needs
-
-slot-word-requires-2 : tie.Need-slot-word-requires-2 Inv-loop μ-loop
-slot-word-requires-2 c κs = search needs
+seen-record-requires : tie.Need-seen-record-requires Inv-loop μ-loop
+seen-record-requires c κs = search needs
 
 returns : tie.Need-returns Inv-loop μ-loop
 returns c = search needs
@@ -47,8 +45,7 @@ was-listed-spec =
     μ-loop
     slot-word-requires
     loop-holds
-    add-slot-word
-    slot-word-requires-2
+    seen-record-requires
     returns
     add-i
     loop-less
