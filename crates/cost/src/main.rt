@@ -236,7 +236,7 @@ fn once(pool: &mut [u32], reg: Register, call: u8, k: u32, s: u32) -> Register {
         return reply.register;
     }
     if call == b'I' {
-        let reply = index::insert(pool, reg, k, k);
+        let reply = index::insert(pool, reg, k, k as u64);
         return reply.register;
     }
     if call == b'D' {
@@ -391,7 +391,7 @@ fn counted(pool: &mut [u32], out: &mut [u8], reg: Register, act: u8, k: u32, s: 
         return printed(pool, out);
     }
     if act == b'I' {
-        let reply = index::insert(pool, reg, k, k);
+        let reply = index::insert(pool, reg, k, k as u64);
         return reply.register.free;
     }
     if act == b'D' {

@@ -14,16 +14,16 @@ const WORDS: usize = 16 * numbers::NODE_WORDS;
 const MOST_TURNS: u32 = 64;
 
 // Writes a text, a number and the end of the line.
-fn say(text: &[u8], n: u32) {
+fn say(text: &[u8], n: u64) {
     io::write_all(STDOUT_FILENO, text);
-    io::print_decimal(STDOUT_FILENO, n as u64);
+    io::print_decimal(STDOUT_FILENO, n);
     io::write_all(STDOUT_FILENO, b"\n");
 }
 
 // Writes the number of a refusal, and answers false. A refused call has changed neither pool nor
 // register.
 fn refused(number: u32) -> bool {
-    say(b"  refused by ", number);
+    say(b"  refused by ", number as u64);
     false
 }
 
@@ -58,7 +58,7 @@ fn reads_on(answer: ReaderAnswer) -> bool {
             false
         }
         ReaderAnswer::Next(key, record) => {
-            say(b"  key ", key);
+            say(b"  key ", key as u64);
             say(b"  record ", record);
             false
         }
@@ -93,14 +93,14 @@ fn carry_out(pool: &mut [u32], asked: Reply) -> Register {
 
 // Inserts a key with its record; a held key gets the new record, in one turn.
 fn insert(pool: &mut [u32], reg: Register, key: u32, record: u64) -> Register {
-    say(b"insert ", key);
+    say(b"insert ", key as u64);
     let asked = index::insert(pool, reg, key, record);
     carry_out(pool, asked)
 }
 
 // Deletes a key.
 fn delete(pool: &mut [u32], reg: Register, key: u32) -> Register {
-    say(b"delete ", key);
+    say(b"delete ", key as u64);
     let asked = index::delete(pool, reg, key);
     carry_out(pool, asked)
 }
@@ -128,23 +128,24 @@ fn search(pool: &mut [u32], asked: Reply, slot: u32) -> Register {
 
 // Looks a key up in a slot.
 fn look_up(pool: &mut [u32], reg: Register, slot: u32, key: u32) -> Register {
-    say(b"look up ", key);
+    say(b"look up ", key as u64);
     let asked = index::begin(pool, reg, slot, key);
     search(pool, asked, slot)
 }
 
 // Searches in a slot for the next ticket: the one with the smallest key greater than this one.
 fn look_next(pool: &mut [u32], reg: Register, slot: u32, key: u32) -> Register {
-    say(b"next after ", key);
+    say(b"next after ", key as u64);
     let asked = index::begin_next(pool, reg, slot, key);
     search(pool, asked, slot)
 }
 
-// Inserts two tickets; the third insert is of a held key and replaces its record.
+// Inserts two tickets; the third insert is of a held key and replaces its record. A record is any
+// number of 64 bits.
 fn fill(pool: &mut [u32], reg: Register) -> Register {
     let mut r = insert(pool, reg, 1, 10);
     r = insert(pool, r, 2, 20);
-    insert(pool, r, 2, 21)
+    insert(pool, r, 2, 5_000_000_000)
 }
 
 // Looks the key 2 up, and searches for the next ticket after 1.

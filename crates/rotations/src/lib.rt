@@ -14,18 +14,9 @@ ghost use lib.ListN.{length};
 ghost use Rattle.datatypes.specs.declared.Step.the-variants.{DiagLower, DiagRaise, ZigLowerA, ZigLowerC, ZigRaise};
 ghost use Rattle.spec.specs.Numbers.{poolLimit};
 ghost use Rattle.spec.specs.Register.{state, setLink};
-ghost use Rattle.spec.specs.Turn.{painted, copyNode, copyColour, risenColour, underCopy, endDiag, endDiagFinds, endZig};
+ghost use Rattle.spec.specs.Turn.{painted, copyColour, risenColour, underCopy, endDiag, endDiagFinds, endZig};
 ghost use Rattle.datatypes.specs.declared.Register.{Register};
 ghost use Rattle.heads.specs.Head.{Follows, Tries, TriesReading};
-
-// Takes a copy of node n, with x on the side s and y on the other side.
-pub fn take_copy(pool: &mut [u32], h: Head, n: u32, s: Side, x: u32, y: u32, colour: u32) -> Head
-    ensures { λ r. ⌜ Follows (λ st. copyNode st n s x y colour) (now (pool .entry)) h (now (pool .exit)) r ⌝ }
-{
-    let k = pool::word(pool, n, pool::KEY);
-    let v = pool::record(pool, n);
-    queue::take_node(pool, h, k, v, s, x, y, colour)
-}
 
 // Answers the colour of the rotation's copies.
 fn copy_colour(purpose: Purpose) -> u32
@@ -73,7 +64,7 @@ pub fn diag_lower(pool: &mut [u32], h: Head, l: Link, s: Side, purpose: Purpose)
     let x = pool::child(pool, z, b);
     let y = pool::child(pool, z, c);
     let link = links::link_at(z, b);
-    let taken = take_copy(pool, h, c, s, x, y, copy_colour(purpose));
+    let taken = queue::take_copy(pool, h, c, s, x, y, copy_colour(purpose));
     let head = heads::set_link(pool, taken, link, h.first);
     StepResult {
         found: true,
@@ -108,7 +99,7 @@ pub fn zig_lower_a(pool: &mut [u32], h: Head, l: Link, s: Side, purpose: Purpose
     let x = pool::child(pool, s, a);
     let y = pool::child(pool, s, b);
     let link = links::link_at(s, b);
-    let taken = take_copy(pool, h, a, s, x, y, copy_colour(purpose));
+    let taken = queue::take_copy(pool, h, a, s, x, y, copy_colour(purpose));
     let head = heads::set_link(pool, taken, link, h.first);
     StepResult {
         found: true,
@@ -144,7 +135,7 @@ pub fn zig_lower_c(pool: &mut [u32], h: Head, l: Link, s: Side, purpose: Purpose
     let x = pool::child(pool, z, b);
     let y = pool::child(pool, z, c);
     let link = links::link_at(z, b);
-    let taken = take_copy(pool, h, c, s, x, y, copy_colour(purpose));
+    let taken = queue::take_copy(pool, h, c, s, x, y, copy_colour(purpose));
     let head = heads::set_link(pool, taken, link, h.first);
     StepResult {
         found: true,

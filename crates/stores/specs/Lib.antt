@@ -1,3 +1,1 @@
 pub mod Inserted
-pub mod Moved
-pub mod Published

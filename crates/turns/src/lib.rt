@@ -28,7 +28,7 @@ pub fn try_step(pool: &mut [u32], h: Head, reading: u32, l: Link, x: Step) -> St
     match x {
         Step::Vacant => heads::missed(h),
         Step::Insert(k, v) => stores::insert(pool, h, l, k, v),
-        Step::Replace(v) => stores::replace(pool, h, reading, l, v),
+        Step::Replace(v) => copies::replace(pool, h, reading, l, v),
         Step::DiagLower(s, purpose) => rotations::diag_lower(pool, h, l, s, purpose),
         Step::DiagRaise(s, purpose) => rotations::diag_raise(pool, h, reading, l, s, purpose),
         Step::ZigLowerA(s, purpose) => rotations::zig_lower_a(pool, h, l, s, purpose),
@@ -37,7 +37,7 @@ pub fn try_step(pool: &mut [u32], h: Head, reading: u32, l: Link, x: Step) -> St
         Step::Unlink => removals::unlink(pool, h, reading, l),
         Step::Adopt => stores::adopt(pool, h, l),
         Step::Promote => removals::promote(pool, h, reading, l),
-        Step::Publish(c) => stores::publish(pool, h, reading, l, c),
+        Step::Publish(c) => copies::publish(pool, h, reading, l, c),
         Step::Detach(k) => removals::detach(pool, h, reading, l, k),
     }
 }
@@ -167,7 +167,7 @@ pub fn make_first(pool: &mut [u32], reg: Register) -> WriterReply
         if !t.found {
             return replies::refuses_writer(12, reg);
         }
-        return stored(reg, t, stores::moved_write(b, reg.first, hand));
+        return stored(reg, t, copies::moved_write(b, reg.first, hand));
     }
     let t = first_step(pool, reg);
     if !t.found {

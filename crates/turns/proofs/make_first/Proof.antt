@@ -15,7 +15,7 @@ use Rattle.turns.proofs.make_first.Tie as tie
 use Rattle.turns.proofs.make_first.Reads as reads
 use Rattle.turns.proofs.make_first.Lts as lts
 use Rattle.pool.proofs.node_at.Reads as node-at-reads
-use Rattle.stores.proofs.moved_write.Reads as moved-write-reads
+use Rattle.copies.proofs.moved_write.Reads as moved-write-reads
 use Rattle.turns.proofs.first_step.Reads as first-step-reads
 use Rattle.turns.proofs.renames.Reads as renames-reads
 use Rattle.replies.proofs.refuses_writer.Reads as refuses-writer-reads

@@ -19,8 +19,8 @@ use Rattle.rotations.proofs.zig_lower_c.Reads as zig-lower-c-reads
 use Rattle.rotations.proofs.zig_raise.Reads as zig-raise-reads
 use Rattle.stores.proofs.adopt.Reads as adopt-reads
 use Rattle.stores.proofs.insert.Reads as insert-reads
-use Rattle.stores.proofs.publish.Reads as publish-reads
-use Rattle.stores.proofs.replace.Reads as replace-reads
+use Rattle.copies.proofs.publish.Reads as publish-reads
+use Rattle.copies.proofs.replace.Reads as replace-reads
 
 enum-told : tie.Need-enum-told
 enum-told c = search needs

@@ -1,8 +1,8 @@
 use borrow.Author.Needs.{needs}
-use Rattle.stores.proofs.moved_link.Statement.{statement}
-use Rattle.stores.proofs.moved_link.Tie as tie
-use Rattle.stores.proofs.moved_link.Reads as reads
-use Rattle.stores.proofs.moved_link.Lts as lts
+use Rattle.copies.proofs.moved_link.Statement.{statement}
+use Rattle.copies.proofs.moved_link.Tie as tie
+use Rattle.copies.proofs.moved_link.Reads as reads
+use Rattle.copies.proofs.moved_link.Lts as lts
 use Rattle.counts.proofs.choose.Reads as choose-reads
 
 enum-told : tie.Need-enum-told

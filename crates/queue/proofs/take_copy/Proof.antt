@@ -1,12 +1,12 @@
 use mathlib.Core.Path.{_∙_}
 use borrow.Author.Needs.{needs}
-use Rattle.rotations.proofs.take_copy.Statement.{statement}
-use Rattle.rotations.proofs.take_copy.Tie as tie
-use Rattle.rotations.proofs.take_copy.Reads as reads
-use Rattle.rotations.proofs.take_copy.Lts as lts
+use Rattle.queue.proofs.take_copy.Statement.{statement}
+use Rattle.queue.proofs.take_copy.Tie as tie
+use Rattle.queue.proofs.take_copy.Reads as reads
+use Rattle.queue.proofs.take_copy.Lts as lts
 use Rattle.pool.proofs.word.Reads as word-reads
 use Rattle.pool.proofs.record.Reads as record-reads
 use Rattle.queue.proofs.take_node.Reads as take-node-reads
 
 word-requires : tie.Need-word-requires
 word-requires c κs = search needs

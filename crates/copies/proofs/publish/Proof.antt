@@ -1,5 +1,5 @@
 use mathlib.Core.Bool.{not, true}
-use Rattle.stores.specs.Published.{publishes-missed, published}
+use Rattle.copies.specs.Published.{publishes-missed, published}
 use Rattle.heads.specs.Head.{at, awaiting, FollowsReading}
 use mathlib.Core.Bool.{false≢true}
 use Rattle.datatypes.specs.declared.Step.the-variants.{Publish}
@@ -10,17 +10,17 @@ use Rattle.spec.specs.Register.{linkNode}
 use native.Mathlib.Omega.{arith}
 use mathlib.Core.Path.{_≡_, sym, _∙_}
 use borrow.Author.Needs.{needs}
-use Rattle.stores.proofs.publish.Statement.{statement}
-use Rattle.stores.proofs.publish.Tie as tie
-use Rattle.stores.proofs.publish.Reads as reads
-use Rattle.stores.proofs.publish.Lts as lts
+use Rattle.copies.proofs.publish.Statement.{statement}
+use Rattle.copies.proofs.publish.Tie as tie
+use Rattle.copies.proofs.publish.Reads as reads
+use Rattle.copies.proofs.publish.Lts as lts
 use Rattle.heads.proofs.missed.Reads as missed-reads
 use Rattle.heads.proofs.set_link.Reads as set-link-reads
 use Rattle.pool.proofs.child.Reads as child-reads
 use Rattle.pool.proofs.word.Reads as word-reads
 use Rattle.queue.proofs.retire.Reads as retire-reads
 use Rattle.pool.proofs.node_at.Reads as node-at-reads
-use Rattle.rotations.proofs.take_copy.Reads as take-copy-reads
+use Rattle.queue.proofs.take_copy.Reads as take-copy-reads
 use Rattle.heads.proofs.await_readers.Reads as await-readers-reads
 
 node-at-requires : tie.Need-node-at-requires

@@ -6,10 +6,10 @@ use Rattle.datatypes.specs.declared.Step.the-variants.{Replace}
 use mathlib.Core.Path.{_≡_, refl}
 use native.Mathlib.Omega.{arith}
 use borrow.Author.Needs.{needs}
-use Rattle.stores.proofs.replace.Statement.{statement}
-use Rattle.stores.proofs.replace.Tie as tie
-use Rattle.stores.proofs.replace.Reads as reads
-use Rattle.stores.proofs.replace.Lts as lts
+use Rattle.copies.proofs.replace.Statement.{statement}
+use Rattle.copies.proofs.replace.Tie as tie
+use Rattle.copies.proofs.replace.Reads as reads
+use Rattle.copies.proofs.replace.Lts as lts
 use Rattle.heads.proofs.missed.Reads as missed-reads
 use Rattle.heads.proofs.set_link.Reads as set-link-reads
 use Rattle.pool.proofs.child.Reads as child-reads

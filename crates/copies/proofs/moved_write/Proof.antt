@@ -1,17 +1,17 @@
 use Rattle.spec.specs.Numbers.{mostStores}
 use Rattle.spec.specs.Turn.{movedStore, movedWrite}
-use Rattle.stores.specs.Moved.{mapFrom, map-all, map-next, map-none}
+use Rattle.copies.specs.Moved.{mapFrom, map-all, map-next, map-none}
 use lib.ListN.{length, length-map, length-set}
 use mathlib.Core.List.{map}
 use Prim.Native.Nat.{_≤_, _-_}
 use mathlib.Core.Path.{_≡_, refl, sym, ap, _∙_}
 use native.Mathlib.Omega.{arith}
 use borrow.Author.Needs.{needs}
-use Rattle.stores.proofs.moved_write.Statement.{statement}
-use Rattle.stores.proofs.moved_write.Tie as tie
-use Rattle.stores.proofs.moved_write.Reads as reads
-use Rattle.stores.proofs.moved_write.Lts as lts
-use Rattle.stores.proofs.moved_store.Reads as moved-store-reads
+use Rattle.copies.proofs.moved_write.Statement.{statement}
+use Rattle.copies.proofs.moved_write.Tie as tie
+use Rattle.copies.proofs.moved_write.Reads as reads
+use Rattle.copies.proofs.moved_write.Lts as lts
+use Rattle.copies.proofs.moved_store.Reads as moved-store-reads
 
 abbrev Inv-loop : tie.InvT-loop
 Inv-loop b n r₀ i₀ r i = (i ≤ mostStores) × (r .count ≡ r₀ .count) × (length (r .stores) ≡ mostStores) × (mapFrom (movedStore b n) i (r .stores) ≡ map (movedStore b n) (r₀ .stores))

@@ -1,9 +1,9 @@
 use borrow.Author.Needs.{needs}
-use Rattle.stores.proofs.moved_store.Statement.{statement}
-use Rattle.stores.proofs.moved_store.Tie as tie
-use Rattle.stores.proofs.moved_store.Reads as reads
-use Rattle.stores.proofs.moved_store.Lts as lts
-use Rattle.stores.proofs.moved_link.Reads as moved-link-reads
+use Rattle.copies.proofs.moved_store.Statement.{statement}
+use Rattle.copies.proofs.moved_store.Tie as tie
+use Rattle.copies.proofs.moved_store.Reads as reads
+use Rattle.copies.proofs.moved_store.Lts as lts
+use Rattle.copies.proofs.moved_link.Reads as moved-link-reads
 
 moved-link-requires : tie.Need-moved-link-requires
 moved-link-requires c κs = search needs
