@@ -12,6 +12,7 @@ ghost use lib.ListN.{length};
 ghost use Rattle.datatypes.specs.declared.Step.the-variants.{Replace};
 ghost use Rattle.spec.specs.Numbers.{poolLimit};
 ghost use Rattle.spec.specs.Turn.{movedLink, movedStore, movedWrite};
+ghost use Rattle.spec.specs.FreeQueue.{Whole};
 ghost use Rattle.heads.specs.Head.{TriesReading};
 ghost use Rattle.copies.specs.Published.{Publishes};
 
@@ -22,7 +23,7 @@ ghost use Rattle.copies.specs.Published.{Publishes};
 //       / \             / \
 //      l   r     =>    l   r
 pub fn replace(pool: &mut [u32], h: Head, reading: u32, l: Link, v: u64) -> StepResult
-    requires { ⌜ length (now pool) < poolLimit ⌝ }
+    requires { ⌜ (length (now pool) < poolLimit) × Whole (now pool) ⌝ }
     ensures { λ r. ⌜ TriesReading reading l (Replace v) (now (pool .entry)) h (now (pool .exit)) r ⌝ }
 {
     let b = pool::node_at(pool, h.root, l);
@@ -97,7 +98,7 @@ pub fn moved_write(b: u32, n: u32, w: Write) -> Write
 //       \                  \
 //        y                  y
 pub fn publish(pool: &mut [u32], h: Head, reading: u32, l: Link, c: u32) -> StepResult
-    requires { ⌜ length (now pool) < poolLimit ⌝ }
+    requires { ⌜ (length (now pool) < poolLimit) × Whole (now pool) ⌝ }
     ensures { λ r. ⌜ Publishes reading l c (now (pool .entry)) h (now (pool .exit)) r ⌝ }
 {
     let b = pool::node_at(pool, h.root, l);

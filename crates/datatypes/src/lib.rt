@@ -70,8 +70,8 @@ pub struct Store {
 
 // The write in hand: the stores still to come stand first, the others are vacant.
 pub struct Write {
-    pub stores: [Store; numbers::MOST_STORES],
     pub count: u32,
+    pub stores: [Store; numbers::MOST_STORES],
 }
 
 // What a reader slot searches for (document 02, C-11).
@@ -86,10 +86,10 @@ pub enum Kind {
 // record (`best`, `value`); how many nodes its turns have compared (document 02, C-17); reading or not, the kind of search, and whether a search
 // for the next ticket remembers one. The numbers stand first: an array of empty records is then cleared faster (docs/DECISIONS.md, 118).
 pub struct Reader {
+    pub value: u64,
     pub key: u32,
     pub node: u32,
     pub best: u32,
-    pub value: u64,
     pub compared: u32,
     pub reading: bool,
     pub kind: Kind,
@@ -103,8 +103,8 @@ pub struct Register {
     pub last: u32,
     pub free: u32,
     pub held: u32,
-    pub readers: [Reader; numbers::SLOTS],
     pub awaited: u32,
+    pub readers: [Reader; numbers::SLOTS],
     pub write: Write,
 }
 

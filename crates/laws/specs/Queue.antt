@@ -1,22 +1,24 @@
 -- The free queue as a list of nodes: take gives its first and leaves the rest, free puts a node at its end.
-use mathlib.Core.Path.{_≡_, refl, sym, _∙_}
+use mathlib.Core.Path.{_≡_, refl, sym, ap, _∙_}
 use mathlib.Core.List.{List, [], _∷_, _++_}
 use mathlib.Core.Bool.{cond}
 use mathlib.Core.Logic.{_≢_, inl, inr}
 use lib.Dec.{eqb}
+use lib.ListN.{length}
+use lib.Seq.{set-out}
 use borrow.Author.Tests.{eq-eqb, ne-eqb}
 use native.Mathlib.Omega.{arith}
-use Prim.Native.Nat.{ℕ, _/_, _%_, _<_}
+use Prim.Native.Nat.{ℕ, _-_, _*_, _/_, _%_, _<_, _≤_}
 use Rattle.datatypes.specs.declared.Side.{Side}
 use Rattle.datatypes.specs.declared.Side.the-variants.{L, R}
 use Rattle.datatypes.specs.Side.{other}
 use Rattle.base.specs.Lists.{_∈_, Distinct}
 use Rattle.spec.specs.Numbers.{nodeWords, wordLimit}
-use Rattle.spec.specs.Pool.{word, setWord, recordAt, keyWord, recordLowWord, recordHighWord, leftWord, rightWord, linkWord, colourWord, standingWord, holdersWord, nextWord, standingLinked}
+use Rattle.spec.specs.Pool.{place, word, setWord, recordAt, keyWord, recordLowWord, recordHighWord, leftWord, rightWord, linkWord, colourWord, standingWord, holdersWord, nextWord, standingLinked}
 use Rattle.spec.specs.Register.{State, withQueue}
 use Rattle.spec.specs.Free.{takeFree, fillNode, takeNode, freeNode}
 use Rattle.spec.specs.FreeQueue.{InPool, Chain, lastOf, Queue}
-use Rattle.laws.specs.Words.{length-setWord, word-same, word-other}
+use Rattle.laws.specs.Words.{length-setWord, set-none, set-at, word-same, word-other}
 use Rattle.laws.specs.Records.{record-other}
 
 pub node-kept : (p : List ℕ) (m n f v : ℕ) → InPool p m → InPool (setWord p n f v) m
@@ -87,6 +89,16 @@ module _ (P : List ℕ → Type 0) (p : List ℕ) (n k v : ℕ) (s : Side) (x y 
       fill-keeps (λ f u. Unit {0}) (λ q f u l g i. put q f u l i)
       record { key = tt; low = tt; high = tt; near = tt; far = tt; colour = tt; standing = tt; zero = λ f. tt }
       h
+
+-- filling no node, or one past the pool's end, changes nothing
+pub fill-none : (p : List ℕ) (k v : ℕ) (s : Side) (x y c : ℕ) → fillNode p 0 k v s x y c ≡ p
+fill-none p k v s x y c = fill-keeps-any (λ q. q ≡ p) p 0 k v s x y c (λ q f u l e. set-none q f u ∙ e) refl
+
+pub fill-past : (p : List ℕ) (n k v : ℕ) (s : Side) (x y c : ℕ) → 1 ≤ n → length p ≤ n * nodeWords - nodeWords → fillNode p n k v s x y c ≡ p
+fill-past p n k v s x y c h past =
+    fill-keeps-any (λ q. q ≡ p) p n k v s x y c
+    (λ q f u l e. let g : length q ≡ length p = ap length e in set-at q n f u h ∙ (set-out q (place n f) u (omega arith) ∙ e))
+    refl
 
 fill-outside : (p : List ℕ) (n k v : ℕ) (s : Side) (x y c a : ℕ) (l : List ℕ) → ¬ (n ∈ l) → Chain p a l → Chain (fillNode p n k v s x y c) a l
 fill-outside p n k v s x y c a l out h = fill-keeps-any (λ q. Chain q a l) p n k v s x y c (λ q f u i j. chain-outside q n f u a l i out j) h

@@ -11,6 +11,7 @@ use Rattle.base.specs.Walk.{allIn, all-in}
 use Rattle.datatypes.specs.declared.Register.{Register}
 use Rattle.spec.specs.Numbers.{nodeWords, leastNodes, mostNodes, poolLimit, slots, mostStores}
 use Rattle.spec.specs.Pool.{nodes, lengthRight, nodeInRange, poolInRange, leftWord, rightWord, colourWord, standingWord, nextWord}
+use Rattle.spec.specs.FreeQueue.{Whole}
 use Rattle.spec.specs.Register.{State, readerOf, readerInRange, storeInRange, registerInRange}
 use Rattle.laws.specs.Words.{word-none}
 use Rattle.spec.specs.Calls.{Test, _gives_, firstOf, Outcome, outcome, unless, refused, wrongLength, outOfRange, slotTooHigh}
@@ -91,12 +92,16 @@ pub unless-done : (tests : List Test) (st : State) (o : Outcome) → firstOf tes
 unless-done tests st o e = rw e
 
 -- and its length is N times a node's words
-pub whole-length : (p : List ℕ) → lengthRight p ≡ true → length p ≡ nodes p * nodeWords
+pub whole-length : (p : List ℕ) → lengthRight p ≡ true → Whole p
 unfolding lengthRight
 whole-length p h =
     let a = eqb (length p % nodeWords) 0 && leb leastNodes (nodes p) in
     let whole = eqb-true (length p % nodeWords) 0 (and-left (eqb (length p % nodeWords) 0) (leb leastNodes (nodes p)) (and-left a (leb (nodes p) mostNodes) h)) in
     omega arith
+
+-- a pool that passed test 1: its length is right, and its nodes are whole
+pub lent-whole : (st : State) → lentNumber st ≡ 0 → (length (st .pool) < poolLimit) × Whole (st .pool)
+lent-whole st h = let t = lent st h in (t .size, whole-length (st .pool) (t .right))
 
 -- node 0, which is no node, is in range
 pub none-fits : (p : List ℕ) (capacity : ℕ) → nodeInRange p capacity 0 ≡ true

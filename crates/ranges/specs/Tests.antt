@@ -10,13 +10,13 @@ use lib.ListN.{length}
 use borrow.Author.Tests.{not-false, leb-true}
 use Rattle.base.specs.Lists.{getD-past}
 use Rattle.base.specs.Walk.{allIn, all-in}
+use Rattle.spec.specs.FreeQueue.{Whole}
 use Rattle.spec.specs.Numbers.{slots, mostStores}
 use Rattle.spec.specs.Pool.{place, word, nodes, leftWord, rightWord, colourWord, standingWord, nodeInRange, poolInRange}
 use Rattle.spec.specs.Register.{State, noReader, noWrite, readerInRange, registerInRange}
 use Rattle.spec.specs.Calls.{outOfRange}
 use Rattle.laws.specs.Words.{word-none, word-at}
 use Rattle.laws.specs.Tests.{and-left, and-right}
-use Rattle.readers.specs.Words.{Whole}
 use Rattle.ranges.specs.Fits.{WordOk, PoolOk, fit-zero}
 use Rattle.ranges.specs.Writes.{write-none}
 use Rattle.ranges.specs.Calls.{Ranged}

@@ -15,12 +15,12 @@ use Rattle.spec.specs.Numbers.{slots}
 use Rattle.spec.specs.Pool.{word, child, nodes, standingWord, holdersWord, standingFree, standingLinked, standingRetired}
 use Rattle.spec.specs.Register.{State, hasSlot, readingSlots, countUp, withQueue}
 use Rattle.spec.specs.Free.{retire, retireTwo}
-use Rattle.spec.specs.FreeQueue.{InPool}
+use Rattle.spec.specs.FreeQueue.{InPool, Whole}
 use Rattle.promise.specs.Run.{Reads}
 use Rattle.heap.specs.Fill.{retire-quiet}
 use Rattle.laws.specs.Freed.{free-length}
 use Rattle.laws.specs.Reading.{readingIn, reading-bit, none-reading}
-use Rattle.readers.specs.Words.{Whole, stands-node, node-length, free-other, free-standing, free-register, retire-none}
+use Rattle.readers.specs.Words.{stands-node, node-length, free-other, free-standing, free-register, retire-none}
 use Rattle.readers.specs.Words.{retire-some, marked-length, marked-other, marked-standing, marked-holders}
 use Rattle.readers.specs.Owned.{Owned, own-retire}
 use Rattle.readers.specs.Reach.{HasStanding, NodeChange, comes, rests, goes}

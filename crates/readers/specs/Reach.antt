@@ -15,13 +15,13 @@ use Rattle.spec.specs.Numbers.{slots}
 use Rattle.spec.specs.Pool.{word, child, linkWord, nodes, standingWord, holdersWord, standingFree, standingLinked, standingRetired}
 use Rattle.spec.specs.Register.{State, hasSlot, dropSlot}
 use Rattle.spec.specs.Free.{endReading}
-use Rattle.spec.specs.FreeQueue.{InPool}
+use Rattle.spec.specs.FreeQueue.{InPool, Whole}
 use Rattle.laws.specs.Slots.{drop-same, drop-other}
 use Rattle.tree.specs.Linked.{Linked, nil, cell, nodes as treeNodes}
 use Rattle.heap.specs.Rep.{Rep}
 use Rattle.promise.specs.Demands.{Leads, arrived, onward}
 use Rattle.laws.specs.Slots.{no-bit}
-use Rattle.readers.specs.Words.{node-high, node-length, Whole, whole-kept, stands-node}
+use Rattle.readers.specs.Words.{node-high, node-length, whole-kept, stands-node}
 use Rattle.readers.specs.QueueExact.{QueueExact}
 use Rattle.readers.specs.Release.{retired, freedBy, end-released}
 

@@ -12,6 +12,7 @@ use borrow.Author.Tests.{eq-eqb, ne-eqb}
 use Rattle.datatypes.specs.declared.Link.{Link}
 use Rattle.datatypes.specs.declared.Write.{Write}
 use Rattle.datatypes.specs.declared.Reader.{Reader}
+use Rattle.spec.specs.FreeQueue.{Whole}
 use Rattle.spec.specs.Numbers.{slots}
 use Rattle.spec.specs.Pool.{standingWord, standingLinked}
 use Rattle.spec.specs.Register.{State, state, noReader, readerOf, withReader, withAwaited, withWrite}
@@ -20,7 +21,7 @@ use Rattle.spec.specs.Calls.{reading}
 use Rattle.promise.specs.Demands.{Leads, Reaches}
 use Rattle.promise.specs.Run.{Reads}
 use Rattle.laws.specs.Reading.{readingIn, reader-same, reader-other}
-use Rattle.readers.specs.Words.{Whole, whole-kept, stands-node}
+use Rattle.readers.specs.Words.{whole-kept, stands-node}
 use Rattle.readers.specs.Release.{ended, end-released}
 use Rattle.readers.specs.Owned.{Owned, own-reader, own-end}
 use Rattle.readers.specs.Reach.{HasStanding, Kept, LinkedClosed, Closed, kept-reach, leads-there, kept-end, closed-end, end-linked, kept-store, closed-store}

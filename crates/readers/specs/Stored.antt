@@ -20,13 +20,13 @@ use Rattle.spec.specs.Pool.{word, setWord, child, keyWord, recordAt, leftWord, 
 use Rattle.spec.specs.Register.{State, state, withRoot, withQueue, setLink}
 use Rattle.spec.specs.Free.{takeFree, takeNode}
 use Rattle.base.specs.Lists.{_∈_}
-use Rattle.spec.specs.FreeQueue.{InPool}
+use Rattle.spec.specs.FreeQueue.{InPool, Whole}
 use Rattle.laws.specs.Words.{length-setWord, word-same, word-other}
 use Rattle.laws.specs.Records.{record-kept}
 use Rattle.laws.specs.Queue.{link-low, key-link, record-link}
 use Rattle.laws.specs.Reading.{ReadingOnly}
 use Rattle.promise.specs.Demands.{TreeLink}
-use Rattle.readers.specs.Words.{Whole, whole-kept, stands-node, fill-length, fill-other, fill-standing}
+use Rattle.readers.specs.Words.{whole-kept, stands-node, fill-length, fill-other, fill-standing}
 use Rattle.readers.specs.QueueExact.{field-exact}
 use Rattle.readers.specs.Owned.{Owned, own-word, own-take}
 use Rattle.readers.specs.Reach.{HasStanding}

@@ -19,7 +19,7 @@ use Rattle.spec.specs.Pool.{word, child, linkWord, keyWord, recordAt, standingW
 use Rattle.spec.specs.Register.{State, state, nodeAt, linkNode, withWrite}
 use Rattle.spec.specs.Free.{retire, retireTwo}
 use Rattle.base.specs.Lists.{_∈_}
-use Rattle.spec.specs.FreeQueue.{InPool}
+use Rattle.spec.specs.FreeQueue.{InPool, Whole}
 use Rattle.laws.specs.Queue.{link-low}
 use Rattle.laws.specs.Words.{word-none}
 use Rattle.laws.specs.Records.{record-kept}
@@ -28,7 +28,7 @@ use Rattle.promise.specs.Run.{Reads}
 use Rattle.promise.specs.Demands.{TreeLink, StoresOne}
 use Rattle.heap.specs.Rep.{alike-refl, upToColour}
 use Rattle.heap.specs.Fill.{Quiet, retire-quiet, retireTwo-quiet}
-use Rattle.readers.specs.Words.{Whole, whole-kept, stands-node}
+use Rattle.readers.specs.Words.{whole-kept, stands-node}
 use Rattle.readers.specs.Owned.{Owned, own-retire}
 use Rattle.readers.specs.Reach.{HasStanding, NodeChange, comes, leaves, goes}
 use Rattle.readers.specs.NodeChanges.{ranked, change-same, Retires, stays, out, off, retire-other, retire-retires, retire-gone, retire-free}

@@ -14,7 +14,7 @@ use Rattle.spec.specs.Numbers.{nodeWords}
 use Rattle.spec.specs.Pool.{place, word, setWord, nodes, standingWord, holdersWord, nextWord, standingFree, standingLinked, standingRetired}
 use Rattle.spec.specs.Register.{State, state, withQueue, countUp, readingSlots}
 use Rattle.spec.specs.Free.{queueEmpty, fillNode, freeNode, retire}
-use Rattle.spec.specs.FreeQueue.{InPool}
+use Rattle.spec.specs.FreeQueue.{InPool, Whole}
 use Rattle.laws.specs.Words.{length-setWord, word-none, word-at, word-same, word-other}
 use Rattle.laws.specs.Queue.{fill-keeps-any, node-kept}
 
@@ -28,10 +28,7 @@ node-high p n h = let a = h .high in omega arith
 pub node-in : (p : List ℕ) (n : ℕ) → 1 ≤ n → n ≤ nodes p → InPool p n
 node-in p n a b = record { low = a; high = omega arith }
 
--- A node's words for each node and no more: what has a word that is not 0 is a node.
-abbrev pub Whole : List ℕ → Type 0
-Whole p = length p ≡ nodes p * nodeWords
-
+-- Of a pool of whole nodes: what has a word that is not 0 is a node.
 pub whole-kept : (p q : List ℕ) → length q ≡ length p → Whole p → Whole q
 whole-kept p q e h = omega arith
 

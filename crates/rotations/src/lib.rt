@@ -16,6 +16,7 @@ ghost use Rattle.spec.specs.Numbers.{poolLimit};
 ghost use Rattle.spec.specs.Register.{state, setLink};
 ghost use Rattle.spec.specs.Turn.{painted, copyColour, risenColour, underCopy, endDiag, endDiagFinds, endZig};
 ghost use Rattle.datatypes.specs.declared.Register.{Register};
+ghost use Rattle.spec.specs.FreeQueue.{Whole};
 ghost use Rattle.heads.specs.Head.{Follows, Tries, TriesReading};
 
 // Answers the colour of the rotation's copies.
@@ -50,6 +51,7 @@ fn risen_colour(pool: &[u32], purpose: Purpose, c: u32) -> u32
 //                       / \
 //                      x   r
 pub fn diag_lower(pool: &mut [u32], h: Head, l: Link, s: Side, purpose: Purpose) -> StepResult
+    requires { ⌜ Whole (now pool) ⌝ }
     ensures { λ r. ⌜ Tries l (DiagLower s purpose) (now (pool .entry)) h (now (pool .exit)) r ⌝ }
 {
     let c = pool::node_at(pool, h.root, l);
@@ -86,6 +88,7 @@ pub fn diag_lower(pool: &mut [u32], h: Head, l: Link, s: Side, purpose: Purpose)
 //                     / \
 //                    a   x
 pub fn zig_lower_a(pool: &mut [u32], h: Head, l: Link, s: Side, purpose: Purpose) -> StepResult
+    requires { ⌜ Whole (now pool) ⌝ }
     ensures { λ r. ⌜ Tries l (ZigLowerA s purpose) (now (pool .entry)) h (now (pool .exit)) r ⌝ }
 {
     let a = pool::child(pool, s, pool::node_at(pool, h.root, l));
@@ -121,6 +124,7 @@ pub fn zig_lower_a(pool: &mut [u32], h: Head, l: Link, s: Side, purpose: Purpose
 //     / \             / \  / \
 //    a   x           a  x y   r
 pub fn zig_lower_c(pool: &mut [u32], h: Head, l: Link, s: Side, purpose: Purpose) -> StepResult
+    requires { ⌜ Whole (now pool) ⌝ }
     ensures { λ r. ⌜ Tries l (ZigLowerC s purpose) (now (pool .entry)) h (now (pool .exit)) r ⌝ }
 {
     let z = links::other(s);

@@ -10,6 +10,7 @@ use lib.Dec.{eqb}
 use lib.ListN.{drop, length}
 use borrow.Author.Tests.{not-false, eqb-true, eqb-false, eq-eqb, le-leb, lt-leb}
 use Rattle.sequential.specs.Delete.{changedBy}
+use Rattle.spec.specs.FreeQueue.{Whole}
 use Rattle.spec.specs.Numbers.{nodeWords, leastNodes, mostNodes, slots, mostStores, freeForInsert, freeForDelete}
 use Rattle.spec.specs.Pool.{word, colourWord, nodes, lengthRight}
 use Rattle.spec.specs.Register.{State, storeOf, hasSlot, withWrite, lessFirst}
@@ -25,7 +26,6 @@ use Rattle.tree.specs.Linked.{Linked, nodes as treeNodes}
 use Rattle.tree.specs.Erase.{tall}
 use Rattle.promise.specs.Run.{Reads, after}
 use Rattle.promise.specs.Demands.{Stands}
-use Rattle.readers.specs.Words.{Whole}
 use Rattle.spec.specs.Calls.{insertTests, deleteTests, writerTests, readerTests, giveUpTests, firstFinds, waiting}
 use Rattle.readers.specs.CallCase.{CallCase, refuses, plansInsert, plansDelete, waits, stores, begins, loads, misses, meets, finds, leaves, testsOf}
 use Rattle.readers.specs.CallCase.{TestsPass}

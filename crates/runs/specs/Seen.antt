@@ -8,12 +8,13 @@ use native.Mathlib.Omega.{arith}
 use native.Mathlib.Decide.{ℕ-discrete}
 use lib.ListN.{length}
 use Rattle.datatypes.specs.declared.Kind.{Kind}
+use Rattle.spec.specs.FreeQueue.{Whole}
 use Rattle.spec.specs.Pool.{child, standingWord, nodes}
 use Rattle.spec.specs.Search.{towards}
 use Rattle.base.specs.Lists.{_∈_, in-append, Distinct, pigeonhole}
 use Rattle.tree.specs.Linked.{Linked}
 use Rattle.heap.specs.Rep.{Rep, Alike, rep-alike, upToLinks}
-use Rattle.readers.specs.Words.{Whole, node-high, stands-node}
+use Rattle.readers.specs.Words.{node-high, stands-node}
 use Rattle.readers.specs.Reach.{Kept, kept-stands}
 use Rattle.readers.specs.Once.{GoesOn, SeenOnce, seen-none, seen-here, seen-turn}
 

@@ -8,12 +8,12 @@ use native.Mathlib.Omega.{arith}
 use Rattle.spec.specs.Numbers.{slots}
 use Rattle.spec.specs.Pool.{nodes, word, child, standingWord, holdersWord}
 use Rattle.spec.specs.Register.{State}
-use Rattle.spec.specs.FreeQueue.{InPool}
+use Rattle.spec.specs.FreeQueue.{InPool, Whole}
 use Rattle.promise.specs.Run.{Start}
 use Rattle.promise.specs.Starts.{SoundStart}
 use Rattle.promise.specs.Demands.{arrived, FreeRight}
 use Rattle.laws.specs.Reading.{ReadingOnly, only-none}
-use Rattle.readers.specs.Words.{Whole, node-in, node-high}
+use Rattle.readers.specs.Words.{node-in, node-high}
 use Rattle.readers.specs.QueueExact.{QueueExact}
 use Rattle.readers.specs.Reach.{leads-on}
 use Rattle.readers.specs.Owned.{Good}

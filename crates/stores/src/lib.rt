@@ -18,11 +18,12 @@ ghost use Rattle.spec.specs.Pool.{isRed, redColour};
 ghost use Rattle.spec.specs.Register.{state, setLink};
 ghost use Rattle.spec.specs.Free.{takeNode};
 ghost use Rattle.spec.specs.Turn.{oneMore, endInsert};
+ghost use Rattle.spec.specs.FreeQueue.{Whole};
 ghost use Rattle.heads.specs.Head.{Follows, Tries};
 
 // Stores a new red node in the link l; one key more is held.
 fn link_new(pool: &mut [u32], h: Head, l: Link, k: u32, v: u64) -> Head
-    requires { ⌜ length (now pool) < poolLimit ⌝ }
+    requires { ⌜ (length (now pool) < poolLimit) × Whole (now pool) ⌝ }
     ensures { λ r. ⌜ Follows (λ st. oneMore (setLink (takeNode st k v L 0 0 redColour) l (h .first))) (now (pool .entry)) h (now (pool .exit)) r ⌝ }
 {
     let first = h.first;
@@ -48,7 +49,7 @@ fn end_insert(pool: &mut [u32], root: u32, e: Ending)
 
 // Inserts under a black parent, or at the root: nothing but the root's colour changes besides.
 fn insert_under_black(pool: &mut [u32], h: Head, l: Link, k: u32, v: u64) -> StepResult
-    requires { ⌜ (length (now pool) < poolLimit) × (isRed (now pool) (owner l) ≡ false) × (h .first ≡ 0 → ⊥) ⌝ }
+    requires { ⌜ (length (now pool) < poolLimit) × (isRed (now pool) (owner l) ≡ false) × (h .first ≡ 0 → ⊥) × Whole (now pool) ⌝ }
     ensures { λ r. ⌜ Tries l (Insert k v) (now (pool .entry)) h (now (pool .exit)) r ⌝ }
 {
     let first = h.first;
@@ -71,7 +72,7 @@ fn insert_under_black(pool: &mut [u32], h: Head, l: Link, k: u32, v: u64) -> Ste
 //                      /
 //                    z r
 fn insert_under_red(pool: &mut [u32], h: Head, l: Link, k: u32, v: u64) -> StepResult
-    requires { ⌜ (length (now pool) < poolLimit) × (isRed (now pool) (owner l) ≡ true) × (h .first ≡ 0 → ⊥) ⌝ }
+    requires { ⌜ (length (now pool) < poolLimit) × (isRed (now pool) (owner l) ≡ true) × (h .first ≡ 0 → ⊥) × Whole (now pool) ⌝ }
     ensures { λ r. ⌜ Tries l (Insert k v) (now (pool .entry)) h (now (pool .exit)) r ⌝ }
 {
     let mut path: [u64; numbers::MOST_LINKS] = [0; numbers::MOST_LINKS];
@@ -95,7 +96,7 @@ fn insert_under_red(pool: &mut [u32], h: Head, l: Link, k: u32, v: u64) -> StepR
 
 // Inserts: stores a new red node in the empty link l and makes the fix-up's colour work. This is the write's list store.
 pub fn insert(pool: &mut [u32], h: Head, l: Link, k: u32, v: u64) -> StepResult
-    requires { ⌜ length (now pool) < poolLimit ⌝ }
+    requires { ⌜ (length (now pool) < poolLimit) × Whole (now pool) ⌝ }
     ensures { λ r. ⌜ Tries l (Insert k v) (now (pool .entry)) h (now (pool .exit)) r ⌝ }
 {
     if h.first == 0 {

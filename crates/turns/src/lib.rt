@@ -17,12 +17,13 @@ ghost use Rattle.spec.specs.Register.{state, withWrite, lessFirst, readingSlots
 ghost use Rattle.spec.specs.Turn.{profile};
 ghost use Rattle.spec.specs.Calls.{writerSays, storeAnswer, stored, writeInHand, writerTurn};
 ghost use Rattle.laws.specs.Tests.{lentNumber};
+ghost use Rattle.spec.specs.FreeQueue.{Whole};
 ghost use Rattle.heads.specs.Head.{left};
 ghost use Rattle.turns.specs.Made.{asksReading, TriesAny, FirstTold};
 
 // Tries the step x at the link l.
 pub fn try_step(pool: &mut [u32], h: Head, reading: u32, l: Link, x: Step) -> StepResult
-    requires { ⌜ length (now pool) < poolLimit ⌝ }
+    requires { ⌜ (length (now pool) < poolLimit) × Whole (now pool) ⌝ }
     ensures { λ r. ⌜ TriesAny reading l x (now (pool .entry)) h (now (pool .exit)) r ⌝ }
 {
     match x {
@@ -134,7 +135,7 @@ fn reading_for(reg: Register, x: Step) -> u32
 
 // Tries the step of the first store.
 fn first_step(pool: &mut [u32], reg: Register) -> StepResult
-    requires { ⌜ length (now pool) < poolLimit ⌝ }
+    requires { ⌜ (length (now pool) < poolLimit) × Whole (now pool) ⌝ }
     ensures { λ r. ⌜ FirstTold (now (pool .entry)) reg (now (pool .exit)) r ⌝ }
 {
     let hand = reg.write;

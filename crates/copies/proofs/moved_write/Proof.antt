@@ -20,7 +20,7 @@ abbrev μ-loop : tie.MeasureT-loop
 μ-loop b n r₀ i₀ r i = mostStores - i
 
 loop-holds : tie.Need-loop-holds Inv-loop μ-loop
-loop-holds c = (search needs, refl, simp length-map at (c .good .1 .1 .0 .1 .1 .0 .1 .0 .1), map-all (movedStore (c .args .b) (c .args .n)) (c .args .w .stores))
+loop-holds c = (search needs, refl, simp length-map at (c .good .1 .1 .0 .1 .1 .1 .0 .1 .0 .1), map-all (movedStore (c .args .b) (c .args .n)) (c .args .w .stores))
 
 cast-at : tie.Need-cast-at Inv-loop μ-loop
 cast-at c = search needs

@@ -76,7 +76,7 @@ retire-requires c κs =
     let c4 = c .before .before .before .before in
     let c8 = c4 .before .before .before .before in
     let c21 = c8 .before .before .before .before .before .before .before .before .before .before .before .before .before in
-    omega (arith, c21 .pre, c8 .take-copy .kept, c4 .set-link .kept)
+    omega (arith, c21 .pre .0, c8 .take-copy .kept, c4 .set-link .kept)
 
 same-length-3 : tie.Need-same-length-3
 same-length-3 c = search needs

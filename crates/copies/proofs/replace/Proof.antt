@@ -71,7 +71,7 @@ retire-requires c κs =
     let c3 = c .before .before .before in
     let c7 = c3 .before .before .before .before in
     let c22 = c7 .before .before .before .before .before .before .before .before .before .before .before .before .before .before .before in
-    omega (arith, c22 .pre, c7 .take-node .kept, c3 .set-link .kept)
+    omega (arith, c22 .pre .0, c7 .take-node .kept, c3 .set-link .kept)
 
 same-length-3 : tie.Need-same-length-3
 same-length-3 c = search needs

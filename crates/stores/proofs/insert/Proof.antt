@@ -39,7 +39,7 @@ insert-under-red-requires c κs =
     let c5 = c3 .before .before in
     let c8 = c5 .before .before .before in
     let a = c8 .args in
-    let e : isRed (a .pool .now) (owner (a .l)) ≡ true = rw (← (c3 .owner .ensures), ← (c .before .before .is-red .ensures)) (c .before .if2 .taken) in (c8 .pre, e, c5 .if1 .left)
+    let e : isRed (a .pool .now) (owner (a .l)) ≡ true = rw (← (c3 .owner .ensures), ← (c .before .before .is-red .ensures)) (c .before .if2 .taken) in (c8 .pre .0, e, c5 .if1 .left, c8 .pre .1)
 
 same-length : tie.Need-same-length
 same-length c = search needs
@@ -53,7 +53,7 @@ insert-under-black-requires c κs =
     let c5 = c3 .before .before in
     let c8 = c5 .before .before .before in
     let a = c8 .args in
-    let e : isRed (a .pool .now) (owner (a .l)) ≡ false = rw (← (c3 .owner .ensures), ← (c .before .before .is-red .ensures)) (c .before .if2 .left) in (c8 .pre, e, c5 .if1 .left)
+    let e : isRed (a .pool .now) (owner (a .l)) ≡ false = rw (← (c3 .owner .ensures), ← (c .before .before .is-red .ensures)) (c .before .if2 .left) in (c8 .pre .0, e, c5 .if1 .left, c8 .pre .1)
 
 same-length-2 : tie.Need-same-length-2
 same-length-2 c = search needs

@@ -60,7 +60,7 @@ unfolding lessFirst
 returns c =
     let f = c .before .before .before .before .before .before .before .before in
     let w = f .args .t1 in
-    let e = shift-up (w .stores) (simp length-map at (f .good .0 .1 .1 .0 .1 .0 .1)) in
+    let e = shift-up (w .stores) (simp length-map at (f .good .0 .1 .1 .1 .0 .1 .0 .1)) in
     rw (c .before .vacant .ensures) (λ i. record { stores = e i; count = c .count-down .ensures i })
 
 pub less-first-spec : {M : Type 1} → statement M

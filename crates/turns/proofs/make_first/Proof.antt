@@ -5,7 +5,7 @@ use mathlib.Core.Bool.{true, false}
 use Rattle.spec.specs.Calls.{Outcome, stored, writerSays, writerTurn}
 use Rattle.spec.specs.Register.{state, storeOf, nodeAt}
 use Rattle.spec.specs.Turn.{stepFinds}
-use Rattle.laws.specs.Tests.{lent}
+use Rattle.laws.specs.Tests.{lent-whole}
 use Rattle.laws.specs.Writers.{writer-missed, writer-stores}
 use Rattle.turns.specs.Made.{turn-made}
 use borrow.Author.Tests.{not-true, not-false}
@@ -33,7 +33,7 @@ node-at-requires c κs = search needs
 first-step-requires : tie.Need-first-step-requires
 first-step-requires c κs =
     let c8 = c .before .before .before .before .before .before .before .before in
-    let a = c8 .args in lent (state (a .pool .now) (a .reg)) (c8 .pre .0) .size
+    let a = c8 .args in lent-whole (state (a .pool .now) (a .reg)) (c8 .pre .0)
 
 refuses-writer-requires : tie.Need-refuses-writer-requires
 refuses-writer-requires c κs = search needs
@@ -84,7 +84,7 @@ returns-2 c =
     (rw (← (c11 .renames .ensures), c10 .if1 .taken) (c .before .moved-write .ensures ∙ rw (c8 .node-at .ensures))) (c .stored .ensures (t .last .0))
 
 first-step-requires-2 : tie.Need-first-step-requires-2
-first-step-requires-2 c κs = let a = c .before .before .before .before .before .before .args in lent (state (a .pool .now) (a .reg)) (c .before .before .before .before .before .before .pre .0) .size
+first-step-requires-2 c κs = let a = c .before .before .before .before .before .before .args in lent-whole (state (a .pool .now) (a .reg)) (c .before .before .before .before .before .before .pre .0)
 
 refuses-writer-requires-2 : tie.Need-refuses-writer-requires-2
 refuses-writer-requires-2 c κs = search needs
