@@ -9,7 +9,7 @@ use Rattle.datatypes.specs.declared.Reader.{Reader}
 use Rattle.spec.specs.Register.{State, state}
 use Rattle.spec.specs.Calls.{ok, go, absent, wait, found, next, more, done, refused, Answer}
 use Rattle.table.specs.Picture.{row, _keptBy_, Read, slot_wants_at_, slot_after_at_with_, _past_, Ticket, Stale, _remembering_, root_held_awaited_stores_, picture}
-use Rattle.table.specs.Picture.{rising, Shape, tree, black, redLeaf, nil, key, value, left, right, colour, standing, nextFree, Change, _of_:=_, root:=_, first:=_}
+use Rattle.table.specs.Picture.{nodeWords, rising, Shape, tree, black, redLeaf, nil, key, recordLow, left, right, colour, standing, nextFree, Change, _of_:=_, root:=_, first:=_}
 use Rattle.table.specs.Picture.{last:=_, free:=_, held:=_, fills, reader_:=_, reads, idle, seeks, _ofKind_, _counting_, _but_, unset, words}
 use Rattle.table.specs.Entry.{P, I, D, W, B, S, R, E, _⇒_, _⇒_counted_, Line, stands, leaves, Entry, entry}
 use Rattle.table.specs.Lent.{three, single, five, four}
@@ -130,7 +130,7 @@ chain (suc k) = black nil (chain k)
 
 -- a pool of N nodes whose words are all 0, with a register at rest
 abbrev zeros : ℕ → State
-zeros N = state (replicate (N * 8) 0) (three .register)
+zeros N = state (replicate (N * nodeWords) 0) (three .register)
 
 -- so many turns of slot 0, the first with the count h, each with one more
 abbrev goesDown : ℕ → ℕ → List Line
@@ -284,9 +284,9 @@ counts =
     ∷ goes "count: a lookup keeps a ticket and counts" three (reads 15 2 remembering Ticket 40 400 counting 5) 6 (reads 15 1 remembering Ticket 40 400 counting 6)
     ∷ goes "count: a lookup to the right counts" three (reads 25 2 counting 5) 6 (reads 25 3 counting 6)
     -- refused turns
-    ∷ refuses "count: 1, in a lookup with a count" (words 65) (reads 10 1 counting 7) 1
-    ∷ refuses "count: 1, in a search with a count" (words 56) (seeks 10 1 counting 7) 1
-    ∷ refuses "count: 1, before any node" (words 8192) (reads 10 0 counting 7) 1
+    ∷ refuses "count: 1, in a lookup with a count" (words 73) (reads 10 1 counting 7) 1
+    ∷ refuses "count: 1, in a search with a count" (words 63) (seeks 10 1 counting 7) 1
+    ∷ refuses "count: 1, before any node" (words 9216) (reads 10 0 counting 7) 1
     ∷ refuses "count: 2 by the node named, in a lookup with a count" (three but (left of 1 := 9 ∷ [])) (reads 10 1 counting 7) 2
     ∷ refuses "count: 2 by the node named, in a search with a count" (three but (colour of 2 := 2 ∷ [])) (seeks 10 2 counting 7) 2
     ∷ refuses "count: 2 by the node named, not reading, with a count" (three but (right of 1 := 9 ∷ [])) (idle 10 1 counting 7) 2
@@ -308,7 +308,7 @@ counts =
     ∷ goes "count: the root's node is loaded and is damaged" (three but (colour of 2 := 2 ∷ [])) (seeks 10 0 counting 5) 5 (seeks 10 2 counting 5)
     -- keys and records at the ends of their range
     ∷ entry "count: keys and records 0 and 4,294,967,295"
-    (three but (key of 1 := 0 ∷ value of 1 := 0 ∷ key of 3 := 4294967295 ∷ value of 3 := 4294967295 ∷ []))
+    (three but (key of 1 := 0 ∷ recordLow of 1 := 0 ∷ key of 3 := 4294967295 ∷ recordLow of 3 := 4294967295 ∷ []))
     (B 0 0 ⇒ ok ∷ R 0 ⇒ go counted 0 ∷ R 0 ⇒ go counted 1
     ∷ leaves (reader 0 := (reads 0 1 counting 1) ∷ [])
     ∷ R 0 ⇒ found 0 counted 2 ∷ S 1 0 ⇒ ok ∷ R 1 ⇒ go counted 0 ∷ R 1 ⇒ go counted 1
@@ -319,7 +319,7 @@ counts =
     ∷ leaves (reader 3 := (seeks 4294967295 3 counting 1) ∷ [])
     ∷ R 3 ⇒ absent counted 2 ∷ S 4 4294967294 ⇒ ok ∷ R 4 ⇒ go counted 0 ∷ R 4 ⇒ go counted 1 ∷ R 4 ⇒ next 4294967295 4294967295 counted 2
     ∷ leaves [] ∷ [])
-    ∷ goes "count: at a node with key and record 0" (three but (key of 2 := 0 ∷ value of 2 := 0 ∷ [])) (reads 30 2 counting 5) 6 (reads 30 3 counting 6)
+    ∷ goes "count: at a node with key and record 0" (three but (key of 2 := 0 ∷ recordLow of 2 := 0 ∷ [])) (reads 30 2 counting 5) 6 (reads 30 3 counting 6)
     ∷ goes "count: at a node with key 0, a search" (three but (key of 2 := 0 ∷ [])) (seeks 0 2 counting 5) 6 (seeks 0 3 counting 6)
     ∷ goes "count: at a node with the largest key" (three but (key of 2 := 4294967295 ∷ [])) (reads 0 2 counting 5) 6 (reads 0 1 counting 6)
     -- the largest value
@@ -433,7 +433,7 @@ counts =
     (P ⇒ ok
     ∷ stands (picture (root 0 held 0 awaited 0 stores 0) [] [] [] (rising 8 1))
     ∷ R 5 ⇒ refused 5 counted 0 ∷ B 5 10 ⇒ ok ∷ R 5 ⇒ absent counted 0 ∷ [])
-    ∷ entry "count: a refused set up leaves the counts" (words 65 but beside) (P ⇒ refused 1 ∷ [])
+    ∷ entry "count: a refused set up leaves the counts" (words 73 but beside) (P ⇒ refused 1 ∷ [])
     -- side by side
     ∷ entry "count: slots side by side, each with its own count" five
     (B 0 30 ⇒ ok ∷ S 7 25 ⇒ ok ∷ B 31 10 ⇒ ok ∷ R 7 ⇒ go counted 0 ∷ R 0 ⇒ go counted 0 ∷ R 7 ⇒ go counted 1 ∷ R 7 ⇒ go counted 2 ∷ R 31 ⇒ go counted 0

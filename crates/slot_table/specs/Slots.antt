@@ -422,7 +422,7 @@ damagedField s =
 
 abbrev wrongWords : ℕ → Entry
 wrongWords s =
-    entry "slots: 1 in the calls of each slot" (words 65 but (reader s := (reads 10 2) ∷ []))
+    entry "slots: 1 in the calls of each slot" (words 73 but (reader s := (reads 10 2) ∷ []))
     (B s 10 ⇒ refused 1 ∷ S s 10 ⇒ refused 1 ∷ R s ⇒ refused 1 ∷ E s ⇒ refused 1 ∷ B (31 - s) 10 ⇒ refused 1 ∷ S (31 - s) 10 ⇒ refused 1 ∷ [])
 
 -- The node of slot s is past its range: 2 in every call, before 4 of a slot that reads and 5 of one that doesn't.

@@ -24,7 +24,7 @@ use Rattle.spec.specs.Register.{State}
 use Rattle.spec.specs.Turn.{Profile, profile, countedBy}
 use Rattle.spec.specs.Calls.{Answer, ok, go, absent, wait, found, next, more, done, refused, Outcome, Call, inserting, deleting, writing}
 use Rattle.spec.specs.Calls.{beginning, turning, givingUp, call, setUp, turnCount}
-use Rattle.table.specs.Picture.{Row, Picture, Change, rowWords, nodeIn, drawn, none, _on_, left, right, standing, _but_}
+use Rattle.table.specs.Picture.{Row, Picture, Change, nodeWords, rowWords, wordsBefore, nodeIn, drawn, none, _on_, left, right, standing, _but_}
 
 -- The calls by the letters of trace: P set up, I insert, D delete, W writer's turn, B begin, S begin a search for the next ticket, R reader's
 -- turn, E give up.
@@ -159,7 +159,7 @@ nodesShown x zero n p = sameNumbers p []
 nodesShown x (suc k) n p =
     let words = nodeIn x n in
     let from = cond (eqb (getD words standing 0) 0) standing 0 in
-    sameNumbers (drop from (take 8 p)) (drop from words) && nodesShown x k (n + 1) (drop 8 p)
+    sameNumbers (drop from (take nodeWords p)) (drop from words) && nodesShown x k (n + 1) (drop nodeWords p)
 
 abbrev isShown : State → Picture → Bool
 isShown st x =
@@ -168,7 +168,7 @@ isShown st x =
     sameNumbers (headNumbers (st .register)) (headNumbers (shown .register)) && nodesShown x N 1 (st .pool)
 
 abbrev isStill : List ℕ → Row → Bool
-isStill p r = sameNumbers (take 5 (drop (r .node * 8 - 8) p)) (take 5 (rowWords r 0 0))
+isStill p r = sameNumbers (take standing (drop (wordsBefore (r .node)) p)) (take standing (rowWords r 0 0))
 
 abbrev sameBool : Bool → Bool → Bool
 sameBool true b = b
@@ -181,8 +181,8 @@ anyReads (x ∷ xs) = x .reading || anyReads xs
 -- The node that a link holds; the stores to come with B's right link as the copy's.
 abbrev nodeOn : State → Link → ℕ
 nodeOn st Root = st .register .root
-nodeOn st (Left n) = getD (st .pool) (n * 8 - 8 + left) 0
-nodeOn st (Right n) = getD (st .pool) (n * 8 - 8 + right) 0
+nodeOn st (Left n) = getD (st .pool) (wordsBefore n + left) 0
+nodeOn st (Right n) = getD (st .pool) (wordsBefore n + right) 0
 
 abbrev onCopy : ℕ → ℕ → Link → Link
 onCopy b copy Root = Root
@@ -203,7 +203,7 @@ asProfiled x before after =
     let later = drop 1 (r .write .stores) ++ none ∷ [] in
     let b = nodeOn before (getD (r .write .stores) 0 none .link) in
     (eqb (r .first) 0 || sameBool (x .takes) (not (eqb (r .first) (q .first))))
-    && eqb (q .held) (countedBy (x .listing) (length (before .pool) / 8) (r .held))
+    && eqb (q .held) (countedBy (x .listing) (length (before .pool) / nodeWords) (r .held))
     && sameBool (not (eqb (q .awaited) 0)) (x .awaits && anyReads (r .readers))
     && sameNumbers (storesNumbers (q .write .stores)) (storesNumbers (cond (x .renames) (renamed b (r .first) later) later))
 

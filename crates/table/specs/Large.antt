@@ -57,7 +57,7 @@ pool-right p =
 
 -- 1,023 nodes with every word at its largest, but that the next free of the last node is as given
 abbrev node : ℕ → List ℕ
-node next = 4294967295 ∷ 4294967295 ∷ 1023 ∷ 1023 ∷ 1 ∷ 2 ∷ 4294967295 ∷ next ∷ []
+node next = 4294967295 ∷ 4294967295 ∷ 4294967295 ∷ 1023 ∷ 1023 ∷ 1 ∷ 2 ∷ 4294967295 ∷ next ∷ []
 
 abbrev nodesBefore : ℕ → List ℕ → List ℕ
 nodesBefore zero p = p

@@ -3,7 +3,7 @@ use mathlib.Core.List.{List, [], _∷_}
 use Rattle.datatypes.specs.declared.Kind.the-variants as kind
 use Rattle.datatypes.specs.declared.Link.the-variants.{Root, Left, Right}
 use Rattle.spec.specs.Calls.{ok, go, absent, wait, found, next, more, done, refused}
-use Rattle.table.specs.Picture.{row, _keptBy_, slot_wants_at_, _past_, slot_after_at_with_, root_held_awaited_stores_, picture, key, value, left, right}
+use Rattle.table.specs.Picture.{row, _keptBy_, slot_wants_at_, _past_, slot_after_at_with_, root_held_awaited_stores_, picture, key, recordLow, left, right}
 use Rattle.table.specs.Picture.{standing, holders, nextFree, _of_:=_, root:=_, last:=_, free:=_, awaited:=_, reader_:=_, reads, idle, seeks, _ofKind_}
 use Rattle.table.specs.Picture.{Nothing, Ticket, Stale, _remembering_, _counting_, _but_, words, unset}
 use Rattle.table.specs.Entry.{P, I, D, W, B, S, R, E, _⇒_, stands, still, leaves, Entry, entry}
@@ -63,7 +63,7 @@ nextTickets =
     ∷ R 0 ⇒ next 15 300 ∷ S 0 15 ⇒ ok ∷ R 0 ⇒ go ∷ R 0 ⇒ go ∷ R 0 ⇒ go ∷ R 0 ⇒ next 20 200
     ∷ leaves [] ∷ [])
     ∷ entry "next: given keys 0 and 4,294,967,295, node keys 0 and 4,294,967,295 with the largest record"
-    (three but (key of 1 := 0 ∷ key of 3 := 4294967295 ∷ value of 3 := 4294967295 ∷ []))
+    (three but (key of 1 := 0 ∷ key of 3 := 4294967295 ∷ recordLow of 3 := 4294967295 ∷ []))
     (S 0 0 ⇒ ok ∷ R 0 ⇒ go ∷ R 0 ⇒ go ∷ R 0 ⇒ next 20 200 ∷ S 1 4294967295 ⇒ ok ∷ R 1 ⇒ go ∷ R 1 ⇒ go ∷ R 1 ⇒ absent ∷ S 2 4294967294 ⇒ ok ∷ R 2 ⇒ go
     ∷ R 2 ⇒ go ∷ R 2 ⇒ next 4294967295 4294967295 ∷ S 3 20 ⇒ ok ∷ R 3 ⇒ go ∷ R 3 ⇒ go ∷ R 3 ⇒ next 4294967295 4294967295
     ∷ leaves [] ∷ [])
@@ -282,7 +282,7 @@ nextTickets =
     (S 1 5 ⇒ refused 2 ∷ R 31 ⇒ refused 2 ∷ E 31 ⇒ refused 2 ∷ [])
     ∷ entry "next: 2, the node of a slot that is not reading, of kind Next, one past its range" (three but (reader 5 := (idle 0 9 ofKind kind.Next) ∷ []))
     (S 0 5 ⇒ refused 2 ∷ R 5 ⇒ refused 2 ∷ [])
-    ∷ entry "next: 1 in the turn and in the give up of a slot that searches, before 2" (words 65)
+    ∷ entry "next: 1 in the turn and in the give up of a slot that searches, before 2" (words 73)
     (R 0 ⇒ refused 1 ∷ E 0 ⇒ refused 1 ∷ [])
     ∷ entry "next: 2 in the turn and in the give up of a slot that searches: a word of its node" (three but (left of 2 := 9 ∷ reader 0 := (seeks 15 2) ∷ []))
     (R 0 ⇒ refused 2 ∷ E 0 ⇒ refused 2 ∷ [])

@@ -1,6 +1,6 @@
 -- Pictures of an index, and changes of single words and fields: what the entries of the tables lend and look at. A node's words stand here as
 -- 01 lists them; nothing rests on the definitions of crate spec.
-use Prim.Native.Nat.{ℕ, zero, suc, _+_, _*_, _-_}
+use Prim.Native.Nat.{ℕ, zero, suc, _+_, _*_, _-_, _/_, _%_}
 use mathlib.Core.Bool.{Bool, true, false, cond}
 use mathlib.Core.List.{List, [], _∷_, _++_}
 use lib.ListN.{length, getD, set, take, drop, replicate}
@@ -142,12 +142,21 @@ pub record Picture : Type 0 where
 abbrev pub picture : Numbers → List Read → List Row → List Retired → List ℕ → Picture
 picture a readers linked retired queue = record { numbers = a; readers = readers; linked = linked; retired = retired; queue = queue }
 
--- the eight words of a node: key, record, left, right, colour, standing, holders, next free
+-- The nine words of a node (02, C-18): key, record low, record high, left, right, colour, standing, holders, next free. The record's low word is
+-- what it leaves by two to the power 32, its high word how often that goes into it.
+abbrev pub nodeWords : ℕ
+nodeWords = 9
+
 abbrev pub rowWords : Row → ℕ → ℕ → List ℕ
-rowWords r standing holders = r .key ∷ r .value ∷ r .left ∷ r .right ∷ r .colour ∷ standing ∷ holders ∷ 0 ∷ []
+rowWords r standing holders =
+    r .key ∷ r .value % 4294967296 ∷ r .value / 4294967296 ∷ r .left ∷ r .right ∷ r .colour ∷ standing ∷ holders ∷ 0 ∷ []
 
 abbrev pub freeWords : ℕ → List ℕ
-freeWords next = 0 ∷ 0 ∷ 0 ∷ 0 ∷ 0 ∷ 0 ∷ 0 ∷ next ∷ []
+freeWords next = 0 ∷ 0 ∷ 0 ∷ 0 ∷ 0 ∷ 0 ∷ 0 ∷ 0 ∷ next ∷ []
+
+-- the words before node n's
+abbrev pub wordsBefore : ℕ → ℕ
+wordsBefore n = n * nodeWords - nodeWords
 
 abbrev pub linkedIn : List Row → ℕ → List ℕ → List ℕ
 linkedIn [] n others = others
@@ -253,26 +262,29 @@ x on l = record { link = l; step = x }
 abbrev pub key : ℕ
 key = 0
 
-abbrev pub value : ℕ
-value = 1
+abbrev pub recordLow : ℕ
+recordLow = 1
+
+abbrev pub recordHigh : ℕ
+recordHigh = 2
 
 abbrev pub left : ℕ
-left = 2
+left = 3
 
 abbrev pub right : ℕ
-right = 3
+right = 4
 
 abbrev pub colour : ℕ
-colour = 4
+colour = 5
 
 abbrev pub standing : ℕ
-standing = 5
+standing = 6
 
 abbrev pub holders : ℕ
-holders = 6
+holders = 7
 
 abbrev pub nextFree : ℕ
-nextFree = 7
+nextFree = 8
 
 -- A change of a word or field: node n's word f, a number of the register, a slot's record, a planned store; or one store in hand; or a node
 -- filled anew, which stands linked; or no write in hand.
@@ -339,7 +351,7 @@ registerWith r atRest =
     withLists (withNumbers r (r .root) (r .first) (r .last) (r .free) (r .held) (r .awaited) 0) (r .readers) (replicate 7 none)
 
 abbrev poolWith : List ℕ → Change → List ℕ
-poolWith p (f of n := v) = set p (n * 8 - 8 + f) v
+poolWith p (f of n := v) = set p (wordsBefore n + f) v
 poolWith p (root:= v) = p
 poolWith p (first:= v) = p
 poolWith p (last:= v) = p
@@ -350,7 +362,7 @@ poolWith p (count:= v) = p
 poolWith p (reader s := x) = p
 poolWith p (store i := x) = p
 poolWith p (hand x) = p
-poolWith p (fills r) = take (r .node * 8 - 8) p ++ rowWords r 1 0 ++ drop (r .node * 8) p
+poolWith p (fills r) = take (wordsBefore (r .node)) p ++ rowWords r 1 0 ++ drop (r .node * nodeWords) p
 poolWith p atRest = p
 
 infixl 60 _but_
@@ -377,4 +389,4 @@ words n = state (replicate n 90) used
 
 -- a pool of N nodes
 abbrev pub unset : ℕ → State
-unset N = words (N * 8)
+unset N = words (N * nodeWords)

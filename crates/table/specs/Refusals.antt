@@ -9,7 +9,7 @@ use Rattle.datatypes.specs.declared.Step.the-variants.{Vacant, Insert, Replace,
 use Rattle.datatypes.specs.declared.Step.the-variants.{Promote, Publish, Detach}
 use Rattle.spec.specs.Register.{State}
 use Rattle.spec.specs.Calls.{ok, go, absent, wait, found, next, done, refused}
-use Rattle.table.specs.Picture.{row, slot_wants_at_, root_held_awaited_stores_, picture, none, _on_, key, value, left, right, colour, standing}
+use Rattle.table.specs.Picture.{row, slot_wants_at_, root_held_awaited_stores_, picture, none, _on_, key, recordLow, recordHigh, left, right, colour, standing}
 use Rattle.table.specs.Picture.{holders, nextFree, Change, _of_:=_, root:=_, first:=_, last:=_, free:=_, held:=_, awaited:=_, count:=_, hand}
 use Rattle.table.specs.Picture.{reader_:=_, store_:=_, reads, idle, _but_, words, unset}
 use Rattle.table.specs.Entry.{P, I, D, W, B, S, R, E, _⇒_, stands, leaves, Entry, entry}
@@ -45,10 +45,21 @@ awaitedAs title m =
 abbrev pub refusals : List Entry
 refusals =
     gives1 "1 in all eight calls, before 2 and 3: no words" 0
-    ∷ gives1 "1 in all eight calls, before 2 and 3: 7 nodes" 56
-    ∷ gives1 "1 in all eight calls, before 2 and 3: 63 words" 63
-    ∷ gives1 "1 in all eight calls, before 2 and 3: 65 words" 65
-    ∷ gives1 "1 in all eight calls, before 2 and 3: 1,024 nodes" 8192
+    ∷ gives1 "1 in all eight calls, before 2 and 3: 7 nodes" 63
+    ∷ gives1 "1 in all eight calls, before 2 and 3: 71 words" 71
+    ∷ gives1 "1 in all eight calls, before 2 and 3: 73 words" 73
+    ∷ gives1 "1 in all eight calls, before 2 and 3: 1,024 nodes" 9216
+    ∷ gives1 "1 in all eight calls, before 2 and 3: 64 words, eight a node" 64
+    ∷ gives1 "1 in all eight calls, before 2 and 3: 8,184 words, eight a node" 8184
+    ∷ gives1 "1 in all eight calls, before 2 and 3: 80 words, ten a node" 80
+    ∷ gives1 "1 in all eight calls, before 2 and 3: 75 words" 75
+    ∷ gives1 "1 in all eight calls, before 2 and 3: 9,206 words" 9206
+    ∷ gives1 "1 in all eight calls, before 2 and 3: 9,208 words" 9208
+    ∷ entry "72 words are eight nodes" (words 72)
+    (P ⇒ ok
+    ∷ stands (picture (root 0 held 0 awaited 0 stores 0) [] [] [] (1 ∷ 2 ∷ 3 ∷ 4 ∷ 5 ∷ 6 ∷ 7 ∷ 8 ∷ [])) ∷ [])
+    ∷ entry "9,207 words are 1,023 nodes" (words 9207)
+    (P ⇒ ok ∷ R 0 ⇒ refused 5 ∷ [])
     ∷ entry "2 in six calls, before 3, 7 and the search; a reader's turn doesn't test another node; set up tests 1 only" (three but (left of 1 := 9 ∷ []))
     (I 20 5 ⇒ refused 2 ∷ D 25 ⇒ refused 2 ∷ W ⇒ refused 2 ∷ B 32 1 ⇒ refused 2 ∷ S 32 1 ⇒ refused 2 ∷ R 32 ⇒ refused 3 ∷ E 32 ⇒ refused 2
     ∷ P ⇒ ok
@@ -56,7 +67,7 @@ refusals =
     ∷ entry "2 before 4, 5 and 6" (three but (reader 0 := (reads 5 0) ∷ hand (Unlink on Root) ∷ last:= 9 ∷ []))
     (B 0 1 ⇒ refused 2 ∷ S 0 1 ⇒ refused 2 ∷ R 1 ⇒ refused 2 ∷ E 1 ⇒ refused 2 ∷ I 20 5 ⇒ refused 2 ∷ D 25 ⇒ refused 2 ∷ [])
     ∷ entry "each word of a node at its largest"
-    (three but (key of 8 := 4294967295 ∷ value of 8 := 4294967295 ∷ left of 8 := 8 ∷ right of 8 := 8 ∷ colour of 8 := 1 ∷ standing of 8 := 2
+    (three but (key of 8 := 4294967295 ∷ recordLow of 8 := 4294967295 ∷ recordHigh of 8 := 4294967295 ∷ left of 8 := 8 ∷ right of 8 := 8 ∷ colour of 8 := 1 ∷ standing of 8 := 2
     ∷ holders of 8 := 4294967295 ∷ nextFree of 8 := 8 ∷ []))
     (B 0 5 ⇒ ok ∷ [])
     ∷ gives2 "2: left one past its range, last node" three (left of 8 := 9 ∷ [])
@@ -144,7 +155,7 @@ refusals =
     [] (row 3 0 1 0 0 4 ∷ row 4 4294967295 1 1 0 0 ∷ []) [] (5 ∷ 6 ∷ 7 ∷ 8 ∷ 1 ∷ 2 ∷ []))
     ∷ D 1 ⇒ refused 9 ∷ D 0 ⇒ ok ∷ W ⇒ done Root 4
     ∷ stands (picture (root 4 held 1 awaited 0 stores 0) [] (row 4 4294967295 1 0 0 0 ∷ []) [] (5 ∷ 6 ∷ 7 ∷ 8 ∷ 1 ∷ 2 ∷ 3 ∷ [])) ∷ [])
-    ∷ gives1 "1 in all eight calls, before 2 and 3: 68 words" 68
+    ∷ gives1 "1 in all eight calls, before 2 and 3: 76 words" 76
     ∷ gives2 "2: left one past its range, a node between" three (left of 5 := 9 ∷ [])
     ∷ entry "2: the node of slot 4 one past its range" (three but (reader 4 := (idle 0 9) ∷ []))
     (B 1 5 ⇒ refused 2 ∷ [])

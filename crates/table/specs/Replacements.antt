@@ -6,7 +6,7 @@ use Rattle.datatypes.specs.declared.Step.the-variants.{Replace, Unlink}
 use Rattle.spec.specs.Register.{State}
 use Rattle.spec.specs.Calls.{ok, go, absent, wait, found, next, more, done, refused}
 use Rattle.table.specs.Picture.{Row, Change, row, _keptBy_, slot_wants_at_, _past_, slot_after_at_with_, Nothing, Ticket, root_held_awaited_stores_, picture, none}
-use Rattle.table.specs.Picture.{nil, red, black, redLeaf, blackLeaf, tree, _on_, key, value, left, right, colour, standing, holders, nextFree}
+use Rattle.table.specs.Picture.{nil, red, black, redLeaf, blackLeaf, tree, _on_, key, recordLow, left, right, colour, standing, holders, nextFree}
 use Rattle.table.specs.Picture.{_of_:=_, root:=_, first:=_, last:=_, free:=_, held:=_, awaited:=_, count:=_, reader_:=_, store_:=_, hand}
 use Rattle.table.specs.Picture.{fills, atRest, reads, _but_, unset}
 use Rattle.table.specs.Entry.{P, I, D, W, B, S, R, E, _⇒_, stands, still, leaves, Entry, entry, gives12}
@@ -320,15 +320,15 @@ replacements =
     ∷ leaves (standing of 1 := 0 ∷ fills (row 3 10 101 1 1 2) ∷ nextFree of 8 := 1 ∷ root:= 3 ∷ first:= 4 ∷ last:= 1 ∷ []) ∷ [])
     ∷ entry "replace: the node taken is the old node itself: filled, linked, then freed" (three but (standing of 2 := 0 ∷ first:= 2 ∷ nextFree of 2 := 4 ∷ []))
     (I 20 201 ⇒ ok ∷ W ⇒ done Root 2
-    ∷ leaves (value of 2 := 201 ∷ nextFree of 2 := 0 ∷ nextFree of 8 := 2 ∷ first:= 4 ∷ last:= 2 ∷ []) ∷ [])
+    ∷ leaves (recordLow of 2 := 201 ∷ nextFree of 2 := 0 ∷ nextFree of 8 := 2 ∷ first:= 4 ∷ last:= 2 ∷ []) ∷ [])
     ∷ entry "replace: the node taken is the old node itself, and a slot reads" (three but (standing of 2 := 0 ∷ first:= 2 ∷ nextFree of 2 := 4 ∷ reader 2 := (reads 5 0) ∷ []))
     (I 20 201 ⇒ ok ∷ W ⇒ done Root 2
-    ∷ leaves (value of 2 := 201 ∷ standing of 2 := 2 ∷ holders of 2 := 4 ∷ nextFree of 2 := 0 ∷ first:= 4 ∷ free:= 4 ∷ []) ∷ [])
+    ∷ leaves (recordLow of 2 := 201 ∷ standing of 2 := 2 ∷ holders of 2 := 4 ∷ nextFree of 2 := 0 ∷ first:= 4 ∷ free:= 4 ∷ []) ∷ [])
     ∷ entry "replace: the node taken is the one whose link is stored: filled, then linked" (three but (standing of 2 := 0 ∷ first:= 2 ∷ nextFree of 2 := 4 ∷ []))
     (I 10 101 ⇒ ok ∷ W ⇒ done (Left 2) 2
     ∷ leaves (standing of 1 := 0 ∷ fills (row 2 10 101 1 2 0) ∷ nextFree of 8 := 1 ∷ first:= 4 ∷ last:= 1 ∷ []) ∷ [])
     ∷ entry "replace: the node taken is the first, whatever it stands as"
-    (three but (standing of 4 := 2 ∷ holders of 4 := 9 ∷ nextFree of 4 := 7 ∷ key of 4 := 77 ∷ value of 4 := 78 ∷ left of 4 := 8 ∷ right of 4 := 6 ∷ colour of 4 := 1 ∷ []))
+    (three but (standing of 4 := 2 ∷ holders of 4 := 9 ∷ nextFree of 4 := 7 ∷ key of 4 := 77 ∷ recordLow of 4 := 78 ∷ left of 4 := 8 ∷ right of 4 := 6 ∷ colour of 4 := 1 ∷ []))
     (I 20 201 ⇒ ok ∷ W ⇒ done Root 4
     ∷ leaves (standing of 2 := 0 ∷ fills (row 4 20 201 0 1 3) ∷ nextFree of 8 := 2 ∷ root:= 4 ∷ first:= 7 ∷ last:= 2 ∷ []) ∷ [])
     ∷ entry "replace: the old node is retired whatever it stands as, its other words kept"
@@ -361,5 +361,5 @@ replacements =
     ∷ leaves (standing of 3 := 0 ∷ right of 2 := 4 ∷ fills (row 4 30 301 1 3 3) ∷ nextFree of 8 := 3 ∷ first:= 5 ∷ last:= 3 ∷ []) ∷ [])
     ∷ entry "replace: the node taken is the old node itself, below the root" (three but (standing of 3 := 0 ∷ first:= 3 ∷ nextFree of 3 := 4 ∷ []))
     (I 30 301 ⇒ ok ∷ W ⇒ done (Right 2) 3
-    ∷ leaves (value of 3 := 301 ∷ nextFree of 3 := 0 ∷ nextFree of 8 := 3 ∷ first:= 4 ∷ last:= 3 ∷ []) ∷ [])
+    ∷ leaves (recordLow of 3 := 301 ∷ nextFree of 3 := 0 ∷ nextFree of 8 := 3 ∷ first:= 4 ∷ last:= 3 ∷ []) ∷ [])
     ∷ []

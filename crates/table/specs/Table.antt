@@ -2,7 +2,7 @@
 use mathlib.Core.Path.{_≡_, refl}
 use mathlib.Core.Bool.{true}
 use Rattle.base.specs.Walk.{allFrom, allIn, foldFrom, foldIn}
-use Rattle.spec.specs.Pool.{word, setWord, nodeInRange, poolInRange, lengthRight, freshNodes, freshPool}
+use Rattle.spec.specs.Pool.{word, setWord, recordAt, nodeInRange, poolInRange, lengthRight, freshNodes, freshPool}
 use Rattle.spec.specs.Register.{withRoot, withQueue, withHeld, withReader, withAwaited, withWrite, nodeAt, setLink}
 use Rattle.spec.specs.Register.{putSlot, dropSlot, readingSlots, storeInRange, registerInRange, freshRegister, fresh, writeOf, lessFirst}
 use Rattle.spec.specs.Free.{takeFree, fillNode, takeNode, freeNode, retire, retireTwo, release, endReading}
@@ -43,7 +43,7 @@ pub record TablesPass : Type 0 where
   pub large : LargePasses
 
 pub tables-pass : TablesPass
-unfolding allFrom allIn foldFrom foldIn word setWord nodeInRange poolInRange lengthRight freshNodes freshPool withRoot withQueue withHeld withReader
+unfolding allFrom allIn foldFrom foldIn word setWord recordAt nodeInRange poolInRange lengthRight freshNodes freshPool withRoot withQueue withHeld withReader
     withAwaited withWrite nodeAt setLink putSlot dropSlot readingSlots storeInRange registerInRange freshRegister fresh writeOf lessFirst takeFree
     fillNode takeNode freeNode retire retireTwo release endReading seek trail leftmost insertFixup fixupAfterInsert paintInsertFixup redSibling
     deleteFixup fixupAfterRemoval paintDeleteLevels paintDeleteFixup insertPlan unlinkPlan deletePlan insertStore replaceStore diagLower diagRaise

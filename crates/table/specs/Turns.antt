@@ -9,7 +9,7 @@ use Rattle.datatypes.specs.declared.Reader.{Reader}
 use Rattle.datatypes.specs.declared.Step.the-variants.{Vacant, Unlink, Publish}
 use Rattle.spec.specs.Register.{State}
 use Rattle.spec.specs.Calls.{go, absent, found, next, refused}
-use Rattle.table.specs.Picture.{row, _keptBy_, root_held_awaited_stores_, picture, drawn, none, _on_, key, value, left, right, colour}
+use Rattle.table.specs.Picture.{row, _keptBy_, root_held_awaited_stores_, picture, drawn, none, _on_, key, recordLow, recordHigh, left, right, colour}
 use Rattle.table.specs.Picture.{standing, holders, nextFree, Change, _of_:=_, root:=_, first:=_, last:=_, free:=_, held:=_, awaited:=_, count:=_, hand}
 use Rattle.table.specs.Picture.{reader_:=_, store_:=_, reads, idle, seeks, _ofKind_, Ticket, _remembering_, _counting_, _but_, words}
 use Rattle.table.specs.Entry.{I, D, W, B, S, R, E, _⇒_, leaves, Entry, entry}
@@ -49,7 +49,7 @@ goesOn title cs =
 -- Node 8 with every word at its largest, and slots at it.
 abbrev largest : State
 largest =
-    three but (key of 8 := 4294967295 ∷ value of 8 := 4294967295 ∷ left of 8 := 8 ∷ right of 8 := 8 ∷ colour of 8 := 1 ∷ standing of 8 := 2
+    three but (key of 8 := 4294967295 ∷ recordLow of 8 := 4294967295 ∷ recordHigh of 8 := 4294967295 ∷ left of 8 := 8 ∷ right of 8 := 8 ∷ colour of 8 := 1 ∷ standing of 8 := 2
     ∷ holders of 8 := 4294967295 ∷ nextFree of 8 := 8 ∷ reader 0 := (reads 4294967294 8) ∷ reader 6 := (seeks 4294967295 8) ∷ reader 31 := (idle 5 8) ∷ [])
 
 -- Retired nodes 4 to 9 with damaged words, when the reading of slot 3, whose bit is 8, ends. It is at the node given.
@@ -163,7 +163,7 @@ turns =
     (W ⇒ refused 2 ∷ R 1 ⇒ refused 2 ∷ R 2 ⇒ refused 2 ∷ R 0 ⇒ go
     ∷ leaves (reader 0 := (reads 10 1 counting 1) ∷ []) ∷ [])
     ∷ entry "turn: 1 before 2 of the node named"
-    (words 65 but (reader 0 := (reads 10 1) ∷ reader 1 := (seeks 10 8) ∷ reader 2 := (idle 10 1) ∷ []))
+    (words 73 but (reader 0 := (reads 10 1) ∷ reader 1 := (seeks 10 8) ∷ reader 2 := (idle 10 1) ∷ []))
     (R 0 ⇒ refused 1 ∷ R 1 ⇒ refused 1 ∷ R 2 ⇒ refused 1 ∷ [])
     ∷ entry "turn: 2, right of a retired node, named, one past its range"
     (three but (standing of 1 := 2 ∷ holders of 1 := 255 ∷ right of 1 := 9 ∷ reader 0 := (reads 10 1) ∷ reader 6 := (seeks 10 1) ∷ reader 7 := (idle 10 1) ∷ []))
