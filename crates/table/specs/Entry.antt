@@ -55,15 +55,17 @@ E s = calls (givingUp s)
 
 -- A line of an entry. A call with its answer: one that is refused or answers wait must leave every word and field as it was, and a store must
 -- have done what its step's profile says. counted: a reader's turn, with the count that its reply says (02, C-17).
--- stands: what stands now is this picture. still: a node has these words, whatever it stands as. leaves: what stands now is what was lent
--- with these changes, every word and field.
+-- stands: what stands now is this picture. still: a node has these words, whatever it stands as. holds: a node has just these nine words.
+-- leaves: what stands now is what was lent with these changes, every word and field.
 infix 70 _⇒_
 infix 70 _⇒_counted_
+infix 70 _holds_
 pub data Line : Type 0 where
   _⇒_ : (r : Request) (a : Answer) → Line
   _⇒_counted_ : (r : Request) (a : Answer) (h : ℕ) → Line
   stands : Picture → Line
   still : Row → Line
+  _holds_ : (n : ℕ) (ws : List ℕ) → Line
   leaves : List Change → Line
 
 pub record Entry : Type 0 where
@@ -247,6 +249,7 @@ holdsFrom lent st ((r ⇒ a counted h) ∷ later) =
     sameNumbers (answerNumbers (o .answer)) (answerNumbers a) && saysCount st r h && agrees a st (o .after) && holdsFrom lent (o .after) later
 holdsFrom lent st (stands x ∷ later) = isShown st x && holdsFrom lent st later
 holdsFrom lent st (still r ∷ later) = isStill (st .pool) r && holdsFrom lent st later
+holdsFrom lent st ((n holds ws) ∷ later) = sameNumbers (take nodeWords (drop (wordsBefore n) (st .pool))) ws && holdsFrom lent st later
 holdsFrom lent st (leaves cs ∷ later) = sameState st (lent but cs) && holdsFrom lent st later
 
 abbrev pub passes : Entry → Bool

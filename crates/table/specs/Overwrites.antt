@@ -1,10 +1,12 @@
--- 02, C-13: a replacing store is the list store; and the sequential tree overwrites the record, with shape, keys and colours as they were.
+-- 02, C-13: a replacing store is the list store; and the sequential tree overwrites the record, with shape, keys and colours as they were. It holds
+-- records whole (C-18: `wide`); 4,294,967,316 is 20 with the high word 1.
 use Prim.Native.Nat.{ℕ}
 use mathlib.Core.Path.{_≡_, refl}
 use mathlib.Core.Bool.{true}
 use Rattle.datatypes.specs.declared.Step.the-variants.{Replace}
 use Rattle.sequential.specs.Tree.{Colour, red, black, Tree, leaf, node, rel}
 use Rattle.sequential.specs.Insert.{insert}
+use Rattle.sequential.specs.Delete.{delete}
 use Rattle.spec.specs.Turn.{profile, isListed}
 
 -- a node without children; keys 2 over 1 and 3; keys 2 over 1 and 4, which is red, over 3 and 5
@@ -30,6 +32,17 @@ pub record Overwrites : Type 0 where
   pub sameRecord : insert (three 10 20 30) 1 10 ≡ three 10 20 30
   pub redRoot : insert (node red 2 20 (one red 1 10) leaf) 2 21 ≡ node red 2 21 (one red 1 10) leaf
   pub belowRedRoot : insert (node red 2 20 (one red 1 10) leaf) 1 11 ≡ node red 2 20 (one red 1 11) leaf
+  pub wideListed : isListed (profile (Replace 4294967296) .listing) ≡ true
+  pub wideFirst : insert leaf 2 18446744073709551615 ≡ one black 2 18446744073709551615
+  pub wideLeaf : insert (one black 2 20) 1 4294967296 ≡ node black 2 20 (one red 1 4294967296) leaf
+  pub wideRoot : insert (three 10 20 30) 2 4294967316 ≡ three 10 4294967316 30
+  pub wideNarrow : insert (three 10 4294967316 30) 2 20 ≡ three 10 20 30
+  pub wideLeft : insert (three 4294967306 4294967316 4294967326) 1 8589934602 ≡ three 8589934602 4294967316 4294967326
+  pub wideDiag : insert (node black 2 4294967316 (one red 1 8589934602) leaf) 0 12884901888
+      ≡ node black 1 8589934602 (one red 0 12884901888) (one red 2 4294967316)
+  pub wideZig : insert (node black 2 4294967316 (one red 0 8589934592) leaf) 1 12884901898
+      ≡ node black 1 12884901898 (one red 0 8589934592) (one red 2 4294967316)
+  pub wideDelete : delete (three 4294967306 4294967316 4294967326) 2 ≡ node black 3 4294967326 (one red 1 4294967306) leaf
 
 pub overwrites : Overwrites
 unfolding rel
@@ -47,4 +60,13 @@ overwrites =
       sameRecord = refl;
       redRoot = refl;
       belowRedRoot = refl;
+      wideListed = refl;
+      wideFirst = refl;
+      wideLeaf = refl;
+      wideRoot = refl;
+      wideNarrow = refl;
+      wideLeft = refl;
+      wideDiag = refl;
+      wideZig = refl;
+      wideDelete = refl;
     }

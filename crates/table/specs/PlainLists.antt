@@ -187,6 +187,30 @@ plainLists =
     ∷ writing gave stored
     ∷ lists (1 is 10 ∷ 3 is 31 ∷ 4 is 41 ∷ 5 is 50 ∷ [])
     ∷ [])
+    -- 02, C-18: wide records
+    ∷ entry "wide: plain list: an insert lists its whole record"
+    (insertOf 3 4294967296
+    ++ insertOf 4 4294967295
+    ++ inserting 5 18446744073709551615 gave ok
+    ∷ lists (3 is 4294967296 ∷ 4 is 4294967295 ∷ [])
+    ∷ writing gave done Root 1
+    ∷ lists (3 is 4294967296 ∷ 4 is 4294967295 ∷ 5 is 18446744073709551615 ∷ [])
+    ∷ [])
+    ∷ entry "wide: plain list: a record replaced by one with another high word, by a narrow one, by a wide one again"
+    (insertOf 3 30
+    ++ insertOf 3 4294967326
+    ++ lists (3 is 4294967326 ∷ [])
+    ∷ insertOf 3 8589934622
+    ++ lists (3 is 8589934622 ∷ [])
+    ∷ insertOf 3 30
+    ++ lists (3 is 30 ∷ [])
+    ∷ insertOf 3 18446744069414584320
+    ++ lists (3 is 18446744069414584320 ∷ [])
+    ∷ [])
+    ∷ entry "wide: plain list: a delete takes out a key with a wide record, and leaves the others'"
+    (insertOf 2 8589934612 ++ insertOf 1 4294967306 ++ deleting 2 gave ok ∷ writing gave done Root 1 ∷ lists (1 is 4294967306 ∷ []) ∷ [])
+    ∷ entry "wide: plain list: a search's wide answer changes nothing"
+    (insertOf 3 12884901918 ++ beginning kind.Next 0 1 gave ok ∷ turning 0 gave go ∷ turning 0 gave next 3 12884901918 ∷ lists (3 is 12884901918 ∷ []) ∷ [])
     ∷ []
 
 pub lists-pass : allListed plainLists ≡ true

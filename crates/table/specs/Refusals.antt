@@ -97,7 +97,7 @@ refusals =
     ∷ entry "2: the node of slot 31 one past its range" (three but (reader 31 := (reads 0 9) ∷ []))
     (B 1 5 ⇒ refused 2 ∷ [])
     ∷ entry "seven stores to come, links and nodes at both ends of their range"
-    (planned but (store 0 := (Publish 8 on Left 8) ∷ store 1 := (Publish 1 on Left 1) ∷ store 2 := (Insert 4294967295 4294967295 on Right 1)
+    (planned but (store 0 := (Publish 8 on Left 8) ∷ store 1 := (Publish 1 on Left 1) ∷ store 2 := (Insert 4294967295 18446744073709551615 on Right 1)
     ∷ store 3 := (Detach 4294967295 on Root) ∷ []))
     (B 0 5 ⇒ ok ∷ [])
     ∷ gives2 "2: eight stores to come" planned (count:= 8 ∷ [])
