@@ -145,10 +145,10 @@ refusals =
     ∷ entry "four free nodes are enough for a delete" (three but (free:= 4 ∷ []))
     (D 20 ⇒ ok ∷ [])
     ∷ entry "keys 0 and 4,294,967,295 with the largest record; a lookup of each and of their neighbours" (unset 8)
-    (P ⇒ ok ∷ I 0 4294967295 ⇒ ok ∷ W ⇒ done Root 1 ∷ I 4294967295 0 ⇒ ok ∷ W ⇒ done (Right 1) 2
+    (P ⇒ ok ∷ I 0 18446744073709551615 ⇒ ok ∷ W ⇒ done Root 1 ∷ I 4294967295 0 ⇒ ok ∷ W ⇒ done (Right 1) 2
     ∷ stands (picture (root 1 held 2 awaited 0 stores 0)
-    [] (row 1 0 4294967295 0 0 2 ∷ row 2 4294967295 0 1 0 0 ∷ []) [] (3 ∷ 4 ∷ 5 ∷ 6 ∷ 7 ∷ 8 ∷ []))
-    ∷ B 7 4294967295 ⇒ ok ∷ R 7 ⇒ go ∷ R 7 ⇒ go ∷ R 7 ⇒ found 0 ∷ B 0 0 ⇒ ok ∷ R 0 ⇒ go ∷ R 0 ⇒ found 4294967295 ∷ B 1 4294967294 ⇒ ok ∷ R 1 ⇒ go
+    [] (row 1 0 18446744073709551615 0 0 2 ∷ row 2 4294967295 0 1 0 0 ∷ []) [] (3 ∷ 4 ∷ 5 ∷ 6 ∷ 7 ∷ 8 ∷ []))
+    ∷ B 7 4294967295 ⇒ ok ∷ R 7 ⇒ go ∷ R 7 ⇒ go ∷ R 7 ⇒ found 0 ∷ B 0 0 ⇒ ok ∷ R 0 ⇒ go ∷ R 0 ⇒ found 18446744073709551615 ∷ B 1 4294967294 ⇒ ok ∷ R 1 ⇒ go
     ∷ R 1 ⇒ go ∷ R 1 ⇒ absent ∷ B 2 1 ⇒ ok ∷ R 2 ⇒ go ∷ R 2 ⇒ go ∷ R 2 ⇒ absent ∷ I 0 1 ⇒ ok ∷ W ⇒ done Root 3 ∷ I 4294967295 1 ⇒ ok
     ∷ W ⇒ done (Right 3) 4
     ∷ stands (picture (root 3 held 2 awaited 0 stores 0)

@@ -20,7 +20,7 @@ use Rattle.table.specs.Turns.{turns}
 use Rattle.table.specs.Inserts.{inserts}
 use Rattle.table.specs.Deletes.{deletes}
 use Rattle.table.specs.Replacements.{replacements}
-use Rattle.table.specs.WideRecords.{wideRecords}
+use Rattle.table.specs.WideRecords.{wideRecords, WideAnswers, wideAnswers}
 use Rattle.table.specs.Overwrites.{Overwrites, overwrites}
 use Rattle.table.specs.Refusals.{refusals}
 use Rattle.table.specs.Paths.{paths}
@@ -47,6 +47,7 @@ pub record TablesPass : Type 0 where
   pub deletes : allPass deletes ≡ true
   pub replacements : allPass replacements ≡ true
   pub wideRecords : allPass wideRecords ≡ true
+  pub wideAnswers : WideAnswers
   pub overwrites : Overwrites
   pub refusals : allPass refusals ≡ true
   pub paths : allPass paths ≡ true
@@ -71,6 +72,7 @@ tables-pass =
       deletes = refl;
       replacements = refl;
       wideRecords = wide-pass;
+      wideAnswers = wideAnswers;
       overwrites = overwrites;
       refusals = refl;
       paths = refl;

@@ -1,9 +1,11 @@
 -- 02, C-18: a record is any 64-bit number, in two words of its node, low word first. Every place that has a record has it whole: the plan of an
 -- insert, the node filled, copies, retired and freed nodes, found, what a search remembers and answers. What a node has is written word by word.
-use Prim.Native.Nat.{ℕ, zero, suc, _+_, _-_, _^_}
+use Prim.Native.Nat.{ℕ, zero, suc, _+_, _-_, _*_, _^_}
 use Prim.Native.String.{String}
 use mathlib.Core.Bool.{cond}
+use mathlib.Core.Path.{_≡_, refl}
 use mathlib.Core.List.{List, [], _∷_, _++_}
+use lib.ListN.{replicate}
 use lib.Dec.{ltb}
 use Rattle.datatypes.specs.declared.Side.the-variants as side
 use Rattle.datatypes.specs.declared.Link.the-variants.{Root, Left, Right}
@@ -11,22 +13,23 @@ use Rattle.datatypes.specs.declared.Purpose.the-variants.{ForInsert}
 use Rattle.datatypes.specs.declared.Step.the-variants.{Insert, Replace, DiagLower, DiagRaise, Publish}
 use Rattle.datatypes.specs.declared.Kind.the-variants as kind
 use Rattle.spec.specs.Register.{State, state}
-use Rattle.spec.specs.Calls.{ok, go, absent, wait, found, next, more, done, refused}
+use Rattle.datatypes.specs.declared.ReaderAnswer.the-variants as reader-says
+use Rattle.spec.specs.Calls.{ok, go, absent, wait, found, next, more, done, refused, readerSays}
 use Rattle.table.specs.Picture.{row, _keptBy_, slot_wants_at_, _past_, slot_after_at_with_, root_held_awaited_stores_, picture}
 use Rattle.table.specs.Picture.{Ticket, Stale, _remembering_, _counting_, _ofKind_, Shape, nil, red, black, redLeaf, blackLeaf, tree, _on_}
-use Rattle.table.specs.Picture.{recordLow, recordHigh, right, standing, holders, nextFree, Change, _of_:=_, root:=_, first:=_, last:=_, free:=_}
+use Rattle.table.specs.Picture.{key, recordLow, recordHigh, left, right, standing, holders, nextFree, Change, _of_:=_, root:=_, first:=_, last:=_, free:=_}
 use Rattle.table.specs.Picture.{held:=_, awaited:=_, count:=_, reader_:=_, store_:=_, hand, reads, idle, seeks, _but_, words, unset}
 use Rattle.table.specs.Entry.{P, I, D, W, B, S, R, E, _⇒_, Line, stands, still, _holds_, leaves, Entry, entry}
 use Rattle.table.specs.Lent.{three, single}
 
--- A tree in which every node, free ones too, has a high word of its record, six more than its number: node 1's record is 100 and 7, low word and
--- high, node 2's 200 and 8. So every node taken had another high word.
-abbrev highWords : ℕ → ℕ → List Change
-highWords zero n = []
-highWords (suc k) n = recordHigh of n := (n + 6) ∷ highWords k (n + 1)
+-- A tree in which every node, free ones too, has a wide record: node 1's is 100 and 7, low word and high, node 2's 200 and 8. So every node taken
+-- had another record.
+abbrev recordsFrom : ℕ → ℕ → List Change
+recordsFrom zero n = []
+recordsFrom (suc k) n = recordLow of n := (n * 100) ∷ recordHigh of n := (n + 6) ∷ recordsFrom k (n + 1)
 
 abbrev wide : ℕ → Shape → State
-wide N t = tree N t but highWords N 1
+wide N t = tree N t but recordsFrom N 1
 
 -- keys 20 over 10 and 30; the key 10 alone; keys 20 over 10 and 40, which is over 30 and 50
 abbrev wideThree : State
@@ -45,6 +48,13 @@ wordByWord =
     (10 ∷ 71 ∷ 17 ∷ 0 ∷ 0 ∷ 1 ∷ 1 ∷ 0 ∷ 0 ∷ 20 ∷ 82 ∷ 28 ∷ 1 ∷ 3 ∷ 0 ∷ 1 ∷ 0 ∷ 0 ∷ 30 ∷ 93 ∷ 39 ∷ 0 ∷ 0 ∷ 1 ∷ 1 ∷ 0 ∷ 0 ∷ 0 ∷ 0 ∷ 0 ∷ 0 ∷ 0 ∷ 0 ∷ 0 ∷ 0 ∷ 5
     ∷ 0 ∷ 0 ∷ 0 ∷ 0 ∷ 0 ∷ 0 ∷ 0 ∷ 0 ∷ 6 ∷ 0 ∷ 0 ∷ 0 ∷ 0 ∷ 0 ∷ 0 ∷ 0 ∷ 0 ∷ 7 ∷ 0 ∷ 0 ∷ 0 ∷ 0 ∷ 0 ∷ 0 ∷ 0 ∷ 0 ∷ 8 ∷ 0 ∷ 0 ∷ 0 ∷ 0 ∷ 0 ∷ 0 ∷ 0 ∷ 0 ∷ 0 ∷ [])
     (three .register)
+
+-- 1,023 nodes whose words are 0 but for a key, a record and a left link of four of them
+abbrev named : ℕ → ℕ → List Change
+named n low = key of n := 5 ∷ recordLow of n := low ∷ recordHigh of n := n ∷ left of n := 1 ∷ []
+
+abbrev largePool : State
+largePool = state (replicate 9207 0) (three .register) but (named 16 1 ++ named 255 2 ++ named 256 3 ++ named 1023 4)
 
 -- a lookup of the key k in slot 0 of an index at rest, which finds the record v at the root, or one level below
 abbrev atRoot : ℕ → ℕ → List Line
@@ -369,7 +379,7 @@ wideOnes =
     ∷ 7 holds (50 ∷ 3 ∷ 7 ∷ 0 ∷ 0 ∷ 1 ∷ 1 ∷ 0 ∷ 0 ∷ []) ∷ [])
     -- lookups and searches
     ∷ entry "wide: lookups at the first and the last node" (wideThree but (root:= 8 ∷ reader 0 := (reads 10 1) ∷ reader 1 := (reads 0 8) ∷ []))
-    (R 0 ⇒ found 30064771172 ∷ R 1 ⇒ found 60129542144 ∷ [])
+    (R 0 ⇒ found 30064771172 ∷ R 1 ⇒ found 60129542944 ∷ [])
     ∷ entry "wide: the two words exchanged are another record"
     (three but (recordLow of 1 := 3 ∷ recordHigh of 1 := 7 ∷ recordLow of 3 := 7 ∷ recordHigh of 3 := 3 ∷ []))
     (belowRoot 10 30064771075 ++ belowRoot 30 12884901895 ++ [])
@@ -419,6 +429,31 @@ wideOnes =
     ∷ entry "wide: set up leaves no word of a record in the register"
     (three but (reader 0 := (seeks 15 1 remembering Ticket 20 25769803776) ∷ hand (Insert 5 25769803776 on Left 1) ∷ []))
     (P ⇒ ok ∷ stands (picture (root 0 held 0 awaited 0 stores 0) [] [] [] (1 ∷ 2 ∷ 3 ∷ 4 ∷ 5 ∷ 6 ∷ 7 ∷ 8 ∷ [])) ∷ [])
+    ∷ entry "wide: slots 8, 16, 24 and 31 remember the whole record"
+    (three but (recordHigh of 2 := 4294967295 ∷ reader 8 := (seeks 15 2) ∷ reader 16 := (seeks 15 2) ∷ reader 24 := (seeks 15 2) ∷ reader 31 := (seeks 15 2) ∷ []))
+    (R 8 ⇒ go ∷ R 16 ⇒ go ∷ R 24 ⇒ go ∷ R 31 ⇒ go
+    ∷ leaves (reader 8 := (seeks 15 1 remembering Ticket 20 18446744069414584520 counting 1) ∷ reader 16 := (seeks 15 1 remembering Ticket 20 18446744069414584520 counting 1)
+    ∷ reader 24 := (seeks 15 1 remembering Ticket 20 18446744069414584520 counting 1) ∷ reader 31 := (seeks 15 1 remembering Ticket 20 18446744069414584520 counting 1) ∷ [])
+    ∷ R 31 ⇒ next 20 18446744069414584520 ∷ R 8 ⇒ next 20 18446744069414584520 ∷ [])
+    ∷ entry "wide: the records of nodes 16, 255, 256 and 1,023"
+    (largePool but (reader 0 := (seeks 0 16) ∷ reader 1 := (seeks 0 255) ∷ reader 2 := (seeks 0 256) ∷ reader 3 := (seeks 0 1023) ∷ []))
+    (R 0 ⇒ go ∷ R 1 ⇒ go ∷ R 2 ⇒ go ∷ R 3 ⇒ go
+    ∷ leaves (reader 0 := (seeks 0 1 remembering Ticket 5 68719476737 counting 1) ∷ reader 1 := (seeks 0 1 remembering Ticket 5 1095216660482 counting 1)
+    ∷ reader 2 := (seeks 0 1 remembering Ticket 5 1099511627779 counting 1) ∷ reader 3 := (seeks 0 1 remembering Ticket 5 4393751543812 counting 1) ∷ []) ∷ [])
+    ∷ entry "wide: an insert that takes node 16 of 16, a replace that takes node 15"
+    (wide 16 (black redLeaf redLeaf) but (first:= 16 ∷ nextFree of 16 := 15 ∷ []))
+    (I 5 12884901895 ⇒ ok ∷ W ⇒ done (Left 1) 16
+    ∷ 16 holds (5 ∷ 7 ∷ 3 ∷ 0 ∷ 0 ∷ 1 ∷ 1 ∷ 0 ∷ 0 ∷ [])
+    ∷ I 20 30064771075 ⇒ ok ∷ W ⇒ done Root 15
+    ∷ 15 holds (20 ∷ 3 ∷ 7 ∷ 1 ∷ 3 ∷ 0 ∷ 1 ∷ 0 ∷ 0 ∷ []) ∷ [])
+    ∷ entry "wide: the stores still to come keep their records"
+    (wideFive but (count:= 3 ∷ store 0 := (Publish 3 on Root) ∷ store 1 := (Replace 12884901895 on Right 2) ∷ store 2 := (Insert 60 30064771075 on Right 5) ∷ []))
+    (W ⇒ more Root 6
+    ∷ 6 holds (30 ∷ 300 ∷ 9 ∷ 1 ∷ 4 ∷ 0 ∷ 1 ∷ 0 ∷ 0 ∷ [])
+    ∷ W ⇒ more (Right 6) 7
+    ∷ 7 holds (40 ∷ 7 ∷ 3 ∷ 3 ∷ 5 ∷ 0 ∷ 1 ∷ 0 ∷ 0 ∷ [])
+    ∷ W ⇒ done (Right 5) 8
+    ∷ 8 holds (60 ∷ 3 ∷ 7 ∷ 0 ∷ 0 ∷ 1 ∷ 1 ∷ 0 ∷ 0 ∷ []) ∷ [])
     -- ranges
     ∷ carriedOut "wide: high words any word, of linked nodes" (recordHigh of 1 := 256 ∷ recordHigh of 2 := 4294967295 ∷ recordHigh of 3 := 2147483648 ∷ [])
     ∷ carriedOut "wide: high words any word, of free nodes" (recordHigh of 5 := 1024 ∷ recordHigh of 6 := 4294967295 ∷ recordHigh of 8 := 2147483648 ∷ [])
@@ -444,6 +479,10 @@ wideOnes =
     ∷ 4 holds (5 ∷ 7 ∷ 3 ∷ 0 ∷ 0 ∷ 1 ∷ 1 ∷ 0 ∷ 0 ∷ []) ∷ [])
     ∷ entry "wide: 10 and 11 whatever the record" (wideThree but (held:= 4 ∷ free:= 2 ∷ []))
     (I 25 4294967296 ⇒ refused 10 ∷ I 20 4294967296 ⇒ refused 11 ∷ I 20 18446744073709551615 ⇒ refused 11 ∷ [])
+    ∷ entry "wide: three free nodes are enough for a wide record" (wideThree but (free:= 3 ∷ []))
+    (I 25 4294967296 ⇒ ok ∷ leaves (hand (Insert 25 4294967296 on Left 3) ∷ []) ∷ [])
+    ∷ entry "wide: three free nodes are enough for a replace by a wide record, keys held N − 4" (wideThree but (held:= 4 ∷ free:= 3 ∷ []))
+    (I 20 4294967296 ⇒ ok ∷ leaves (hand (Replace 4294967296 on Root) ∷ []) ∷ [])
     ∷ entry "wide: waiting keeps the record of the plan" (three but (hand (Replace 12884901895 on Root) ∷ awaited:= 4 ∷ reader 2 := (reads 5 0) ∷ []))
     (W ⇒ wait ∷ W ⇒ wait ∷ E 2 ⇒ ok ∷ W ⇒ done Root 4
     ∷ 4 holds (20 ∷ 7 ∷ 3 ∷ 1 ∷ 3 ∷ 0 ∷ 1 ∷ 0 ∷ 0 ∷ []) ∷ [])
@@ -451,3 +490,12 @@ wideOnes =
 
 abbrev pub wideRecords : List Entry
 wideRecords = wideOnes ++ withEach someRecords ++ bits 64 0
+
+-- the answers of a reader's turn as the code gives them
+pub record WideAnswers : Type 0 where
+  pub foundLargest : readerSays (reader-says.Found 18446744073709551615) ≡ found 18446744073709551615
+  pub foundNarrow : readerSays (reader-says.Found 4294967295) ≡ found 4294967295
+  pub nextWide : readerSays (reader-says.Next 5 4294967296) ≡ next 5 4294967296
+
+pub wideAnswers : WideAnswers
+wideAnswers = record { foundLargest = refl; foundNarrow = refl; nextWide = refl }
