@@ -20,7 +20,7 @@ use Rattle.spec.specs.Register.{State, withQueue, readingSlots}
 use Rattle.spec.specs.Free.{queueEmpty, takeFree, fillNode, takeNode, freeNode, retire, retireTwo}
 use Rattle.spec.specs.FreeQueue.{InPool}
 use Rattle.laws.specs.Words.{length-setWord, word-set}
-use Rattle.laws.specs.Records.{halves}
+use Rattle.laws.specs.Records.{two-words}
 use Rattle.tree.specs.Linked.{Linked, at, nodes}
 use Rattle.tree.specs.Occurs.{occ, occ-apart}
 use Rattle.heap.specs.Rep.{Rep, rep-at, Agree, agree-words, rep-agree, Alike, alike-trans, alike-set, upToColour}
@@ -46,7 +46,7 @@ fill-node p n k v L x y c w =
       size = simp length-setWord;
       others = λ m f d h. simp (word-set, length-setWord, a, b, ne-eqb n m d, lt-ltb f nodeWords h);
       key-is = simp (word-set, length-setWord, a, b, e);
-      val-is = simp (word-set, length-setWord, a, b, e) (halves v);
+      val-is = simp (word-set, length-setWord, a, b, e) (two-words v);
       near-is = simp (word-set, length-setWord, a, b, e);
       far-is = simp (word-set, length-setWord, a, b, e);
       colour-is = colours-is _ n c (simp (word-set, length-setWord, a, b, e));
@@ -59,7 +59,7 @@ fill-node p n k v R x y c w =
       size = simp length-setWord;
       others = λ m f d h. simp (word-set, length-setWord, a, b, ne-eqb n m d, lt-ltb f nodeWords h);
       key-is = simp (word-set, length-setWord, a, b, e);
-      val-is = simp (word-set, length-setWord, a, b, e) (halves v);
+      val-is = simp (word-set, length-setWord, a, b, e) (two-words v);
       near-is = simp (word-set, length-setWord, a, b, e);
       far-is = simp (word-set, length-setWord, a, b, e);
       colour-is = colours-is _ n c (simp (word-set, length-setWord, a, b, e));

@@ -1,14 +1,13 @@
 -- A record as its two words (02, C-18).
-use mathlib.Core.Path.{_≡_, refl, sym, _∙_}
+use mathlib.Core.Path.{_≡_}
 use mathlib.Core.List.{List}
 use mathlib.Core.Logic.{_≢_, _⊎_, inl, inr}
-use lib.ListN.{length}
 use native.Mathlib.Omega.{arith}
 use Prim.Native.Nat.{ℕ, _+_, _*_, _/_, _%_, _<_, _≤_}
 use Rattle.spec.specs.Numbers.{nodeWords, wordLimit, recordLimit}
 use Rattle.spec.specs.Pool.{word, setWord, recordAt, setRecord, recordLowWord, recordHighWord}
 use Rattle.spec.specs.FreeQueue.{InPool}
-use Rattle.laws.specs.Words.{length-setWord, word-none, word-same, word-other}
+use Rattle.laws.specs.Words.{length-setWord, word-same, word-other}
 
 -- equal words, equal records
 pub record-words : (p q : List ℕ) (n m : ℕ) → word q m recordLowWord ≡ word p n recordLowWord → word q m recordHighWord ≡ word p n recordHighWord
@@ -19,11 +18,6 @@ record-words p q n m low high = rw (low, high)
 -- a node whose words up to the record's high one stay keeps its record
 pub record-kept : (p q : List ℕ) (n : ℕ) → ((f : ℕ) → f ≤ recordHighWord → word q n f ≡ word p n f) → recordAt q n ≡ recordAt p n
 record-kept p q n h = record-words p q n n (h recordLowWord (omega arith)) (h recordHighWord (omega arith))
-
--- no node has the record 0
-pub record-none : (p : List ℕ) → recordAt p 0 ≡ 0
-unfolding recordAt
-record-none p = rw (word-none p recordLowWord, word-none p recordHighWord)
 
 -- another node's word, or one after the record's
 pub record-other : (p : List ℕ) (n m f v : ℕ) → f < nodeWords → (n ≢ m) ⊎ (recordHighWord < f) → recordAt (setWord p n f v) m ≡ recordAt p m
@@ -37,8 +31,8 @@ record-other p n m f v h (inr l) =
     (word-other p n m f recordHighWord v h (omega arith) (inr (omega arith)))
 
 -- what is set is read again: its words are the number's low and high 32 bits
-pub halves : (v : ℕ) → v % wordLimit + v / wordLimit * wordLimit ≡ v
-halves v = omega arith
+pub two-words : (v : ℕ) → v % wordLimit + v / wordLimit * wordLimit ≡ v
+two-words v = omega arith
 
 pub record-same : (p : List ℕ) (n v : ℕ) → InPool p n → recordAt (setRecord p n v) n ≡ v
 unfolding recordAt
@@ -50,11 +44,11 @@ record-same p n v h =
       word-other q n n recordHighWord recordLowWord (v / wordLimit) (omega arith) (omega arith) (inr (omega arith)),
       word-same p n recordLowWord (v % wordLimit) h (omega arith),
     )
-    (halves v)
+    (two-words v)
 
 -- Each of the two words is a word: a record is below two to the power 64.
-pub halves-fit : (v : ℕ) → v < recordLimit → (v % wordLimit < wordLimit) × (v / wordLimit < wordLimit)
-halves-fit v h = (omega arith, omega arith)
+pub two-words-fit : (v : ℕ) → v < recordLimit → (v % wordLimit < wordLimit) × (v / wordLimit < wordLimit)
+two-words-fit v h = (omega arith, omega arith)
 
 -- 02, C-18: 'No record below 4,294,967,296 changes meaning.' Such a record is its low word, and its high word is 0; and a node whose high word
 -- is 0 has its low word as record.
@@ -68,7 +62,7 @@ pub narrow-read : (p : List ℕ) (n : ℕ) → word p n recordHighWord ≡ 0 →
 unfolding recordAt
 narrow-read p n e = rw e (omega arith)
 
--- and the other way round, in a pool of 32-bit words
+-- and a node with such a record has a high word of 0
 pub narrow-high : (p : List ℕ) (n : ℕ) → recordAt p n < wordLimit → word p n recordHighWord ≡ 0
 unfolding recordAt
 narrow-high p n h = omega arith

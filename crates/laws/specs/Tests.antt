@@ -6,7 +6,7 @@ use lib.Dec.{eqb, leb}
 use lib.ListN.{length}
 use borrow.Author.Tests.{le-leb, leb-true, leb-false, eqb-true, eq-eqb, ne-eqb}
 use native.Mathlib.Omega.{arith}
-use Prim.Native.Nat.{ℕ, _<_, _≤_, _*_, _%_}
+use Prim.Native.Nat.{ℕ, _<_, _≤_, _%_}
 use Rattle.base.specs.Walk.{allIn, all-in}
 use Rattle.datatypes.specs.declared.Register.{Register}
 use Rattle.spec.specs.Numbers.{nodeWords, leastNodes, mostNodes, poolLimit, slots, mostStores}

@@ -1,6 +1,6 @@
 -- An entry of the tables of examples: the pool and register lent, calls with the answers that they must give, looks at what stands in
 -- between; and the computed test that an entry passes. What stands is compared as numbers.
-use Prim.Native.Nat.{ℕ, zero, suc, _+_, _*_, _-_, _/_}
+use Prim.Native.Nat.{ℕ, zero, suc, _+_, _/_}
 use Prim.Native.String.{String}
 use mathlib.Core.Bool.{Bool, true, false, cond, not, _&&_, _||_}
 use mathlib.Core.List.{List, [], _∷_, _++_}
