@@ -178,8 +178,8 @@ fn kind_of(c: u32, m: Mood) -> u32 {
     reader_kind(c, bound(m.busy, 38, 52))
 }
 
-// a record of two words
-fn joined(low: u32, high: u32) -> u64 {
+// Answers the record of two words.
+pub fn joined(low: u32, high: u32) -> u64 {
     low as u64 + high as u64 * numbers::WORD_LIMIT
 }
 

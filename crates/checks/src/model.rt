@@ -2,8 +2,9 @@
 // for the next ticket, and the write in hand. It is lent as WORDS words; a word past the end reads 0, and setting one changes nothing.
 use crate::draws;
 
-// The plain list has four words for each ticket number: whether it is there, its record's low and high word, and how many changes the list had made once this
-// ticket last came or went. That a ticket comes is a change, and that it goes; a record that takes another's place is two, one for each record.
+// The plain list has four words for each ticket number: whether it is there, its record's low and high word, and how many changes the list had
+// made once this ticket last came or went. That a ticket comes is a change, and that it goes; a record that takes another's place is two, one
+// for each record.
 const TICKET_SPAN: usize = 4;
 
 const THERE: u32 = 0;
@@ -16,7 +17,7 @@ const CHANGED: u32 = 3;
 
 const FIRST_SLOT: usize = draws::TICKETS as usize * TICKET_SPAN;
 
-const SLOT_SPAN: usize = 56;
+const SLOT_SPAN: usize = (HIGHS + MEMORY) as usize;
 
 const HAND: usize = FIRST_SLOT + numbers::SLOTS * SLOT_SPAN;
 
@@ -60,8 +61,8 @@ const MEMORY: u32 = 24;
 
 const HIGHS: u32 = LOWS + MEMORY;
 
-// The words of the write in hand: its kind, ticket, record (low and high word), the form of a delete, its stores in all and those made; the number of tickets in
-// the list, and of its changes.
+// The words of the write in hand: its kind, ticket, record (low and high word), the form of a delete, its stores in all and those made; the
+// number of tickets in the list, and of its changes.
 const KIND: u32 = 0;
 
 const TICKET: u32 = 1;
@@ -146,11 +147,7 @@ fn set_logged_word(model: &mut [u32], change: u32, f: u32, v: u32) {
     );
 }
 
-// A record and its two words.
-fn joined(low: u32, high: u32) -> u64 {
-    low as u64 + high as u64 * numbers::WORD_LIMIT
-}
-
+// A record's two words.
 fn low_word(v: u64) -> u32 {
     (v % numbers::WORD_LIMIT) as u32
 }
@@ -180,7 +177,7 @@ pub fn listed(model: &[u32], t: u32) -> bool {
 
 // Answers the record of a ticket in the plain list.
 pub fn list_record(model: &[u32], t: u32) -> u64 {
-    joined(
+    draws::joined(
         ticket_word(model, t, ITS_LOW),
         ticket_word(model, t, ITS_HIGH),
     )
@@ -193,7 +190,7 @@ fn set_list_record(model: &mut [u32], t: u32, v: u64) {
 
 // the record of a change of the list
 fn logged_record(model: &[u32], change: u32) -> u64 {
-    joined(
+    draws::joined(
         logged_word(model, change, LOG_LOW),
         logged_word(model, change, LOG_HIGH),
     )
@@ -293,7 +290,7 @@ fn seen_record(model: &[u32], s: u32, i: u32) -> u64 {
     if MEMORY <= i {
         return 0;
     }
-    joined(
+    draws::joined(
         slot_word(model, s, LOWS + i),
         slot_word(model, s, HIGHS + i),
     )
@@ -541,7 +538,7 @@ fn list_store(model: &[u32]) -> u32 {
 
 fn change_list(model: &mut [u32]) {
     let t = hand_word(model, TICKET);
-    let v = joined(hand_word(model, LOW), hand_word(model, HIGH));
+    let v = draws::joined(hand_word(model, LOW), hand_word(model, HIGH));
     if kind_in_hand(model) == DELETE {
         take_out(model, t);
     } else {

@@ -110,15 +110,15 @@ fn inserts(counts: &[u64]) {
 
 fn wide_records(counts: &[u64]) {
     line(
-        b"inserts accepted with a record above 32 bits",
+        b"inserts accepted with a wide record",
         rows::get(counts, rows::WIDE_INSERTED),
     );
     line(
-        b"inserts accepted with a record that differs in the high word alone",
+        b"inserts of a held key accepted with a record that differs in the high word alone",
         rows::get(counts, rows::HIGH_REPLACED),
     );
     line(
-        b"found and next with a record above 32 bits",
+        b"found and next with a wide record",
         rows::get(counts, rows::WIDE_ANSWERED),
     );
 }

@@ -89,7 +89,7 @@ pub const TALLIES: usize = 168;
 
 pub const QUIET_COUNTS: usize = 169;
 
-// records above 32 bits: inserted, and answered by found or next; and records replaced by one that differs in the high word alone
+// wide records, above 32 bits: inserted, and answered by found or next; and records replaced by one that differs in the high word alone
 pub const WIDE_INSERTED: usize = 170;
 
 pub const WIDE_ANSWERED: usize = 171;

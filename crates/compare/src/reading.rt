@@ -71,7 +71,7 @@ fn end_next(model: &mut [u32], counts: &mut [u64], s: u32, right: bool, now: boo
     }
 }
 
-// an answered record above 32 bits
+// an answered record that is wide, above 32 bits
 fn count_wide(counts: &mut [u64], v: u64) {
     writing::count_if(counts, rows::WIDE_ANSWERED, numbers::WORD_LIMIT <= v);
 }

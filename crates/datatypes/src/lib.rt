@@ -68,7 +68,7 @@ pub struct Store {
     pub step: Step,
 }
 
-// The write in hand: the stores still to come stand first, the others are vacant.
+// The write in hand: how many stores are still to come, and the stores; those to come stand first, the others are vacant.
 pub struct Write {
     pub count: u32,
     pub stores: [Store; numbers::MOST_STORES],
@@ -82,9 +82,9 @@ pub enum Kind {
     Next,
 }
 
-// A reader slot's record: the given key, the node it is at (0 before its first turn); of a search for the next ticket the best so far, its key and
-// record (`best`, `value`); how many nodes its turns have compared (document 02, C-17); reading or not, the kind of search, and whether a search
-// for the next ticket remembers one. The numbers stand first: an array of empty records is then cleared faster (docs/DECISIONS.md, 118).
+// A reader slot's record: of a search for the next ticket the record and the key of the best so far (`value`, `best`), the given key, the node it is
+// at (0 before its first turn); how many nodes its turns have compared (document 02, C-17); reading or not, the kind of search, and whether a
+// search for the next ticket remembers one. The numbers stand first, the widest before the others (docs/DECISIONS.md, 118, 125).
 pub struct Reader {
     pub value: u64,
     pub key: u32,
@@ -96,7 +96,8 @@ pub struct Reader {
     pub remembers: bool,
 }
 
-// The register: root, free queue, counts, readers, awaited slots (one bit for each slot), the write in hand.
+// The register: root, free queue, counts, awaited slots (one bit for each slot), readers, the write in hand. The order of the fields:
+// docs/DECISIONS.md, 125.
 pub struct Register {
     pub root: u32,
     pub first: u32,

@@ -19,7 +19,7 @@ ghost use Rattle.spec.specs.Calls.{accepts, writerSays, readerSays, setUp, inse
 // Set up: makes the lent words a fresh pool, every node free, and answers its register.
 // Needs: nothing of the words but their number. The register that goes in is not read; fresh::fresh_register(0) makes one.
 // Answers: Accepted.
-// Refuses: 1, the length is not 8 × N words with N from 8 to 1,023.
+// Refuses: 1, the length is not 9 × N words with N from 8 to 1,023.
 // Leaves: every word written and a fresh register, whatever stood there before; refused, both as they were.
 pub fn set_up(pool: &mut [u32], reg: Register) -> Reply
     ensures { λ r. ⌜ accepts (r .answer) ≡ setUp (state (now (pool .entry)) reg) .answer ⌝ }
@@ -35,7 +35,7 @@ pub fn set_up(pool: &mut [u32], reg: Register) -> Reply
 
 // Insert: takes the key k with its record v in hand as a write, with its stores planned. The writer's turns make the stores. If the key is held, its
 // record is replaced, in one store.
-// Needs: nothing; key and record are any 32-bit numbers.
+// Needs: nothing; the key is any 32-bit number, the record any 64-bit one (document 02, C-18).
 // Answers: Accepted. Then writer_turn is to be called until it answers Done.
 // Refuses, tested in this order: 1 length; 2 a word or field out of range; 6 a write is in hand; 12 a path of over 64 nodes; 10 the key is not
 // held and keys held are N − 4 or more; 11 fewer than 3 free nodes; 12 a step names a node where there is none.

@@ -99,7 +99,7 @@ whole-length p h =
     let whole = eqb-true (length p % nodeWords) 0 (and-left (eqb (length p % nodeWords) 0) (leb leastNodes (nodes p)) (and-left a (leb (nodes p) mostNodes) h)) in
     omega arith
 
--- a pool that passed test 1: its length is right, and its nodes are whole
+-- a pool that passed tests 1 and 2: its length is below the limit, and its nodes are whole
 pub lent-whole : (st : State) → lentNumber st ≡ 0 → (length (st .pool) < poolLimit) × Whole (st .pool)
 lent-whole st h = let t = lent st h in (t .size, whole-length (st .pool) (t .right))
 

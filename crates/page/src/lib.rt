@@ -1,4 +1,4 @@
-// The foreman's page (02, C-16): the linked nodes as lines, put into a buffer sheet by sheet.
+// The foreman's page (02, C-16 and C-18): the linked nodes as lines, put into a buffer sheet by sheet.
 ghost use mathlib.Core.Path.{_≡_};
 ghost use mathlib.Core.List.{[], _∷_, map};
 ghost use Prim.Native.Nat.{_<_, _≤_, _+_, _*_};

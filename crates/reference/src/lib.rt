@@ -2,7 +2,8 @@
 // Rivest and Stein (third edition). The index is compared with it; it uses nothing of the index.
 //
 // A tree is lent as WORDS words: seven arrays one after another (keys, the low and the high words of the records, left, right, parent,
-// colour), each with a word for every node number, and then the words of the head. Node 0 is nil. A word past the end reads 0, and setting one changes nothing.
+// colour), each with a word for every node number, and then the words of the head. Node 0 is nil. A word past the end reads 0, and setting
+// one changes nothing.
 const SPAN: usize = 1024;
 
 const KEY: u32 = 0;
@@ -35,7 +36,9 @@ const DOUBLES: u32 = 4;
 
 const OVERRUNS: u32 = 5;
 
-pub const WORDS: usize = 7174;
+const HEAD_WORDS: usize = 6;
+
+pub const WORDS: usize = HEAD as usize * SPAN + HEAD_WORDS;
 
 pub const NIL: u32 = 0;
 

@@ -27,7 +27,7 @@ abbrev pub wordLimit : ℕ
 wordLimit = 4_294_967_296
 
 abbrev pub recordLimit : ℕ
-recordLimit = 18_446_744_073_709_551_616
+recordLimit = wordLimit * wordLimit
 
 -- 02, C-17: a count and a sum of 32 bits stay at the largest value.
 abbrev pub largestWord : ℕ

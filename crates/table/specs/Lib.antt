@@ -8,7 +8,6 @@ pub mod Turns
 pub mod Inserts
 pub mod Deletes
 pub mod Replacements
-pub mod WideRecords
 pub mod Overwrites
 pub mod Refusals
 pub mod Paths

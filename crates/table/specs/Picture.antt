@@ -143,7 +143,7 @@ abbrev pub picture : Numbers → List Read → List Row → List Retired → Lis
 picture a readers linked retired queue = record { numbers = a; readers = readers; linked = linked; retired = retired; queue = queue }
 
 -- The nine words of a node (02, C-18): key, record low, record high, left, right, colour, standing, holders, next free. The record's low word is
--- what it leaves by two to the power 32, its high word how often that goes into it.
+-- its remainder by two to the power 32, its high word the quotient.
 abbrev pub nodeWords : ℕ
 nodeWords = 9
 

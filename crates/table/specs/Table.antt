@@ -20,23 +20,12 @@ use Rattle.table.specs.Turns.{turns}
 use Rattle.table.specs.Inserts.{inserts}
 use Rattle.table.specs.Deletes.{deletes}
 use Rattle.table.specs.Replacements.{replacements}
-use Rattle.table.specs.WideRecords.{wideRecords, WideAnswers, wideAnswers}
 use Rattle.table.specs.Overwrites.{Overwrites, overwrites}
 use Rattle.table.specs.Refusals.{refusals}
 use Rattle.table.specs.Paths.{paths}
 use Rattle.table.specs.Damaged.{damaged}
 use Rattle.table.specs.PlainLists.{allListed, plainLists, lists-pass}
 use Rattle.table.specs.Large.{LargePasses, large-passes}
-
--- one by itself, since the check of one declaration may take only so many steps
-pub wide-pass : allPass wideRecords ≡ true
-unfolding allFrom allIn foldFrom foldIn word setWord recordAt nodeInRange poolInRange lengthRight freshNodes freshPool withRoot withQueue withHeld withReader
-    withAwaited withWrite nodeAt setLink putSlot dropSlot readingSlots storeInRange registerInRange freshRegister fresh writeOf lessFirst takeFree
-    fillNode takeNode freeNode retire retireTwo release endReading seek trail leftmost insertFixup fixupAfterInsert paintInsertFixup redSibling
-    deleteFixup fixupAfterRemoval paintDeleteLevels paintDeleteFixup insertPlan unlinkPlan deletePlan insertStore replaceStore diagLower diagRaise
-    zigLowerA zigLowerC zigRaise unlinkStore adoptStore promoteStore movedWrite publishStore detachStore stepFinds stepMade setUp insert delete stored
-    writerTurn begin readerStep readerTurn giveUp
-wide-pass = refl
 
 pub record TablesPass : Type 0 where
   pub starred : allPass starred ≡ true
@@ -46,8 +35,6 @@ pub record TablesPass : Type 0 where
   pub inserts : allPass inserts ≡ true
   pub deletes : allPass deletes ≡ true
   pub replacements : allPass replacements ≡ true
-  pub wideRecords : allPass wideRecords ≡ true
-  pub wideAnswers : WideAnswers
   pub overwrites : Overwrites
   pub refusals : allPass refusals ≡ true
   pub paths : allPass paths ≡ true
@@ -71,8 +58,6 @@ tables-pass =
       inserts = refl;
       deletes = refl;
       replacements = refl;
-      wideRecords = wide-pass;
-      wideAnswers = wideAnswers;
       overwrites = overwrites;
       refusals = refl;
       paths = refl;

@@ -35,7 +35,7 @@ pub right-fits : (w : ℕ) (t : List ℕ) → length t ≤ w → rightIn w t ≡
 unfolding rightIn
 right-fits w t h = drop-append-le (length t) (replicate w blank) t (rw (length-replicate w blank) h) ∙ rw (drop-blanks (length t) w)
 
--- A number below 10 ^ width is whole in the column: any 32-bit number in ten places.
+-- A number below 10 ^ width is whole in the column: any 32-bit number in ten places, any 64-bit one in twenty.
 pub right-number : (w n : ℕ) → n < 10 ^ suc w → rightIn (suc w) (decimal n) ≡ replicate (suc w - length (decimal n)) blank ++ decimal n
 right-number w n h = right-fits (suc w) (decimal n) (decimal-length w n h)
 

@@ -1,0 +1,2 @@
+pub mod WideRecords
+pub mod Table

@@ -1,0 +1,1 @@
+// No code: the examples of wide records stand in specs/.
