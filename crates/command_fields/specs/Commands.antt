@@ -1,12 +1,14 @@
 -- 01, 'Examples': the command that a line's bytes, without the newline, are. Commands: P nodes; I key record; D key; W; B slot key; R slot;
 -- E slot; T; S slot key (02, C-11); and L (02, C-16). A tab stands between two fields. A line that isn't one of these letters with just its
 -- fields, each of decimal digits and below 4,294,967,296 (02, C-18: a record below two to the power 64), is ill-formed.
-use Prim.Native.Nat.{ℕ, _+_, _*_, _-_}
+use Prim.Native.Nat.{ℕ, _+_, _*_, _-_, _<_}
 use Prim.Native.Char.{code}
+use mathlib.Core.Path.{_≡_}
 use mathlib.Core.Bool.{Bool, true, false, cond, _&&_}
 use mathlib.Core.List.{List, [], _∷_, map}
 use mathlib.Core.Option.{Option, none, some}
 use lib.Dec.{eqb, leb, ltb}
+use borrow.Author.Tests.{lt-ltb}
 use Rattle.command_fields.specs.declared.Command.{Command}
 use Rattle.command_fields.specs.declared.Command.the-variants.{SetUp, Insert, Delete, Write, Begin, BeginNext, Turn, GiveUp, Show, Page, Ill}
 use Rattle.spec.specs.Numbers.{wordLimit, recordLimit}
@@ -55,6 +57,12 @@ withTwo l a b =
     (Insert a b)
     (cond (ltb b wordLimit) (cond (eqb l (code "B")) (Begin a b) (cond (eqb l (code "S")) (BeginNext a b) Ill)) Ill))
     Ill
+
+-- C-18 changes no line without a wide record: of words alone the commands with two fields are as they were.
+pub words-alone : (l a b : ℕ) → a < wordLimit → b < wordLimit
+    → withTwo l a b ≡ cond (eqb l (code "I")) (Insert a b) (cond (eqb l (code "B")) (Begin a b) (cond (eqb l (code "S")) (BeginNext a b) Ill))
+unfolding withTwo
+words-alone l a b h g = rw (lt-ltb a wordLimit h, lt-ltb b wordLimit g)
 
 -- a letter and what its fields are
 abbrev pub ofNumbers : ℕ → List (Option ℕ) → Command
