@@ -4,4 +4,5 @@ pub mod Writes
 pub mod Plans
 pub mod Kept
 pub mod Calls
+pub mod Records
 pub mod Tests

@@ -69,7 +69,7 @@ pub write-none : (capacity : ℕ) → WriteOk capacity noWrite
 write-none capacity = record { few = omega arith; come = λ i u. absurd (omega arith); others = λ i u. getD-same vacant mostStores i }
 
 -- planned
-padded : (l : List Store) (k i : ℕ) → getD (l ++ replicate k vacant) i vacant ≡ getD l i vacant
+pub padded : (l : List Store) (k i : ℕ) → getD (l ++ replicate k vacant) i vacant ≡ getD l i vacant
 padded [] k i = getD-same vacant k i
 padded (x ∷ l) k zero = refl
 padded (x ∷ l) k (suc i) = padded l k i
@@ -94,7 +94,7 @@ shifted [] (suc i) = refl
 shifted (x ∷ l) zero = refl
 shifted (x ∷ l) (suc i) = shifted l i
 
-second : (l : List Store) (i : ℕ) → getD (drop 1 l ++ vacant ∷ []) i vacant ≡ getD l (suc i) vacant
+pub second : (l : List Store) (i : ℕ) → getD (drop 1 l ++ vacant ∷ []) i vacant ≡ getD l (suc i) vacant
 second [] zero = refl
 second [] (suc i) = refl
 second (x ∷ l) i = shifted l i

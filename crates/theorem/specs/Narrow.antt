@@ -1,6 +1,10 @@
--- 02, C-18: no record comes up that was not given. What holds of every record given, by the start's tickets and by the inserts, holds of every
--- record of the plain list, of every linked node and of every answer. So records below a limit stay below it: with the limit of a word, 'No
--- record below 4,294,967,296 changes meaning'; with that of a record, insert, found and the tray search 'carry any 64-bit number'.
+-- 02, C-18: no record comes up that was not given.
+-- Of every record kept, in a node however it stands, in a planned store, in a slot: what holds of 0 and of the record of every insert holds of it
+-- (`all-records`; call by call, not from the theorem). With the limit of a word this is 'No record below 4,294,967,296 changes meaning'
+-- (`narrow-pool`).
+-- Of every record of the plain list, of a linked node, of an answer: what holds of the start's tickets and of the record of every insert holds of it
+-- (`every-record`, from the theorem). With the limit of a record, no answer needs more than 64 bits (`wide-run`). That insert, found and the tray
+-- search 'carry any 64-bit number' is demand 3, which holds for every number.
 use Prim.Native.Nat.{ℕ, zero, suc, _+_, _<_, _≤_}
 use mathlib.Core.Path.{_≡_, refl, sym, ap, _∙_, subst}
 use mathlib.Core.Logic.{_≢_}
@@ -9,13 +13,14 @@ use mathlib.Core.List.{List, [], _∷_}
 use mathlib.Core.Option.{Option, none, some, Option·some-injective}
 use native.Mathlib.Omega.{arith}
 use lib.Dec.{eqb}
+use Rattle.base.specs.Lists.{getD-same}
 use Rattle.base.specs.Walk.{cond-both}
 use Rattle.datatypes.specs.declared.Kind.{Kind}
 use Rattle.datatypes.specs.declared.Kind.the-variants as kind
 use Rattle.sequential.specs.Delete.{Change, insertion, deletion, changedBy}
-use Rattle.spec.specs.Numbers.{wordLimit, recordLimit, leastNodes, mostNodes}
+use Rattle.spec.specs.Numbers.{wordLimit, recordLimit, leastNodes, mostNodes, mostStores, slots}
 use Rattle.spec.specs.Pool.{word, recordAt, recordLowWord, recordHighWord, standingLinked}
-use Rattle.spec.specs.Register.{State}
+use Rattle.spec.specs.Register.{State, noReader, vacant, fresh, freshRegister}
 use Rattle.spec.specs.Calls.{Answer, found, next, Outcome, Call, inserting, deleting, writing, beginning, turning, givingUp, call}
 use Rattle.spec.specs.PlainList.{Ticket, without, recordFor, updated, listStore, Plain, Notice, turnedDown, waited, carriedOut, storeMade, feed, noticeOf}
 use Rattle.laws.specs.Records.{narrow-high, narrow-read}
@@ -23,8 +28,9 @@ use Rattle.promise.specs.Run.{Start, justSetUp, thenPerhaps, callAt, after, ind
 use Rattle.promise.specs.Demands.{AtOneMoment, Demand3, standingAt}
 use Rattle.promise.specs.Starts.{SoundStart}
 use Rattle.readers.specs.CallCase.{CallCase, Passed, call-case, refuses, loads, misses, meets, finds}
+use Rattle.ranges.specs.Records.{AllRecords, all-kept}
 use Rattle.runs.specs.Answers.{toldOf}
-use Rattle.runs.specs.Begin.{sound-fresh}
+use Rattle.runs.specs.Begin.{word-low, sound-fresh}
 use Rattle.theorem.specs.Tickets.{none-some}
 use Rattle.theorem.specs.Theorem.{promise-from, linked-ticket}
 
@@ -140,28 +146,47 @@ module _ (P : ℕ → Type 0) (S : Start) (sound : SoundStart S) (cs : List Call
 abbrev pub Below : ℕ → ℕ → Type 0
 Below limit v = v < limit
 
--- The record of node m is its low word, as before C-18.
-abbrev pub NarrowAt : List ℕ → ℕ → Type 0
-NarrowAt p m = (word p m recordHighWord ≡ 0) × (recordAt p m ≡ word p m recordLowWord)
-
-module _ (S : Start) (sound : SoundStart S) (cs : List Call) where
-  pub records-below : (limit : ℕ) → EveryTicket (Below limit) (S .tickets) → EveryInsert (Below limit) cs → EveryRecord (Below limit) S cs
-  records-below limit = every-record (Below limit) S sound cs
-
-  -- every record answered fits 64 bits
-  pub wide-run : EveryTicket (Below recordLimit) (S .tickets) → EveryInsert (Below recordLimit) cs → EveryRecord (Below recordLimit) S cs
-  wide-run = records-below recordLimit
-
-  -- every linked node has its record in its low word, and 0 in its high word
-  pub narrow-run : EveryTicket (Below wordLimit) (S .tickets) → EveryInsert (Below wordLimit) cs
-      → (j m : ℕ) → standingAt (indexAfter S cs j) m ≡ standingLinked → NarrowAt (indexAfter S cs j .pool) m
-  narrow-run start inserts j m e =
-      let p = indexAfter S cs j .pool in
-      let z = narrow-high p m (records-below wordLimit start inserts .linked j m e) in
-      (z, narrow-read p m z)
+-- Where all records given are below two to the power 64, all answered are.
+pub wide-run : (S : Start) → SoundStart S → (cs : List Call) → EveryTicket (Below recordLimit) (S .tickets) → EveryInsert (Below recordLimit) cs
+    → EveryRecord (Below recordLimit) S cs
+wide-run S sound cs = every-record (Below recordLimit) S sound cs
 
 -- On a pool of N nodes just set up, as 01's runs start, there is no ticket (the premise on them is `tt`): every record was given by an insert of
--- the list.
+-- the list. With which key, and at which moment, demand 3 says.
 pub records-given : (N : ℕ) → leastNodes ≤ N → N ≤ mostNodes → (cs : List Call)
     → EveryRecord (λ v. (j : ℕ) × (k : ℕ) × (callAt cs j ≡ some (inserting k v))) (justSetUp N) cs
 records-given N lo hi cs = every-record _ (justSetUp N) (sound-fresh N lo hi) cs tt (λ j k v e. (j, k, e))
+
+-- Every record kept, at every moment: from any start whose records are so, sound or not,
+pub all-records-from : (P : ℕ → Type 0) (S : Start) (cs : List Call) → AllRecords P (S .index) → EveryInsert P cs → (j : ℕ) → AllRecords P (indexAfter S cs j)
+unfolding after
+all-records-from P S cs start inserts zero = start
+all-records-from P S cs start inserts (suc j) = go (callAt cs j) refl (all-records-from P S cs start inserts j)
+  where
+    go : (o : Option Call) → callAt cs j ≡ o → AllRecords P (indexAfter S cs j) → AllRecords P (thenPerhaps (after S cs j) o .index)
+    go none e h = h
+    go (some c) e h = all-kept P (indexAfter S cs j) c (λ k v i. inserts j k v (e ∙ ap some i)) h
+
+fresh-records : (P : ℕ → Type 0) → P 0 → (N : ℕ) → leastNodes ≤ N → AllRecords P (fresh N)
+unfolding recordAt fresh freshRegister
+fresh-records P z N lo = record {
+  inNodes = λ n. rw (word-low N lo n recordLowWord (omega arith), word-low N lo n recordHighWord (omega arith)) z;
+  inStores = λ i. rw (getD-same vacant mostStores i) tt;
+  inSlots = λ s. rw (getD-same noReader slots s) z;
+}
+
+-- and on a pool just set up.
+pub all-records : (P : ℕ → Type 0) → P 0 → (N : ℕ) → leastNodes ≤ N → (cs : List Call) → EveryInsert P cs → (j : ℕ) → AllRecords P (indexAfter (justSetUp N) cs j)
+all-records P z N lo cs = all-records-from P (justSetUp N) cs (fresh-records P z N lo)
+
+-- Node n's high word is 0 and its record is its low word, as before C-18.
+abbrev pub NarrowAt : List ℕ → ℕ → Type 0
+NarrowAt p n = (word p n recordHighWord ≡ 0) × (recordAt p n ≡ word p n recordLowWord)
+
+pub narrow-node : (st : State) → AllRecords (Below wordLimit) st → (n : ℕ) → NarrowAt (st .pool) n
+narrow-node st h n = let z = narrow-high (st .pool) n (h .inNodes n) in (z, narrow-read (st .pool) n z)
+
+-- Where all records given are below 4,294,967,296 this holds of every node, however it stands: the pool is one of eight words a node with a word of
+-- 0 put in.
+pub narrow-pool : (N : ℕ) → leastNodes ≤ N → (cs : List Call) → EveryInsert (Below wordLimit) cs → (j n : ℕ) → NarrowAt (indexAfter (justSetUp N) cs j .pool) n
+narrow-pool N lo cs inserts j = narrow-node (indexAfter (justSetUp N) cs j) (all-records (Below wordLimit) (omega arith) N lo cs inserts j)
