@@ -12,7 +12,8 @@ use Rattle.base.specs.Walk.{all-in}
 use Rattle.base.specs.Lists.{_∈_}
 use Rattle.datatypes.specs.declared.Side.the-variants.{L, R}
 use Rattle.spec.specs.Numbers.{wordLimit, recordLimit}
-use Rattle.spec.specs.Pool.{word, keyWord, leftWord, rightWord, colourWord, standingWord, nextWord, recordLowWord, recordHighWord, redColour, standingRetired, recordAt, child, nodes, nodeInRange, poolInRange}
+use Rattle.spec.specs.Pool.{word, keyWord, leftWord, rightWord, colourWord, standingWord, nextWord, recordLowWord, recordHighWord}
+use Rattle.spec.specs.Pool.{redColour, standingRetired, recordAt, child, nodes, nodeInRange, poolInRange}
 use Rattle.spec.specs.Register.{State, registerInRange}
 use Rattle.laws.specs.Tests.{and-left, and-right, lentNumber, lent}
 use Rattle.texts.specs.Ascii.{blank}

@@ -11,4 +11,4 @@ pub mod Truth
 pub mod Starts
 pub mod Theorem
 pub mod Cut
-pub mod Narrow
+pub mod Given

@@ -24,7 +24,13 @@ number-field-requires-2 c κs =
     let c3 = c .before .before .before in
     let c7 = c3 .before .before .before .before in
     let c11 = c7 .before .before .before .before in
-    omega (arith, simp length-append at (c7 .text-field .ensures .ends), simp length-append at (c3 .number-field .ensures .ends), short-length (c11 .args .k) (search needs), long-length (c11 .args .v) (search needs))
+    omega (
+      arith,
+      simp length-append at (c7 .text-field .ensures .ends),
+      simp length-append at (c3 .number-field .ensures .ends),
+      short-length (c11 .args .k) (search needs),
+      long-length (c11 .args .v) (search needs),
+    )
 
 same-length : tie.Need-same-length
 same-length c = search needs
