@@ -27,7 +27,7 @@ pub enum Field {
 }
 
 // Answers a field's number after one digit more.
-pub fn with_digit(v: u64, b: u8) -> Field
+fn with_digit(v: u64, b: u8) -> Field
     requires { ⌜ (48 ≤ b) × (b ≤ 57) ⌝ }
     ensures { λ r. ⌜ r ≡ withDigit v b ⌝ }
 {

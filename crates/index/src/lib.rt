@@ -91,7 +91,7 @@ pub fn delete(pool: &[u32], reg: Register, k: u32) -> Reply
 // Answers: More or Done with the link stored and the node that it holds now (Done: the write is finished); or Wait, with nothing changed,
 // while the register has awaited slots: these need their turns, or a give up, before the next store.
 // Refuses, tested in this order: 1 length; 2 a word or field out of range; 7 no write is in hand; and, if it doesn't wait, 12 a step names
-// a node where there is none, or takes one from an empty queue.
+// a node where there is none, doesn't meet its link within 64 nodes from the root, or takes a node from an empty queue.
 // Leaves: the store made, a node taken or let go where the step says so, the write with one store fewer; refused, both as they were.
 pub fn writer_turn(pool: &mut [u32], reg: Register) -> WriterReply
     ensures { λ r. ⌜ writerSays (r .answer) ≡ writerTurn (state (now (pool .entry)) reg) .answer ⌝ }

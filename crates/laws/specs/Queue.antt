@@ -14,7 +14,7 @@ use Rattle.datatypes.specs.declared.Side.the-variants.{L, R}
 use Rattle.datatypes.specs.Side.{other}
 use Rattle.base.specs.Lists.{_∈_, Distinct}
 use Rattle.spec.specs.Numbers.{nodeWords, wordLimit}
-use Rattle.spec.specs.Pool.{place, word, setWord, recordAt, keyWord, recordLowWord, recordHighWord, leftWord, rightWord, linkWord, colourWord, standingWord, holdersWord, nextWord, standingLinked}
+use Rattle.spec.specs.Pool.{place, word, setWord, recordAt, keyWord, recordLowWord, recordHighWord, linkWord, colourWord, standingWord, holdersWord, nextWord, standingLinked}
 use Rattle.spec.specs.Register.{State, withQueue}
 use Rattle.spec.specs.Free.{takeFree, fillNode, takeNode, freeNode}
 use Rattle.spec.specs.FreeQueue.{InPool, Chain, lastOf, Queue}
@@ -42,19 +42,21 @@ chain-word p d f v a (m ∷ l) hf h = (
   rw (word-other p d m f nextWord v (omega arith) (omega arith) (inr (omega arith))) (chain-word p d f v (word p m nextWord) l hf (h .2)),
 )
 
--- the links stand before the colour
+-- the links stand after the record and before the colour
 pub link-low : (s : Side) → linkWord s < colourWord
 link-low L = omega arith
 link-low R = omega arith
 
+link-high : (s : Side) → recordHighWord < linkWord s
+link-high L = omega arith
+link-high R = omega arith
+
 -- a stored link changes no key and no record
 pub key-link : (p : List ℕ) (d n : ℕ) (s : Side) (b : ℕ) → word (setWord p d (linkWord s) b) n keyWord ≡ word p n keyWord
-key-link p d n L b = word-other p d n leftWord keyWord b (omega arith) (omega arith) (inr (omega arith))
-key-link p d n R b = word-other p d n rightWord keyWord b (omega arith) (omega arith) (inr (omega arith))
+key-link p d n s b = word-other p d n (linkWord s) keyWord b (omega (arith, link-low s)) (omega arith) (inr (omega (arith, link-high s)))
 
 pub record-link : (p : List ℕ) (d n : ℕ) (s : Side) (b : ℕ) → recordAt (setWord p d (linkWord s) b) n ≡ recordAt p n
-record-link p d n L b = record-other p d n leftWord b (omega arith) (inr (omega arith))
-record-link p d n R b = record-other p d n rightWord b (omega arith) (inr (omega arith))
+record-link p d n s b = record-other p d n (linkWord s) b (omega (arith, link-low s)) (inr (link-high s))
 
 -- A taken node is filled word by word, here only: what setting a word of it keeps, filling it keeps. G f u says that word f may be set to u.
 pub record Fills (G : ℕ → ℕ → Type 0) (k v : ℕ) (s : Side) (x y c : ℕ) : Type 0 where

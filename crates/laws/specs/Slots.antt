@@ -10,7 +10,7 @@ use native.Mathlib.Decide.{ℕ-discrete}
 use native.Mathlib.Nat.{pow-succ', div-div-eq-div-mul, div-one, div-eq-of-lt, one-mul}
 use native.Mathlib.Omega.{arith}
 use Prim.Native.Nat.{ℕ, zero, suc, _+_, _-_, _*_, _/_, _%_, _^_, _<_, _≤_}
-use Rattle.spec.specs.Numbers.{wordBits}
+use Rattle.spec.specs.Numbers.{wordBits, wordLimit}
 use Rattle.spec.specs.Register.{hasSlot, putSlot, dropSlot}
 
 -- bit s of m
@@ -151,7 +151,7 @@ some-slot w m u d = go (find-slot w m)
     go (inr r) = absurd (d (no-slot w m u r))
 
 -- the bit of a slot as the code shifts it
-pub shifted : (s : ℕ) → s < wordBits → (1 * 2 ^ s) % 4294967296 ≡ 2 ^ s
+pub shifted : (s : ℕ) → s < wordBits → (1 * 2 ^ s) % wordLimit ≡ 2 ^ s
 shifted s h = shl-exact {a = 1} 1 s wordBits (lit< tt) (omega arith) ∙ one-mul (2 ^ s)
 
 -- a slot that is not in a mask

@@ -24,15 +24,15 @@ use Rattle.page_order.specs.Order.{listed-order}
 use Rattle.page.specs.Page.{nodeWidth, keyWidth, recordWidth, linkWidth}
 
 -- in the column stand blanks and then all digits of the number
-abbrev pub Whole : (width n : ℕ) → Type 0
-Whole width n = rightIn width (decimal n) ≡ replicate (width - length (decimal n)) blank ++ decimal n
+abbrev pub WholeNumber : (width n : ℕ) → Type 0
+WholeNumber width n = rightIn width (decimal n) ≡ replicate (width - length (decimal n)) blank ++ decimal n
 
 pub record WholeLine (p : List ℕ) (n : ℕ) : Type 0 where
-  pub node : Whole nodeWidth n
-  pub key : Whole keyWidth (word p n keyWord)
-  pub value : Whole recordWidth (recordAt p n)
-  pub left : Whole linkWidth (child p L n)
-  pub right : Whole linkWidth (child p R n)
+  pub node : WholeNumber nodeWidth n
+  pub key : WholeNumber keyWidth (word p n keyWord)
+  pub value : WholeNumber recordWidth (recordAt p n)
+  pub left : WholeNumber linkWidth (child p L n)
+  pub right : WholeNumber linkWidth (child p R n)
 
 -- A pool is lent as 32-bit words.
 abbrev pub Words : List ℕ → Type 0

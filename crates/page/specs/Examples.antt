@@ -7,7 +7,7 @@ use Rattle.spec.specs.Pool.{word, recordAt, freshNodes, freshPool}
 use Rattle.texts.specs.Ascii.{text}
 use Rattle.texts.specs.Decimal.{digits, decimal, twenty-digits}
 use Rattle.texts.specs.Column.{rightIn}
-use Rattle.page_order.specs.Listed.{before, insert, listedTo, listed}
+use Rattle.page_order.specs.Listed.{before, withNode, listedTo, listed}
 use Rattle.page_order.specs.Large.{largePool, large-listed}
 use Rattle.page.specs.Page.{column, columns, headLine, pageLine, pageLines, page}
 
@@ -38,7 +38,7 @@ three-page : page three
     ++ (text "   4           1                    10  R     0     0\n"
     ++ (text "   3           2                    20  B     4     5\n"
     ++ text "   5           3                    30  R     0     0\n"))
-unfolding head free three word recordAt digits decimal before insert listedTo listed rightIn column columns headLine pageLine pageLines page
+unfolding head free three word recordAt digits decimal before withNode listedTo listed rightIn column columns headLine pageLine pageLines page
 three-page = refl
 
 -- keys rise, whatever the nodes' numbers; retired and free nodes have no line; red nodes with children, on one side and on both
@@ -47,7 +47,7 @@ mixed-page : page (node 7 1 4 0 1 1 ++ (node 5 2 0 0 0 2 ++ (node 6 3 0 0 0 0 ++
     ++ (text "   4           4                     4  R     1     5\n"
     ++ (text "   1           7                     1  R     4     0\n"
     ++ text "   5           9                     5  B     0     1\n"))
-unfolding head word recordAt digits decimal before insert listedTo listed rightIn column columns headLine pageLine pageLines page
+unfolding head word recordAt digits decimal before withNode listedTo listed rightIn column columns headLine pageLine pageLines page
 mixed-page = refl
 
 -- equal keys stand in rising node, whatever record and colour
@@ -58,7 +58,7 @@ equal-page : page (node 8 3 0 0 0 1 ++ (node 8 7 0 0 1 1 ++ (node 5 2 0 0 0 1 ++
     ++ (text "   1           8                     3  B     0     0\n"
     ++ (text "   2           8                     7  R     0     0\n"
     ++ text "   4           8                     1  B     0     0\n"))))
-unfolding head word recordAt digits decimal before insert listedTo listed rightIn column columns headLine pageLine pageLines page
+unfolding head word recordAt digits decimal before withNode listedTo listed rightIn column columns headLine pageLine pageLines page
 equal-page = refl
 
 -- the narrowest values and the widest
@@ -66,7 +66,7 @@ wide-page : page (node 0 0 0 0 0 1 ++ wide 4294967295 4294967295 4294967295 1023
     ≡ head
     ++ (text "   1           0                     0  B     0     0\n"
     ++ text "   2  4294967295  18446744073709551615  R  1023  1022\n")
-unfolding head word recordAt digits before insert listedTo listed rightIn column columns headLine pageLine pageLines page
+unfolding head word recordAt digits before withNode listedTo listed rightIn column columns headLine pageLine pageLines page
 wide-page = simp twenty-digits
 
 -- every width between
@@ -84,7 +84,7 @@ each-page : page (node 9 10 1 12 0 1 ++ (node 99 100 123 999 0 1 ++ (node 999 10
     ++ (text "   8    99999999             100000000  B     0     0\n"
     ++ (text "   9   999999999            1000000000  B     0     0\n"
     ++ text "  10  1000000000             999999999  B     0     0\n")))))))))
-unfolding head word recordAt digits before insert listedTo listed rightIn column columns headLine pageLine pageLines page
+unfolding head word recordAt digits before withNode listedTo listed rightIn column columns headLine pageLine pageLines page
 each-page = simp twenty-digits
 
 -- a record of each width from 10 to 20
@@ -105,7 +105,7 @@ each-record : page (wide 1 4294967295 0 0 0 0 1 ++ (wide 2 1215752191 23 0 0 0 1
     ++ (text "  10          10   1000000000000000000  B     0     0\n"
     ++ (text "  11          11  10000000000000000000  B     0     0\n"
     ++ text "  12          12            4294967296  B     0     0\n")))))))))))
-unfolding head word recordAt digits before insert listedTo listed rightIn column columns headLine pageLine pageLines page
+unfolding head word recordAt digits before withNode listedTo listed rightIn column columns headLine pageLine pageLines page
 each-record = simp twenty-digits
 
 -- nodes of one digit to four, in a pool of 1,023
@@ -132,24 +132,24 @@ fall (suc k) = node (1001 + k) 0 0 0 0 1 ++ fall k
 
 -- 60 lines: from the last line on
 sixty-page : drop (60 * 54) (page (free ++ fall 60)) ≡ text "   2        1060                     0  B     0     0\n"
-unfolding free fall word recordAt digits decimal before insert listedTo listed rightIn column columns headLine pageLine pageLines page
+unfolding free fall word recordAt digits decimal before withNode listedTo listed rightIn column columns headLine pageLine pageLines page
 sixty-page = refl
 
 -- 61: from line 60 on; line 61 stands on a second sheet
 sixty-one-page : drop (60 * 54) (page (free ++ fall 61))
     ≡ text "   3        1060                     0  B     0     0\n" ++ (12 ∷ (head ++ text "   2        1061                     0  B     0     0\n"))
-unfolding head free fall word recordAt digits decimal before insert listedTo listed rightIn column columns headLine pageLine pageLines page
+unfolding head free fall word recordAt digits decimal before withNode listedTo listed rightIn column columns headLine pageLine pageLines page
 sixty-one-page = refl
 
 -- 120: the last line of the second sheet
 second-full-page : drop (121 * 54 + 1) (page (free ++ fall 120)) ≡ text "   2        1120                     0  B     0     0\n"
-unfolding free fall word recordAt digits decimal before insert listedTo listed rightIn column columns headLine pageLine pageLines page
+unfolding free fall word recordAt digits decimal before withNode listedTo listed rightIn column columns headLine pageLine pageLines page
 second-full-page = refl
 
 -- 121: from line 120 on; line 121 stands on a third sheet
 third-page : drop (121 * 54 + 1) (page (free ++ fall 121))
     ≡ text "   3        1120                     0  B     0     0\n" ++ (12 ∷ (head ++ text "   2        1121                     0  B     0     0\n"))
-unfolding head free fall word recordAt digits decimal before insert listedTo listed rightIn column columns headLine pageLine pageLines page
+unfolding head free fall word recordAt digits decimal before withNode listedTo listed rightIn column columns headLine pageLine pageLines page
 third-page = refl
 
 -- The most lines: those of nodes 1 to 1,023, of a pool without words, so that each word reads as 0. Of sheets 2 to 17 the form feed and the head, and then

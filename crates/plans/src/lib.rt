@@ -77,7 +77,7 @@ fn push_rotation(w: Write, t: Rotation) -> Write
 }
 
 // Finds where the fix-up after an insert of the key k at the link l ends.
-pub fn fixup_after_insert(pool: &[u32], root: u32, k: u32, l: Link) -> Fixup
+fn fixup_after_insert(pool: &[u32], root: u32, k: u32, l: Link) -> Fixup
     ensures { λ r. ⌜ r ≡ cond (isRed (now (pool .entry)) (owner l)) (insertFixup (now (pool .entry)) 0 (pathTo (now (pool .entry)) root k l)) (fixupResult 0 Balanced) ⌝ }
 {
     if !pool::is_red(pool, links::owner(l)) {

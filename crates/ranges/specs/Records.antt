@@ -51,7 +51,7 @@ use Rattle.heap.specs.Fill.{fill-node, Quiet, free-quiet, retire-quiet, retireT
 use Rattle.heap.specs.ColourWork.{ColoursOnly, coloursOnly-insertFixup, coloursOnly-removal, coloursOnly-paint, Coloured, end-diag, end-zig}
 use Rattle.readers.specs.CallCase.{CallCase, call-case, refuses, plansInsert, plansDelete, waits, stores, begins, loads, misses, meets, finds, leaves}
 use Rattle.readers.specs.CallCase.{Loads, atRoot, lookingUp, searching}
-use Rattle.ranges.specs.Writes.{padded, second}
+use Rattle.ranges.specs.Writes.{padded-at, moved-up}
 
 -- P holds of the record that a step sets, if it is given one
 abbrev pub OfStep : (ℕ → Type 0) → Step → Type 0
@@ -263,13 +263,13 @@ module _ (P : ℕ → Type 0) where
   write-stores l h i =
       let xs = l ++ replicate mostStores vacant in
       elim (decLt i mostStores) [
-        | yes u ↦ rw (getD-take mostStores xs i vacant u, padded l mostStores i) (planned-at l h i)
+        | yes u ↦ rw (getD-take mostStores xs i vacant u, padded-at l mostStores i) (planned-at l h i)
         | no u ↦ rw (getD-past vacant (take mostStores xs) i (let e = length-take mostStores xs in omega arith)) tt
       ]
 
   less-stores : (w : Write) → OfStores (w .stores) → OfStores (lessFirst w .stores)
   unfolding lessFirst
-  less-stores w h i = rw (second (w .stores) i) (h (suc i))
+  less-stores w h i = rw (moved-up (w .stores) i) (h (suc i))
 
   moved-stores : (b n : ℕ) (w : Write) → OfStores (w .stores) → OfStores (movedWrite b n w .stores)
   unfolding movedWrite

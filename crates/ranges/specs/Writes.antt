@@ -68,11 +68,11 @@ pub record WriteOk (capacity : ℕ) (w : Write) : Type 0 where
 pub write-none : (capacity : ℕ) → WriteOk capacity noWrite
 write-none capacity = record { few = omega arith; come = λ i u. absurd (omega arith); others = λ i u. getD-same vacant mostStores i }
 
--- planned
-pub padded : (l : List Store) (k i : ℕ) → getD (l ++ replicate k vacant) i vacant ≡ getD l i vacant
-padded [] k i = getD-same vacant k i
-padded (x ∷ l) k zero = refl
-padded (x ∷ l) k (suc i) = padded l k i
+-- Planned. Vacant stores after a list change none of what stands in it.
+pub padded-at : (l : List Store) (k i : ℕ) → getD (l ++ replicate k vacant) i vacant ≡ getD l i vacant
+padded-at [] k i = getD-same vacant k i
+padded-at (x ∷ l) k zero = refl
+padded-at (x ∷ l) k (suc i) = padded-at l k i
 
 pub write-of : (capacity : ℕ) (l : List Store) → StoresOk capacity l → length l ≤ mostStores → WriteOk capacity (writeOf l)
 unfolding writeOf
@@ -80,31 +80,24 @@ write-of capacity l h u =
     let xs = l ++ replicate mostStores vacant in
     record {
       few = u;
-      come = λ i v. rw (getD-take mostStores xs i vacant (omega arith), padded l mostStores i) (stores-at capacity l i h v);
+      come = λ i v. rw (getD-take mostStores xs i vacant (omega arith), padded-at l mostStores i) (stores-at capacity l i h v);
       others = λ i v. elim (decLt i mostStores) [
-        | yes a ↦ getD-take mostStores xs i vacant a ∙ padded l mostStores i ∙ getD-past vacant l i v
+        | yes a ↦ getD-take mostStores xs i vacant a ∙ padded-at l mostStores i ∙ getD-past vacant l i v
         | no a ↦ getD-past vacant (take mostStores xs) i (let e = length-take mostStores xs in omega arith)
       ];
     }
 
--- the first made
-shifted : (l : List Store) (i : ℕ) → getD (l ++ vacant ∷ []) i vacant ≡ getD l i vacant
-shifted [] zero = refl
-shifted [] (suc i) = refl
-shifted (x ∷ l) zero = refl
-shifted (x ∷ l) (suc i) = shifted l i
-
-pub second : (l : List Store) (i : ℕ) → getD (drop 1 l ++ vacant ∷ []) i vacant ≡ getD l (suc i) vacant
-second [] zero = refl
-second [] (suc i) = refl
-second (x ∷ l) i = shifted l i
+-- The first made: each store after it moves up by one.
+pub moved-up : (l : List Store) (i : ℕ) → getD (drop 1 l ++ vacant ∷ []) i vacant ≡ getD l (suc i) vacant
+moved-up [] i = padded-at [] 1 i
+moved-up (x ∷ l) i = padded-at l 1 i
 
 pub write-less : (capacity : ℕ) (w : Write) → WriteOk capacity w → WriteOk capacity (lessFirst w)
 unfolding lessFirst
 write-less capacity w h = record {
   few = let a = h .few in omega arith;
-  come = λ i u. rw (second (w .stores) i) (h .come (suc i) (omega arith));
-  others = λ i u. second (w .stores) i ∙ h .others (suc i) (omega arith);
+  come = λ i u. rw (moved-up (w .stores) i) (h .come (suc i) (omega arith));
+  others = λ i u. moved-up (w .stores) i ∙ h .others (suc i) (omega arith);
 }
 
 -- moved to another node

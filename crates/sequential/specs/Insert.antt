@@ -1,6 +1,6 @@
 -- Sequential insert after source document 000, appendix A, along the way up from the new node.
 -- Its double rotation leaves the loop at once, as 01's steps have it: by the letter of 000 the loop would go on from the black top
--- (docs/DECISIONS.md).
+-- (docs/DECISIONS.md, 9).
 use Prim.Native.Nat.{ℕ}
 use mathlib.Core.Bool.{Bool, true, false}
 use mathlib.Core.List.{List, [], _∷_}
@@ -13,7 +13,7 @@ abbrev pub turnUp : Bool → Side → ℕ → ℕ → Tree → Tree → Tree
 turnUp true z k v p aunt = diag z black red k v p aunt
 turnUp false z k v p aunt = zig z black red k v p aunt
 
--- The loop of 000, lines 27 to 188. x is red.
+-- The loop of 000, appendix A.2, lines 18 to 96. x is red.
 abbrev pub rbInsertFixup : List Frame → Tree → Tree
 rbInsertFixup [] x = x
 rbInsertFixup (frame s black k v y ∷ fs) x = plug fs (mk s black k v x y)
@@ -23,7 +23,7 @@ rbInsertFixup (frame s red k v y ∷ frame z c j w aunt ∷ fs) x =
     (rbInsertFixup fs (mk z red j w (mk s black k v x y) (paint black aunt)))
     (plug fs (turnUp (sameSide s z) z j w (mk s red k v x y) aunt))
 
--- A new red node at the empty place; line 189: the root ends black. A held key's record is overwritten (02, C-13).
+-- A new red node at the empty place; line 97: the root ends black. A held key's record is overwritten (02, C-13).
 abbrev pub insertedAt : ℕ → ℕ → List Frame → Tree → Tree
 insertedAt q w fs leaf = paint black (rbInsertFixup fs (node red q w leaf leaf))
 insertedAt q w fs (node c k v l r) = plug fs (node c k w l r)

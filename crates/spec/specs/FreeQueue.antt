@@ -1,4 +1,5 @@
--- 01, 'Pool and register': a pool's nodes, and the free queue as a list of them. For statements and contracts; no call goes by them. The laws are in crate laws.
+-- 01, 'Pool and register': a pool's nodes, and the free queue as a list of them. For statements and contracts; no call goes by them. The laws
+-- are in crate laws.
 use Prim.Native.Nat.{ℕ, _*_, _≤_}
 use mathlib.Core.Path.{_≡_}
 use mathlib.Core.List.{List, [], _∷_}

@@ -33,11 +33,11 @@ recordLimit = wordLimit * wordLimit
 abbrev pub largestWord : ℕ
 largestWord = wordLimit - 1
 
--- 'Calls': a path from the root has at most 64 nodes.
+-- 'Calls' and 'When a call is turned down': a path from the root has at most 64 nodes.
 abbrev pub pathBound : ℕ
 pathBound = 64
 
--- 'The writer's stores': the stores still to come are at most seven.
+-- 'Pool and register': the stores still to come are at most seven.
 abbrev pub mostStores : ℕ
 mostStores = 7
 

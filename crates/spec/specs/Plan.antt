@@ -34,7 +34,8 @@ rotation l f s purpose = record { link = l; form = f; side = s; purpose = purpos
 
 -- 'Insert', after the new red node is linked. x, y and z are the links of the red node, its parent and its grandparent; m levels are
 -- passed. Red parent, red aunt: go on from the grandparent. Red parent, black or no aunt: on the outer side a diag with the parent
--- rising, on the inner side a zig with the node rising. A red parent that is the root has no grandparent to name.
+-- rising, on the inner side a zig with the node rising. A red parent that is the root has no grandparent to name. A path without a link is
+-- a descent that did not meet its place.
 unfoldable pub insertFixup : List ℕ → ℕ → List Link → Fixup
 insertFixup p m [] = fixupResult m Missing
 insertFixup p m (x ∷ []) = fixupResult m Balanced
@@ -70,7 +71,7 @@ abbrev pub blackSibling : List ℕ → Link → Side → ℕ → Rotation
 blackSibling p l z w = rotation l (cond (isRed p (child p z w)) Diag Zig) z BlackSibling
 
 -- Red w: diag, and go on under the copy of the parent, whose link is w's inner one. Its sibling is w's inner child, whose own colour
--- is not tested again (docs/DECISIONS.md).
+-- is not tested again (docs/DECISIONS.md, 10).
 unfoldable pub redSibling : List ℕ → Link → Side → ℕ → Ending
 redSibling p l z w =
     let s = other z in
@@ -79,7 +80,7 @@ redSibling p l z w =
     cond (eqb inner 0) Missing (cond (redChild p inner) (RotateTwice first (blackSibling p (linkAt s w) z inner)) (Rotate first))
 
 -- x is the node that came to the place at the head of the path. A red x turns black. Otherwise, until x is the root, with parent and
--- sibling w: red w; black w with a red child; black w with none: x is the parent.
+-- sibling w: red w; black w with a red child; black w with none: x is the parent. A path without a link is a descent that did not meet it.
 unfoldable pub deleteFixup : List ℕ → ℕ → ℕ → List Link → Fixup
 deleteFixup p m x [] = fixupResult m (cond (isRed p x) Blacken Missing)
 deleteFixup p m x (l ∷ []) = fixupResult m (cond (isRed p x) Blacken Balanced)

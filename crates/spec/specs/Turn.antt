@@ -241,8 +241,8 @@ detachStore st l k =
     let x = child (st .pool) R c in
     made (retire (paintDeleteFixup (setLink st above x) (detachFixup st l k) x path) c) above x
 
--- Whether a turn's own step finds every node that it names, and a free node if it takes one. Of no node each word is 0, so a node that
--- is there has the nodes above it there as well.
+-- Whether a turn's own step finds every node that it names, its planned link where it goes by the path to it, and a free node if it takes one.
+-- Of no node each word is 0, so a node that is there has the nodes above it there as well.
 abbrev pub isNode : ℕ → Bool
 isNode n = not (eqb n 0)
 
@@ -296,7 +296,8 @@ stepMade st l Promote = promoteStore st l
 stepMade st l (Publish c) = publishStore st l c
 stepMade st l (Detach k) = detachStore st l k
 
--- What a step does besides storing a link. Whether it is its write's list store, and whether a key comes, goes, or stays with its new record:
+-- What a step does besides storing a link. For statements, contracts and proofs; no call goes by it, stepMade does it. Whether it is its write's
+-- list store, and whether a key comes, goes, or stays with its new record:
 pub data Listing : Type 0 where
   unlisted keyComes keyStays keyGoes : Listing
 

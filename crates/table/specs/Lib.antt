@@ -5,13 +5,4 @@ pub mod Starred
 pub mod Readers
 pub mod NextTickets
 pub mod Turns
-pub mod Inserts
-pub mod Deletes
-pub mod Replacements
-pub mod Overwrites
-pub mod Refusals
-pub mod Paths
-pub mod Damaged
-pub mod PlainLists
-pub mod Large
 pub mod Table

@@ -1,4 +1,4 @@
--- Every entry of the tables passes. It is computed over the definitions of crate spec, each named below.
+-- Every entry of the tables of crate table passes. It is computed over the definitions of crate spec, each named below.
 use mathlib.Core.Path.{_≡_, refl}
 use mathlib.Core.Bool.{true}
 use Rattle.base.specs.Walk.{allFrom, allIn, foldFrom, foldIn}
@@ -17,30 +17,12 @@ use Rattle.table.specs.Starred.{starred}
 use Rattle.table.specs.Readers.{readers}
 use Rattle.table.specs.NextTickets.{nextTickets}
 use Rattle.table.specs.Turns.{turns}
-use Rattle.table.specs.Inserts.{inserts}
-use Rattle.table.specs.Deletes.{deletes}
-use Rattle.table.specs.Replacements.{replacements}
-use Rattle.table.specs.Overwrites.{Overwrites, overwrites}
-use Rattle.table.specs.Refusals.{refusals}
-use Rattle.table.specs.Paths.{paths}
-use Rattle.table.specs.Damaged.{damaged}
-use Rattle.table.specs.PlainLists.{allListed, plainLists, lists-pass}
-use Rattle.table.specs.Large.{LargePasses, large-passes}
 
 pub record TablesPass : Type 0 where
   pub starred : allPass starred ≡ true
   pub readers : allPass readers ≡ true
   pub nextTickets : allPass nextTickets ≡ true
   pub turns : allPass turns ≡ true
-  pub inserts : allPass inserts ≡ true
-  pub deletes : allPass deletes ≡ true
-  pub replacements : allPass replacements ≡ true
-  pub overwrites : Overwrites
-  pub refusals : allPass refusals ≡ true
-  pub paths : allPass paths ≡ true
-  pub damaged : allPass damaged ≡ true
-  pub plainLists : allListed plainLists ≡ true
-  pub large : LargePasses
 
 pub tables-pass : TablesPass
 unfolding allFrom allIn foldFrom foldIn word setWord recordAt nodeInRange poolInRange lengthRight freshNodes freshPool withRoot withQueue withHeld withReader
@@ -49,19 +31,4 @@ unfolding allFrom allIn foldFrom foldIn word setWord recordAt nodeInRange poolIn
     deleteFixup fixupAfterRemoval paintDeleteLevels paintDeleteFixup insertPlan unlinkPlan deletePlan insertStore replaceStore diagLower diagRaise
     zigLowerA zigLowerC zigRaise unlinkStore adoptStore promoteStore movedWrite publishStore detachStore stepFinds stepMade setUp insert delete stored
     writerTurn begin readerStep readerTurn giveUp
-tables-pass =
-    record {
-      starred = refl;
-      readers = refl;
-      nextTickets = refl;
-      turns = refl;
-      inserts = refl;
-      deletes = refl;
-      replacements = refl;
-      overwrites = overwrites;
-      refusals = refl;
-      paths = refl;
-      damaged = refl;
-      plainLists = lists-pass;
-      large = large-passes;
-    }
+tables-pass = record { starred = refl; readers = refl; nextTickets = refl; turns = refl }

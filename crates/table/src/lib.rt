@@ -1,1 +1,1 @@
-// No code: document 01's starred examples stand in specs/, as one checked table.
+// No code: document 01's starred examples, and those of readers and next tickets, stand in specs/, as one checked table.

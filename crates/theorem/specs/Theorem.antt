@@ -1,5 +1,5 @@
--- The theorem: demands 2 and 3, that 2 and 12 are never met, and how many nodes a lookup reads (C-17), of every list of calls on a pool of any N
--- from 8 to 1,023 just set up; and from every other sound start (runs: Starts).
+-- The theorem: demands 2 and 3, that 1, 2 and 12 are never met, that a reader's turn is the one that tests every word (C-12), and how many nodes a
+-- lookup reads (C-17), of every list of calls on a pool of any N from 8 to 1,023 just set up; and from every other sound start (promise: Starts).
 use Prim.Native.Nat.{ℕ, _*_, _<_, _≤_}
 use mathlib.Core.Path.{_≡_, sym, _∙_, subst}
 use mathlib.Core.Bool.{false, false≢true}

@@ -22,7 +22,7 @@ ghost use Rattle.heads.specs.Head.{left};
 ghost use Rattle.turns.specs.Made.{asksReading, TriesAny, FirstTold};
 
 // Tries the step x at the link l.
-pub fn try_step(pool: &mut [u32], h: Head, reading: u32, l: Link, x: Step) -> StepResult
+fn try_step(pool: &mut [u32], h: Head, reading: u32, l: Link, x: Step) -> StepResult
     requires { ⌜ (length (now pool) < poolLimit) × Whole (now pool) ⌝ }
     ensures { λ r. ⌜ TriesAny reading l x (now (pool .entry)) h (now (pool .exit)) r ⌝ }
 {
@@ -44,7 +44,7 @@ pub fn try_step(pool: &mut [u32], h: Head, reading: u32, l: Link, x: Step) -> St
 }
 
 // Answers the write in hand without its first store.
-pub fn less_first(w: Write) -> Write
+fn less_first(w: Write) -> Write
     ensures { λ r. ⌜ r ≡ lessFirst w ⌝ }
 {
     let mut r = w;

@@ -76,10 +76,10 @@ returns-2 c =
     let w : c3 .slot-refusal .result ≡ firstOf (beginTests st (a .s)) =
     c3 .slot-refusal .ensures ∙ rw (c5 .lent-refusal .ensures) (slot-tests st (a .s) (i .result) (λ (b : Bool). b) 4 (i .ensures .0)) in
     let z = sym w ∙ c .before .before .if1 .left in
+    let j = index-of (a .s) (i .result) (i .ensures .0) (slot-of (a .s) (wrongLength st) (outOfRange st) (reading st (a .s)) 4 (omega arith) z) in
     let e = unless-done (beginTests st (a .s)) st (outcome ok (state (st .pool) (withReader (st .register) (a .s) (begunReader (a .kind) (a .k))))) z in (
       c .accepted .ensures .0 ∙ sym (ap (λ (o : Outcome). o .answer) e),
-      rw (c .accepted .ensures .1, c .before .begun-reader .ensures, index-of (a .s) (i .result) (i .ensures .0) (slot-of (a .s) (wrongLength st) (outOfRange st) (reading st (a .s)) 4 (omega arith) z))
-          (sym (ap (λ (o : Outcome). o .after) e)),
+      rw (c .accepted .ensures .1, c .before .begun-reader .ensures, j) (sym (ap (λ (o : Outcome). o .after) e)),
     )
 
 pub begin-spec : {M : Type 1} → statement M

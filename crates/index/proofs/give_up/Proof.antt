@@ -110,7 +110,8 @@ returns-2 c =
     let j : i .result ≡ s = index-of s (i .result) (i .ensures .0) (slot-of s (wrongLength st) (outOfRange st) (not (reading st s)) 5 (omega arith) z) in
     let e = unless-done (giveUpTests st s) st (outcome ok (endReading st s)) z in (
       c .accepted .ensures .0 ∙ sym (ap (λ (o : Outcome). o .answer) e),
-      rw (c .accepted .ensures .1, c .before .register-of .ensures, j, c3 .no-reader .ensures) (rw (c7 .head-of .ensures) at (c6 .end-reading .ensures (a .reg)) ∙ sym (ap (λ (o : Outcome). o .after) e)),
+      rw (c .accepted .ensures .1, c .before .register-of .ensures, j, c3 .no-reader .ensures)
+          (rw (c7 .head-of .ensures) at (c6 .end-reading .ensures (a .reg)) ∙ sym (ap (λ (o : Outcome). o .after) e)),
     )
 
 pub give-up-spec : {M : Type 1} → statement M

@@ -2,7 +2,7 @@ use Prim.Native.Nat.{_≤_, _<_, _-_, _+_}
 use lib.ListN.{length, length-set}
 use Rattle.paths.specs.Upward.{mostLinks, upward, upward-push, upward-none}
 use Rattle.laws.specs.Descend.{leftmost-deep, leftmost-here, leftmost-step}
-use Rattle.spec.specs.Numbers.{pathBound}
+use Rattle.spec.specs.Numbers.{pathBound, wordLimit}
 use Rattle.spec.specs.Search.{leftmost}
 use Rattle.datatypes.specs.declared.Link.the-variants.{Left}
 use borrow.Author.Needs.{needs}
@@ -16,7 +16,7 @@ use Rattle.paths.proofs.code_of.Reads as code-of-reads
 use Rattle.pool.proofs.child.Reads as child-reads
 
 abbrev Inv-loop : tie.InvT-loop
-Inv-loop pool n path₀ c node₀ d₀ path node d = (d ≤ mostLinks) × (node < 4294967296) × (length path ≡ mostLinks) × (leftmost pool (pathBound + 1 - d) node (upward path d) ≡ leftmost pool
+Inv-loop pool n path₀ c node₀ d₀ path node d = (d ≤ mostLinks) × (node < wordLimit) × (length path ≡ mostLinks) × (leftmost pool (pathBound + 1 - d) node (upward path d) ≡ leftmost pool
     (pathBound + 1 - d₀) node₀ (upward path₀ d₀))
 
 abbrev μ-loop : tie.MeasureT-loop

@@ -4,12 +4,12 @@ use mathlib.Core.Bool.{cond}
 use lib.Dec.{eqb}
 use mathlib.Core.List.{List, [], _∷_}
 use Rattle.datatypes.specs.declared.Link.the-variants.{Root, Left, Right}
-use Rattle.datatypes.specs.declared.Step.the-variants.{Insert, Detach}
+use Rattle.datatypes.specs.declared.Step.the-variants.{Insert, Unlink, Detach}
 use Rattle.spec.specs.Register.{State}
 use Rattle.spec.specs.Calls.{ok, go, more, done, refused}
-use Rattle.table.specs.Picture.{Row, row, root_held_awaited_stores_, picture, drawn, rising, _on_, right, colour, _of_:=_, root:=_, free:=_}
-use Rattle.table.specs.Picture.{held:=_, hand, fills, reader_:=_, reads, _but_}
-use Rattle.table.specs.Entry.{I, D, W, R, E, _⇒_, Entry, entry, gives12}
+use Rattle.table.specs.Picture.{Row, row, root_held_awaited_stores_, picture, drawn, rising, _on_, left, right, colour, standing, nextFree, _of_:=_}
+use Rattle.table.specs.Picture.{root:=_, first:=_, last:=_, free:=_, held:=_, hand, atRest, fills, reader_:=_, reads, _but_}
+use Rattle.table.specs.Entry.{I, D, W, R, E, _⇒_, leaves, Entry, entry, gives12}
 
 -- the k nodes from n on, each the right child of the one before, with its number as key and record; all black but the last
 abbrev rightRows : ℕ → ℕ → List Row
@@ -66,4 +66,9 @@ paths =
     (D 1 ⇒ ok ∷ W ⇒ more (Right 72) 65 ∷ W ⇒ done (Left 62) 0 ∷ [])
     ∷ entry "12: successor as the 65th node, B below the root" (leftChain 64 but (root:= 72 ∷ fills (row 72 0 0 0 0 1) ∷ []))
     (D 1 ⇒ refused 12 ∷ [])
+    ∷ entry "an unlink of the 65th node: the nodes above its link are counted, not the node"
+    (rightChain 65 but (hand (Unlink on Right 64) ∷ colour of 65 := 0 ∷ colour of 64 := 1 ∷ left of 64 := 66 ∷ fills (row 66 63 5 0 0 0) ∷ first:= 67 ∷ []))
+    (W ⇒ done (Right 64) 0
+    ∷ leaves (right of 64 := 0 ∷ colour of 64 := 0 ∷ standing of 65 := 0 ∷ colour of 66 := 1 ∷ nextFree of 72 := 65 ∷ last:= 65 ∷ free:= 8 ∷ held:= 64 ∷ atRest ∷ [])
+    ∷ [])
     ∷ []

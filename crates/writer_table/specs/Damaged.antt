@@ -374,4 +374,34 @@ damaged =
     (three but (standing of 8 := 2 ∷ holders of 8 := 1 ∷ reader 0 := (reads 5 1) ∷ free:= 8 ∷ []))
     (R 0 ⇒ absent
     ∷ leaves (standing of 8 := 0 ∷ holders of 8 := 0 ∷ reader 0 := (idle 0 0) ∷ []) ∷ [])
+    ∷ entry "decision 15: a promote without an adopt takes B's left for the sibling, and colours it"
+    (three but (hand (Promote on Root) ∷ colour of 1 := 0 ∷ colour of 3 := 0 ∷ []))
+    (W ⇒ done Root 3
+    ∷ leaves (colour of 1 := 1 ∷ standing of 2 := 0 ∷ nextFree of 8 := 2 ∷ root:= 3 ∷ last:= 2 ∷ free:= 6 ∷ held:= 2 ∷ atRest ∷ []) ∷ [])
+    ∷ gives12 "decision 15: a promote without an adopt names B's left, whatever C's left is"
+    (three but (hand (Promote on Root) ∷ colour of 1 := 0 ∷ colour of 3 := 0 ∷ left of 2 := 0 ∷ left of 3 := 1 ∷ []))
+    ∷ entry "decision 17: under the copy the colours are read after the store, when B is black" (lowered but (left of 3 := 4 ∷ []))
+    (W ⇒ done Root 4
+    ∷ leaves (standing of 2 := 0 ∷ colour of 3 := 1 ∷ colour of 4 := 0 ∷ colour of 6 := 0 ∷ nextFree of 8 := 2 ∷ root:= 4 ∷ last:= 2 ∷ free:= 4 ∷ atRest ∷ [])
+    ∷ [])
+    ∷ entry "decision 20: an insert without a rotation blackens the root at once, with a store after it"
+    (three but (colour of 1 := 0 ∷ colour of 2 := 1 ∷ count:= 2 ∷ store 0 := (Insert 5 50 on Left 1) ∷ store 1 := (Unlink on Right 2) ∷ []))
+    (W ⇒ more (Left 1) 4
+    ∷ leaves (left of 1 := 4 ∷ colour of 2 := 0 ∷ fills (row 4 5 50 1 0 0) ∷ first:= 5 ∷ free:= 4 ∷ held:= 4 ∷ hand (Unlink on Right 2) ∷ store 1 := none ∷ [])
+    ∷ [])
+    ∷ entry "decision 20: an insert's diag blackens the root at its last store, with a store after it"
+    (five but (colour of 2 := 1 ∷ count:= 2 ∷ store 0 := (DiagRaise side.R ForInsert on Right 2) ∷ store 1 := (Unlink on Left 2) ∷ []))
+    (W ⇒ more (Right 2) 5
+    ∷ leaves (right of 2 := 5 ∷ colour of 2 := 0 ∷ standing of 4 := 0 ∷ colour of 5 := 0 ∷ nextFree of 12 := 4 ∷ last:= 4 ∷ free:= 8 ∷ hand (Unlink on Left 2)
+    ∷ store 1 := none ∷ []) ∷ [])
+    ∷ entry "decision 20: an insert that asks for a rotation leaves a red root red, with no store after it"
+    (five but (colour of 2 := 1 ∷ left of 4 := 0 ∷ hand (Insert 60 600 on Right 5) ∷ []))
+    (W ⇒ done (Right 5) 6
+    ∷ leaves (right of 5 := 6 ∷ fills (row 6 60 600 1 0 0) ∷ first:= 7 ∷ free:= 6 ∷ held:= 6 ∷ atRest ∷ []) ∷ [])
+    ∷ entry "decision 62: a zig for a red sibling colours nothing under its copy"
+    (five but (hand (ZigRaise side.R RedSibling on Right 2) ∷ left of 5 := 6 ∷ fills (row 6 45 450 1 7 0) ∷ fills (row 7 40 400 1 0 8) ∷ fills (row 8 42 420 0 0 0)
+    ∷ first:= 9 ∷ []))
+    (W ⇒ done (Right 2) 6
+    ∷ leaves (right of 2 := 6 ∷ standing of 4 := 0 ∷ nextFree of 4 := 5 ∷ standing of 5 := 0 ∷ colour of 6 := 0 ∷ nextFree of 12 := 4 ∷ last:= 5 ∷ free:= 9 ∷ atRest ∷ [])
+    ∷ [])
     ∷ []

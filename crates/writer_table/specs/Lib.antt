@@ -1,0 +1,10 @@
+pub mod Inserts
+pub mod Deletes
+pub mod Replacements
+pub mod Overwrites
+pub mod Refusals
+pub mod Paths
+pub mod Damaged
+pub mod PlainLists
+pub mod Large
+pub mod Table
