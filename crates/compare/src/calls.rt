@@ -1,6 +1,7 @@
 // The index's calls: the register goes from one to the next, and all else of an answer is numbers.
 use checks::draws;
 use checks::draws::Call;
+use comparisons::answers;
 use datatypes::Acceptance;
 use datatypes::Reader;
 use datatypes::ReaderAnswer;
@@ -11,23 +12,6 @@ use datatypes::Step;
 use datatypes::Tally;
 use datatypes::WriterAnswer;
 use datatypes::WriterReply;
-
-// Answers as numbers: a refusal is its number, accepted is 0.
-pub const ACCEPTED: u32 = 0;
-
-pub const MORE: u32 = 101;
-
-pub const DONE: u32 = 102;
-
-pub const WAIT: u32 = 103;
-
-pub const GO: u32 = 104;
-
-pub const FOUND: u32 = 105;
-
-pub const ABSENT: u32 = 106;
-
-pub const NEXT: u32 = 107;
 
 // A call made: the register after it, its answer's number, the key of next, and the record of found or next; the count in the reply of a
 // reader's turn, and the tally of the camera that made the call.
@@ -42,26 +26,26 @@ pub struct Made {
 
 fn acceptance_number(a: Acceptance) -> u32 {
     match a {
-        Acceptance::Accepted => ACCEPTED,
+        Acceptance::Accepted => answers::ACCEPTED,
         Acceptance::Refused(n) => n,
     }
 }
 
 fn writer_number(a: WriterAnswer) -> u32 {
     match a {
-        WriterAnswer::More(_, _) => MORE,
-        WriterAnswer::Done(_, _) => DONE,
-        WriterAnswer::Wait => WAIT,
+        WriterAnswer::More(_, _) => answers::MORE,
+        WriterAnswer::Done(_, _) => answers::DONE,
+        WriterAnswer::Wait => answers::WAIT,
         WriterAnswer::Refused(n) => n,
     }
 }
 
 fn reader_number(a: ReaderAnswer) -> u32 {
     match a {
-        ReaderAnswer::Go => GO,
-        ReaderAnswer::Found(_) => FOUND,
-        ReaderAnswer::Next(_, _) => NEXT,
-        ReaderAnswer::Absent => ABSENT,
+        ReaderAnswer::Go => answers::GO,
+        ReaderAnswer::Found(_) => answers::FOUND,
+        ReaderAnswer::Next(_, _) => answers::NEXT,
+        ReaderAnswer::Absent => answers::ABSENT,
         ReaderAnswer::Refused(n) => n,
     }
 }

@@ -1,5 +1,5 @@
 // Repeats one call, and puts the pool back before each, so that the instructions of a call can be counted.
-// Arguments: CALL SIZE MODE SLOT. Instructions of a call: those of a run in mode 1 less those in mode 0, by 1,000.
+// Arguments: CALL SIZE MODE SLOT. Instructions of a call: those of a run in mode 1 less those in mode 0, divided by 1,000.
 // CALL: P set up, I insert of a new key, H of a held key, D delete, B begin, G C F A a reader's turn that answers go (G loads the root, C
 // compares at a node), found, absent, E give up, W a writer's turn that answers wait. Of a search for the next ticket: S begin, L R a turn that
 // answers go at a greater key (to the left, remembering it) and at a smaller one (to the right), N O a turn that answers next and none.

@@ -1,4 +1,4 @@
-// The types of the ticket index: links, the write in hand, the register, and the answers of the calls.
+// The types of the ticket index: links, the write in hand, the register, the answers of the calls, and a camera's tally.
 
 // A side of a node. Left and right cases are one definition with the side as a parameter.
 pub enum Side {

@@ -96,7 +96,7 @@ unfolding fixupAfterInsert
 insert-short st k l =
     cond-both (Short 3) (isRed (st .pool) (owner l)) (insertFixup-short (st .pool) 0 (pathTo (st .pool) (st .register .root) k l)) (omega arith)
 
--- a borrow's three at most, after a red sibling's two
+-- a black sibling's three at most, after a red sibling's two
 sibling-short : (p : List ℕ) (l : Link) (z : Side) (w : ℕ) → Few 5 (redSibling p l z w)
 unfolding redSibling
 sibling-short p l z w =

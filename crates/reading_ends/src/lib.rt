@@ -84,7 +84,7 @@ fn scan_blocks(pool: &[u32], from: usize, capacity: usize, width: usize) -> usiz
     n
 }
 
-// Answers the first retired node from n on, node by node; past the last if there is none.
+// Answers the first retired node at or after `from`, node by node; past the last if there is none.
 fn scan_retired(pool: &[u32], from: usize, capacity: usize) -> usize
     requires { ⌜ Span (now pool) from capacity ⌝ }
     ensures { λ r. ⌜ Next (now (pool .entry)) from capacity r ⌝ }

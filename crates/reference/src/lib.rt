@@ -196,12 +196,12 @@ fn transplant(tree: &mut [u32], n: u32, c: u32) {
 }
 
 // The child of top on the other side rises, and top goes down on this side.
-fn rotate(tree: &mut [u32], capacity: u32, side: u32) {
-    let risen = child(tree, capacity, other(side));
+fn rotate(tree: &mut [u32], top: u32, side: u32) {
+    let risen = child(tree, top, other(side));
     let inner = child(tree, risen, side);
-    transplant(tree, capacity, risen);
-    link(tree, risen, side, capacity);
-    link(tree, capacity, other(side), inner);
+    transplant(tree, top, risen);
+    link(tree, risen, side, top);
+    link(tree, top, other(side), inner);
 }
 
 fn paint(tree: &mut [u32], black: u32, red: u32) {
@@ -361,8 +361,8 @@ fn add_fixup(tree: &mut [u32], start: u32) {
 }
 
 fn blacken_root(tree: &mut [u32]) {
-    let capacity = root(tree);
-    set_field(tree, COLOUR, capacity, BLACK);
+    let top = root(tree);
+    set_field(tree, COLOUR, top, BLACK);
 }
 
 fn begin_write(tree: &mut [u32]) {

@@ -1,6 +1,7 @@
 -- Two facts of every run, at each moment of it, between the stores of a write too:
 -- each linked node has its ticket in the plain list; each node kept for a slot had its ticket at a moment of that slot's reading.
--- For C-11 (what a search for the next ticket remembers) and C-13 (a replaced record); nothing in the demands needs them.
+-- For C-11 (what a search for the next ticket remembers), C-13 (a replaced record) and C-18 (a linked node's record); nothing in the demands needs
+-- them.
 use Prim.Native.Nat.{ℕ, zero, suc, _<_, _≤_}
 use mathlib.Core.Path.{_≡_, refl, sym, ap, _∙_, subst}
 use mathlib.Core.Bool.{true, false, false≢true}

@@ -1,1 +1,1 @@
-// No code: document 01 as definitions stands in specs/, in the order of its sections as far as one needs no other.
+// No code: document 01, with what has landed of 02, stands as definitions in specs/, in the order of 01's sections as far as one needs no other.

@@ -1,5 +1,5 @@
-// The stores that link a new node and let a node adopt. Each function tries one store: it tests that the nodes are there, and the free node that it
-// takes, before it changes anything.
+// The stores insert and adopt. Each function tries one store: it tests that the nodes are there, and the free node that it takes, before it changes
+// anything.
 use datatypes::Ending;
 use datatypes::Head;
 use datatypes::Link;

@@ -143,13 +143,13 @@ module _ (P : ℕ → Type 0) (S : Start) (sound : SoundStart S) (cs : List Call
   }
 
 -- below a limit
-abbrev pub Below : ℕ → ℕ → Type 0
-Below limit v = v < limit
+abbrev pub LessThan : ℕ → ℕ → Type 0
+LessThan limit v = v < limit
 
 -- Where all records given are below two to the power 64, all answered are.
-pub wide-run : (S : Start) → SoundStart S → (cs : List Call) → EveryTicket (Below recordLimit) (S .tickets) → EveryInsert (Below recordLimit) cs
-    → EveryRecord (Below recordLimit) S cs
-wide-run S sound cs = every-record (Below recordLimit) S sound cs
+pub wide-run : (S : Start) → SoundStart S → (cs : List Call) → EveryTicket (LessThan recordLimit) (S .tickets) → EveryInsert (LessThan recordLimit) cs
+    → EveryRecord (LessThan recordLimit) S cs
+wide-run S sound cs = every-record (LessThan recordLimit) S sound cs
 
 -- On a pool of N nodes just set up, as 01's runs start, there is no ticket (the premise on them is `tt`): every record was given by an insert of
 -- the list. With which key, and at which moment, demand 3 says.
@@ -183,10 +183,10 @@ all-records P z N lo cs = all-records-from P (justSetUp N) cs (fresh-records P z
 abbrev pub NarrowAt : List ℕ → ℕ → Type 0
 NarrowAt p n = (word p n recordHighWord ≡ 0) × (recordAt p n ≡ word p n recordLowWord)
 
-pub narrow-node : (st : State) → AllRecords (Below wordLimit) st → (n : ℕ) → NarrowAt (st .pool) n
+pub narrow-node : (st : State) → AllRecords (LessThan wordLimit) st → (n : ℕ) → NarrowAt (st .pool) n
 narrow-node st h n = let z = narrow-high (st .pool) n (h .inNodes n) in (z, narrow-read (st .pool) n z)
 
 -- Where all records given are below 4,294,967,296 this holds of every node, however it stands: the pool is one of eight words a node with a word of
 -- 0 put in.
-pub narrow-pool : (N : ℕ) → leastNodes ≤ N → (cs : List Call) → EveryInsert (Below wordLimit) cs → (j n : ℕ) → NarrowAt (indexAfter (justSetUp N) cs j .pool) n
-narrow-pool N lo cs inserts j = narrow-node (indexAfter (justSetUp N) cs j) (all-records (Below wordLimit) (omega arith) N lo cs inserts j)
+pub narrow-pool : (N : ℕ) → leastNodes ≤ N → (cs : List Call) → EveryInsert (LessThan wordLimit) cs → (j n : ℕ) → NarrowAt (indexAfter (justSetUp N) cs j .pool) n
+narrow-pool N lo cs inserts j = narrow-node (indexAfter (justSetUp N) cs j) (all-records (LessThan wordLimit) (omega arith) N lo cs inserts j)

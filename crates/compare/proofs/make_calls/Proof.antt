@@ -12,10 +12,10 @@ use Rattle.checks.proofs.draws.draw_call.Reads as draw-call-reads
 use Rattle.walks.proofs.nodes.Reads as nodes-reads
 use Rattle.compare.proofs.calls.call_index.Reads as call-index-reads
 use Rattle.compare.proofs.calls.set_up.Reads as calls-set-up-reads
-use Rattle.compare.proofs.compare.Reads as compare-reads
+use Rattle.comparisons.proofs.compare.Reads as compare-reads
 use Rattle.compare.proofs.said_of.Reads as said-of-reads
 use Rattle.compare.proofs.greater.Reads as greater-reads
-use Rattle.compare.proofs.writing.set_up.Reads as writing-set-up-reads
+use Rattle.comparisons.proofs.writing.set_up.Reads as writing-set-up-reads
 
 abbrev Inv-loop : tie.InvT-loop
 Inv-loop pool₀ tree₀ model₀ lengths₀ counts₀ calls seed nodes made₀ most₀ reading₀ tallies₀ x₀ i₀ pool tree model lengths counts made most reading tallies x i =

@@ -1,5 +1,5 @@
 // The readers' calls, each beside the plain list.
-use crate::calls;
+use crate::answers;
 use crate::writing;
 use checks::draws::Call;
 use checks::model;
@@ -15,7 +15,7 @@ fn begin_foretold(model: &[u32], s: u32) -> u32 {
     if model::reading(model, s) {
         return 4;
     }
-    calls::ACCEPTED
+    answers::ACCEPTED
 }
 
 // of a reader's turn and of a give up
@@ -24,7 +24,7 @@ fn slot_foretold(model: &[u32], s: u32) -> u32 {
         return 3;
     }
     if model::reading(model, s) {
-        return calls::ACCEPTED;
+        return answers::ACCEPTED;
     }
     5
 }
@@ -33,7 +33,7 @@ fn slot_foretold(model: &[u32], s: u32) -> u32 {
 pub fn begin(model: &mut [u32], counts: &mut [u64], call: Call, number: u32) {
     let foretold = begin_foretold(model, call.slot);
     writing::answered(counts, number, foretold);
-    if foretold == calls::ACCEPTED {
+    if foretold == answers::ACCEPTED {
         model::begin_lookup(model, call.slot, call.ticket);
         rows::one(counts, rows::BEGUN);
         rows::one(counts, rows::SLOT_BEGUN + call.slot as usize);
@@ -44,7 +44,7 @@ pub fn begin(model: &mut [u32], counts: &mut [u64], call: Call, number: u32) {
 pub fn begin_next(model: &mut [u32], counts: &mut [u64], call: Call, number: u32) {
     let foretold = begin_foretold(model, call.slot);
     writing::answered(counts, number, foretold);
-    if foretold == calls::ACCEPTED {
+    if foretold == answers::ACCEPTED {
         model::begin_next(model, call.slot, call.ticket);
         rows::one(counts, rows::NEXT_BEGUN);
         rows::one(counts, rows::SLOT_BEGUN + call.slot as usize);
@@ -130,26 +130,26 @@ fn follow_turn(
     ticket: u32,
     record: u64,
 ) {
-    if number == calls::GO {
+    if number == answers::GO {
         rows::one(counts, rows::GO);
         return;
     }
-    if number == calls::FOUND {
+    if number == answers::FOUND {
         found(model, counts, s, record);
         return;
     }
-    if number == calls::NEXT {
+    if number == answers::NEXT {
         next(model, counts, s, ticket, record);
         return;
     }
-    if number == calls::ABSENT {
+    if number == answers::ABSENT {
         absent_or_none(model, counts, s);
     }
 }
 
 fn turn_number(number: u32) -> u32 {
-    if calls::GO <= number {
-        calls::ACCEPTED
+    if answers::GO <= number {
+        answers::ACCEPTED
     } else {
         number
     }
@@ -181,7 +181,7 @@ fn count_given_up(counts: &mut [u64], seeks: bool) {
 pub fn give_up(model: &mut [u32], counts: &mut [u64], s: u32, number: u32) {
     let foretold = slot_foretold(model, s);
     writing::answered(counts, number, foretold);
-    if foretold == calls::ACCEPTED {
+    if foretold == answers::ACCEPTED {
         count_given_up(counts, model::seeks(model, s));
         model::end_reading(model, s);
     }

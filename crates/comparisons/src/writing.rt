@@ -1,5 +1,5 @@
 // The writer's calls, each beside the reference tree and the plain list.
-use crate::calls;
+use crate::answers;
 use checks::draws::Call;
 use checks::model;
 use checks::rows;
@@ -23,7 +23,7 @@ pub fn answered(counts: &mut [u64], number: u32, foretold: u32) {
 
 // Compares the answer of set up.
 pub fn set_up(counts: &mut [u64], number: u32) {
-    answered(counts, number, calls::ACCEPTED);
+    answered(counts, number, answers::ACCEPTED);
     rows::one(counts, rows::CALLS);
 }
 
@@ -64,7 +64,7 @@ fn insert_foretold(nodes: u32, tree: &[u32], model: &[u32], kind: u32, free: u32
     if free < 3 {
         return 11;
     }
-    calls::ACCEPTED
+    answers::ACCEPTED
 }
 
 // takes an accepted insert in hand
@@ -89,7 +89,7 @@ pub fn count_if(counts: &mut [u64], row: usize, so: bool) {
 
 // counts the answer to an insert of a held key, by what is special about it; `full`: one of a new key would be refused by 10
 fn count_replacement(model: &[u32], counts: &mut [u64], call: Call, full: bool, number: u32) {
-    let accepted = number == calls::ACCEPTED;
+    let accepted = number == answers::ACCEPTED;
     let old = model::list_record(model, call.ticket);
     count_if(counts, rows::REPLACED_FULL, accepted & full);
     count_if(counts, rows::REPLACED_SAME, accepted & (old == call.record));
@@ -121,7 +121,7 @@ pub fn insert(
     let foretold = insert_foretold(nodes, tree, model, kind, free);
     answered(counts, number, foretold);
     count_insert(model, counts, call, kind, full(nodes, tree), number);
-    if foretold == calls::ACCEPTED {
+    if foretold == answers::ACCEPTED {
         begin_insert(tree, model, counts, call, kind);
     }
 }
@@ -136,7 +136,7 @@ fn delete_foretold(tree: &mut [u32], model: &[u32], key: u32, free: u32) -> u32 
     if free < 4 {
         return 11;
     }
-    calls::ACCEPTED
+    answers::ACCEPTED
 }
 
 // takes an accepted delete in hand
@@ -159,7 +159,7 @@ pub fn delete(
 ) {
     let foretold = delete_foretold(tree, model, call.key, free);
     answered(counts, number, foretold);
-    if foretold == calls::ACCEPTED {
+    if foretold == answers::ACCEPTED {
         begin_delete(tree, model, counts, call.key, call.ticket);
     }
 }
@@ -169,12 +169,12 @@ fn turn_foretold(model: &[u32]) -> u32 {
         return 7;
     }
     if model::awaited(model) != 0 {
-        return calls::WAIT;
+        return answers::WAIT;
     }
     if model::last_is_next(model) {
-        return calls::DONE;
+        return answers::DONE;
     }
-    calls::MORE
+    answers::MORE
 }
 
 fn purpose_column(purpose: Purpose) -> usize
@@ -196,7 +196,7 @@ fn side_column(side: Side) -> usize
     }
 }
 
-// the row of a rotation's step in the counts: six a step, by rule and side
+// the row of a rotation's step in the counts: six a step, by purpose and side
 fn rotation_row(step: usize, side: Side, purpose: Purpose) -> usize
     requires { ⌜ step < 5 ⌝ }
 {
@@ -261,24 +261,24 @@ fn follow_turn(
     counts: &mut [u64],
     number: u32,
 ) {
-    if number == calls::MORE {
+    if number == answers::MORE {
         rows::one(counts, rows::MORE);
         model::store_made(model);
         return;
     }
-    if number == calls::DONE {
+    if number == answers::DONE {
         rows::one(counts, rows::DONE);
         model::store_made(model);
         finish_write(pool, root, tree, model, counts);
         return;
     }
-    if number == calls::WAIT {
+    if number == answers::WAIT {
         rows::one(counts, rows::WAIT);
     }
 }
 
 fn count_step(counts: &mut [u64], number: u32, row: usize) {
-    if (number == calls::MORE) | (number == calls::DONE) {
+    if (number == answers::MORE) | (number == answers::DONE) {
         rows::one(counts, row);
     }
 }
