@@ -8,9 +8,9 @@ use Rattle.datatypes.specs.declared.Step.the-variants.{Insert, DiagLower, DiagR
 use Rattle.datatypes.specs.declared.Step.the-variants.{Detach}
 use Rattle.spec.specs.Calls.{ok, go, absent, wait, more, done, refused}
 use Rattle.table.specs.Picture.{row, root_held_awaited_stores_, picture, drawn, none, nil, red, black, redLeaf, blackLeaf, tree, _on_, key}
-use Rattle.table.specs.Picture.{left, right, colour, standing, holders, nextFree, _of_:=_, root:=_, first:=_, last:=_, free:=_, held:=_, awaited:=_}
+use Rattle.table.specs.Picture.{recordLow, left, right, colour, standing, holders, nextFree, _of_:=_, root:=_, first:=_, last:=_, free:=_, held:=_, awaited:=_}
 use Rattle.table.specs.Picture.{count:=_, hand, atRest, fills, reader_:=_, store_:=_, reads, idle, _counting_, _but_}
-use Rattle.table.specs.Entry.{P, I, D, W, B, R, E, _⇒_, stands, leaves, Entry, entry, gives12}
+use Rattle.table.specs.Entry.{P, I, D, W, B, R, E, _⇒_, stands, still, leaves, Entry, entry, gives12}
 use Rattle.table.specs.Lent.{three, single, five, knot, lowered}
 
 abbrev pub damaged : List Entry
@@ -380,6 +380,38 @@ damaged =
     ∷ leaves (colour of 1 := 1 ∷ standing of 2 := 0 ∷ nextFree of 8 := 2 ∷ root:= 3 ∷ last:= 2 ∷ free:= 6 ∷ held:= 2 ∷ atRest ∷ []) ∷ [])
     ∷ gives12 "decision 15: a promote without an adopt names B's left, whatever C's left is"
     (three but (hand (Promote on Root) ∷ colour of 1 := 0 ∷ colour of 3 := 0 ∷ left of 2 := 0 ∷ left of 3 := 1 ∷ []))
+    ∷ entry "decision 15: the levels of an insert's fix-up are coloured from the bottom up"
+    (drawn 12
+    (picture (root 4 held 5 awaited 0 stores 0)
+    [] (row 1 10 100 1 0 0 ∷ row 2 20 200 1 1 5 ∷ row 3 30 300 1 2 0 ∷ row 4 40 400 0 3 2 ∷ row 5 25 250 1 0 0 ∷ [])
+    [] (6 ∷ 7 ∷ 8 ∷ 9 ∷ 10 ∷ 11 ∷ 12 ∷ []))
+    [])
+    (I 5 50 ⇒ ok ∷ W ⇒ done (Left 1) 6
+    ∷ leaves (left of 1 := 6 ∷ colour of 1 := 0 ∷ colour of 2 := 0 ∷ colour of 3 := 0 ∷ colour of 5 := 0 ∷ fills (row 6 5 50 1 0 0) ∷ first:= 7 ∷ free:= 6
+    ∷ held:= 6 ∷ []) ∷ [])
+    ∷ entry "decision 15: siblings turn red before the node that the fix-up ended at turns black"
+    (three but (hand (Promote on Root) ∷ left of 2 := 3 ∷ colour of 2 := 1 ∷ colour of 3 := 0 ∷ []))
+    (W ⇒ done Root 3
+    ∷ leaves (standing of 2 := 0 ∷ nextFree of 8 := 2 ∷ root:= 3 ∷ last:= 2 ∷ free:= 6 ∷ held:= 2 ∷ atRest ∷ []) ∷ [])
+    ∷ entry "decision 16: the node that is carried is read before the taken node, which it is, is filled"
+    (five but (hand (Publish 6 on Root) ∷ key of 6 := 77 ∷ recordLow of 6 := 770 ∷ []))
+    (W ⇒ done Root 6
+    ∷ leaves (standing of 2 := 0 ∷ fills (row 6 77 770 0 1 4) ∷ nextFree of 12 := 2 ∷ root:= 6 ∷ first:= 7 ∷ last:= 2 ∷ held:= 4 ∷ atRest ∷ []) ∷ [])
+    ∷ entry "decision 16: B's inner child is read before the taken node, which is B, is filled"
+    (five but (hand (DiagLower side.R ForInsert on Root) ∷ right of 2 := 6 ∷ left of 6 := 3 ∷ []))
+    (W ⇒ done (Left 6) 6
+    ∷ leaves (fills (row 6 20 200 1 6 3) ∷ first:= 7 ∷ free:= 6 ∷ atRest ∷ []) ∷ [])
+    ∷ entry "decision 16: the outer child that turns black is read after the store, and B is coloured before it"
+    (drawn 8
+    (picture (root 1 held 4 awaited 0 stores 0)
+    [] (row 1 10 100 0 3 2 ∷ row 2 30 300 1 4 1 ∷ row 3 5 50 0 0 0 ∷ row 4 20 200 0 0 0 ∷ []) [] (5 ∷ 6 ∷ 7 ∷ 8 ∷ []))
+    [])
+    (D 20 ⇒ ok ∷ W ⇒ more (Left 2) 0 ∷ W ⇒ more (Left 1) 5 ∷ W ⇒ done (Right 1) 1
+    ∷ stands (picture (root 1 held 3 awaited 0 stores 0) [] (row 1 10 100 0 5 1 ∷ row 3 5 50 0 0 0 ∷ row 5 30 300 0 0 3 ∷ []) [] (6 ∷ 7 ∷ 8 ∷ 4 ∷ 2 ∷ []))
+    ∷ still (row 2 30 300 1 0 1) ∷ [])
+    ∷ entry "decision 17: w turns red before the copy turns black" (lowered but (right of 6 := 6 ∷ colour of 6 := 0 ∷ []))
+    (W ⇒ done Root 4
+    ∷ leaves (standing of 2 := 0 ∷ colour of 4 := 0 ∷ nextFree of 8 := 2 ∷ root:= 4 ∷ last:= 2 ∷ free:= 4 ∷ atRest ∷ []) ∷ [])
     ∷ entry "decision 17: under the copy the colours are read after the store, when B is black" (lowered but (left of 3 := 4 ∷ []))
     (W ⇒ done Root 4
     ∷ leaves (standing of 2 := 0 ∷ colour of 3 := 1 ∷ colour of 4 := 0 ∷ colour of 6 := 0 ∷ nextFree of 8 := 2 ∷ root:= 4 ∷ last:= 2 ∷ free:= 4 ∷ atRest ∷ [])
