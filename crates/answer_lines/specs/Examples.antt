@@ -1,9 +1,9 @@
 -- Worked lines, checked by computation: lines of 01's run, a next ticket, a refusal, an ill-formed line; the letters; L's lines. Quoted `\t` is a tab.
 use Prim.Native.Char.{code}
 use mathlib.Core.Path.{_≡_, refl}
-use mathlib.Core.List.{[], _∷_, map}
+use mathlib.Core.List.{[], _∷_, _++_, map}
 use Rattle.datatypes.specs.declared.Link.the-variants.{Root, Left, Right}
-use Rattle.spec.specs.Calls.{ok, found, next, more, done, refused}
+use Rattle.spec.specs.Calls.{ok, go, absent, wait, found, next, more, done, refused}
 use Rattle.command_fields.specs.declared.Command.the-variants as command
 use Rattle.texts.specs.Ascii.{text}
 use Rattle.texts.specs.Decimal.{digits, decimal, twenty-digits}
@@ -41,6 +41,15 @@ line-wide = simp twenty-digits
 line-widest : lineOf 9 (code "R") (next 4294967295 18446744073709551615) ≡ text "9\tR\tfound\t4294967295\t18446744073709551615\n"
 unfolding digits lineOf
 line-widest = simp twenty-digits
+
+-- nodes of four digits, and the answers without a number
+line-large : lineOf 1000 (code "W") (more (Left 1023) 1002) ≡ text "1000\tW\tmore\t1023.L\t1002\n"
+unfolding digits decimal linkText lineOf
+line-large = refl
+
+lines-bare : lineOf 6 (code "R") go ++ (lineOf 7 (code "R") absent ++ lineOf 8 (code "W") wait) ≡ text "6\tR\tgo\t-\t-\n7\tR\tabsent\t-\t-\n8\tW\twait\t-\t-\n"
+unfolding digits decimal lineOf
+lines-bare = refl
 
 line-refused : lineOf 7 (code "D") (refused 11) ≡ text "7\tD\tno\t-\t11\n"
 unfolding digits decimal lineOf

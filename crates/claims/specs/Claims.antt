@@ -3,7 +3,7 @@
 use Prim.Native.Nat.{ℕ, _+_, _*_, _^_, _<_, _≤_}
 use mathlib.Core.Path.{_≡_, refl, sym, ap, _∙_, subst}
 use mathlib.Core.Bool.{Bool, true, false, not, false≢true}
-use mathlib.Core.List.{List}
+use mathlib.Core.List.{List, [], _∷_}
 use mathlib.Core.Option.{Option, none, some}
 use mathlib.Core.Logic.{_≢_, _⊎_, inl, inr, ⊎-map, ⊎-elim, _↔_}
 use native.Mathlib.Omega.{arith}
@@ -19,19 +19,20 @@ use Rattle.datatypes.specs.declared.Reader.{Reader}
 use Rattle.datatypes.specs.declared.Register.{Register}
 use Rattle.base.specs.Lists.{_∈_, Distinct, length-within, numbersFrom, numbers-in, numbers-distinct, getD-same}
 use Rattle.base.specs.Walk.{allIn, all-in}
-use Rattle.sequential.specs.Tree.{leaf}
+use Rattle.sequential.specs.Tree.{red, black, Tree, leaf, node}
 use Rattle.sequential.specs.Delete.{changedBy}
 use Rattle.spec.specs.Numbers.{leastNodes, mostNodes, slots}
 use Rattle.spec.specs.Pool.{word, child, nodes, keyWord, recordAt, standingFree, standingLinked, standingRetired}
 use Rattle.spec.specs.Register.{State, state, noReader, begunReader, readerOf, nodeAt, hasSlot, isRoot}
-use Rattle.spec.specs.Calls.{Answer, go, absent, found, next, refused, Call, inserting, call, writeInHand, turnCount}
-use Rattle.spec.specs.PlainList.{recordFor, acceptedWrites}
+use Rattle.spec.specs.Calls.{Answer, go, absent, found, next, refused, Call, inserting, writing, call, reading, writeInHand, turnCount}
+use Rattle.spec.specs.PlainList.{carriedOut, noticeOf, recordFor, acceptedWrites}
+use Rattle.spec.specs.FreeQueue.{Chain}
 use Rattle.promise.specs.Run.{justSetUp, Reads, callAt, indexAfter, plainAfter, ticketsAfter, Turns, Reading, Lookup, NextSearch, comparedIn}
 use Rattle.promise.specs.Demands.{AtOneMoment, turnOf, Going, ends, goes, answerOf, Leads, arrived, onward, Reaches, Stands, FreeRight}
 use Rattle.promise.specs.Demands.{standingAt, StoresOne, PromiseFrom}
 use Rattle.readers.specs.Reach.{leads-there}
 use Rattle.theorem.specs.Theorem.{promise}
-use Rattle.claims.specs.Computed.{start, lookup, rotation, before, threeKeys, nine, overtaken, replacing, has, tenIsNext, isBegin, computed}
+use Rattle.claims.specs.Computed.{start, lookup, rotation, before, threeKeys, nine, overtaken, replacing, late, has, tenIsNext, isBegin, computed}
 
 promised : (cs : List Call) → PromiseFrom start cs
 promised = promise 8 (omega arith) (omega arith)
@@ -121,6 +122,18 @@ does-nothing st l n h = h .moved (h .holds)
 pub changed-in-place : (st after : State) (l : Link) (n m : ℕ) → standingAt st m ≡ standingLinked → recordAt (after .pool) m ≢ recordAt (st .pool) m → ¬ (StoresOne st after l n)
 changed-in-place st after l n m e d h = d (h .tickets m e .1)
 
+-- One whose store is of a link outside the tree.
+pub stored-elsewhere : (st after : State) (n m : ℕ) → standingAt st m ≢ standingLinked → ¬ (StoresOne st after (Left m) n)
+stored-elsewhere st after n m d h = d (h .own)
+
+-- One whose queue is lost: with no first free node none is free.
+pub lost-queue : (st : State) → FreeRight st → st .register .first ≡ 0 → st .register .free ≡ 0
+lost-queue st h e = h .counted ∙ empty (h .queue) (h .queued .chain)
+  where
+    empty : (l : List ℕ) → Chain (st .pool) (st .register .first) l → length l ≡ 0
+    empty [] c = refl
+    empty (m ∷ l) c = let a = c .0 in let b = c .1 .low in absurd (omega arith)
+
 -- An invented free count: with the same pool, no other count than the right one is right.
 pub invented-count : (st : State) (r : Register) → FreeRight st → FreeRight (state (st .pool) r) → r .free ≡ st .register .free
 invented-count st r h k =
@@ -140,6 +153,33 @@ always-absent (t, a, b, e) = elim (ℕ-discrete t 3) [
   | yes i ↦ none-some 30 (sym e ∙ rw i (computed .listed3))
   | no d ↦ (let i : t ≡ 4 = omega arith in none-some 30 (sym e ∙ rw i (computed .listed4)))
 ]
+
+-- One that answers absent a call early: slot 0's turn, call 4 of `late`, would do so, and 3 is taken out by the next call.
+pub absent-too-early : ¬ (AtOneMoment start late 3 2 4 none)
+absent-too-early (t, a, b, e) = elim (ℕ-discrete t 3) [
+  | yes i ↦ none-some 30 (sym e ∙ rw i (computed .late3))
+  | no d ↦
+      elim (ℕ-discrete t 4) [
+        | yes i ↦ none-some 30 (sym e ∙ rw i (computed .late4))
+        | no c ↦ (let i : t ≡ 5 = omega arith in none-some 30 (sym e ∙ rw i (computed .late5)))
+      ]
+]
+
+-- One that colours a node otherwise: from one link of a pool no two trees stand whose tops differ in colour.
+pub recoloured : (p : List ℕ) (a k q v w : ℕ) (l r x y : Tree) → Stands p a (node red k v l r) → ¬ (Stands p a (node black q w x y))
+recoloured p a k q v w l r x y g h = let e = g .4 in let f = h .4 in omega arith
+
+-- One that invents the keys held, one that stays with a write in hand though no awaited slot reads, and one whose search finds.
+pub invented-keys : (cs : List Call) (j : ℕ) → ¬ (indexAfter start cs j .register .held ≢ length (ticketsAfter start cs j))
+invented-keys cs j d = d (promised cs .demand3 .holds .keysHeld j)
+
+pub stays-in-hand : (cs : List Call) (j : ℕ) → writeInHand (indexAfter start cs j) ≡ true
+    → ((s : ℕ) → s < slots → hasSlot (indexAfter start cs j .register .awaited) s ≡ true → reading (indexAfter start cs j) s ≡ false)
+    → ¬ (noticeOf (call (indexAfter start cs j) writing .answer) ≢ carriedOut)
+stays-in-hand cs j h k d = d (promised cs .demand2 .goesOn j h k)
+
+pub search-that-finds : (cs : List Call) (s g i j v : ℕ) → NextSearch start cs s g i j → ¬ (Turns start cs s j (found v))
+search-that-finds cs s g i j v h = promised cs .demand3 .nextSearches .notFound s g i j v h
 
 -- Always 11: an insert on an index just set up is accepted.
 pub always-11 : call (start .index) (inserting 3 30) .answer ≢ refused 11

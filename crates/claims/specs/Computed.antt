@@ -10,9 +10,9 @@ use Rattle.sequential.specs.Tree.{red, black, Tree, leaf, node, rel}
 use Rattle.sequential.specs.Delete.{changedBy}
 use Rattle.base.specs.Walk.{allFrom, allIn, foldFrom, foldIn}
 use Rattle.spec.specs.Numbers.{slots}
-use Rattle.spec.specs.Pool.{child, standingRetired, keyWord, recordAt}
+use Rattle.spec.specs.Pool.{child, standingRetired, keyWord, leftWord, recordAt}
 use Rattle.spec.specs.Pool.{word, setWord, nodeInRange, poolInRange, lengthRight, freshNodes, freshPool}
-use Rattle.spec.specs.Register.{State, noReader, begunReader, readerOf, withRoot, withQueue, withHeld, withReader, withAwaited, withWrite, nodeAt, setLink}
+use Rattle.spec.specs.Register.{State, state, noReader, begunReader, readerOf, withRoot, withQueue, withHeld, withReader, withAwaited, withWrite, nodeAt, setLink}
 use Rattle.spec.specs.Register.{putSlot, dropSlot, readingSlots, storeInRange, registerInRange, freshRegister, fresh, writeOf, lessFirst}
 use Rattle.spec.specs.Free.{takeFree, fillNode, takeNode, freeNode, retire, release, endReading}
 use Rattle.spec.specs.Search.{seek, trail, leftmost}
@@ -21,10 +21,10 @@ use Rattle.spec.specs.Plan.{insertPlan, unlinkPlan, deletePlan}
 use Rattle.spec.specs.Turn.{insertStore, replaceStore, unlinkStore, adoptStore, promoteStore, stepFinds, stepMade}
 use Rattle.spec.specs.Calls.{insert, delete, stored, writerTurn, begin, readerStep, readerTurn, turnCount}
 use Rattle.datatypes.specs.declared.Kind.the-variants as kind
-use Rattle.spec.specs.Calls.{ok, absent, found, next, Call, inserting, deleting, writing, beginning, turning, givingUp, call, reading, writeInHand}
+use Rattle.spec.specs.Calls.{ok, absent, found, next, refused, Call, inserting, deleting, writing, beginning, turning, givingUp, call, reading, writeInHand}
 use Rattle.spec.specs.PlainList.{recordFor, acceptedWrites}
 use Rattle.promise.specs.Run.{Start, justSetUp, callAt, after, indexAfter, plainAfter, ticketsAfter, comparedIn}
-use Rattle.promise.specs.Demands.{turnOf, origin, standingAt}
+use Rattle.promise.specs.Demands.{turnOf, origin, standingAt, fullyTestedTurn}
 
 abbrev pub start : Start
 start = justSetUp 8
@@ -58,6 +58,14 @@ overtaken =
 -- 3 is put in; slot 0 looks it up and comes to its node; 3 gets another record; slot 0's last turn, call 6, answers the old one
 abbrev pub replacing : List Call
 replacing = inserting 3 30 ∷ writing ∷ beginning kind.Lookup 0 3 ∷ turning 0 ∷ inserting 3 31 ∷ writing ∷ turning 0 ∷ []
+
+-- 3 is put in, and slot 0 looks it up; its deletion is accepted, slot 0 makes its turn, and then the store takes 3 out
+abbrev pub late : List Call
+late = inserting 3 30 ∷ writing ∷ beginning kind.Lookup 0 3 ∷ deleting 3 ∷ turning 0 ∷ writing ∷ []
+
+-- `lookup` after slot 0's turn, with a word out of its range in a node that no slot names
+abbrev pub damaged : State
+damaged = state (setWord (indexAfter start lookup 4 .pool) 8 leftWord 9) (indexAfter start lookup 4 .register)
 
 -- whether there is a record
 abbrev pub has : Option ℕ → Bool
@@ -93,6 +101,16 @@ pub record Computed : Type 0 where
   pub origin6 : origin (indexAfter start lookup 6) 0 ≡ 1
   pub retired6 : standingAt (indexAfter start lookup 6) 1 ≡ standingRetired
   pub free6 : indexAfter start lookup 6 .register .free ≡ 7
+  -- begun and before any node, it reaches the root's node
+  pub origin3 : origin (indexAfter start lookup 3) 0 ≡ 1
+  -- with a damaged node that no slot names, 01's turn is refused by 2, and C-12's is not
+  pub fullyTested : fullyTestedTurn damaged 0 .answer ≡ refused 2
+  pub turnTested : readerTurn damaged 0 .answer ≡ found 30
+  -- at the moments of `late` up to slot 0's turn, call 4, the plain list has 3, and by the next call it doesn't
+  pub late3 : recordFor 3 (ticketsAfter start late 3) ≡ some 30
+  pub late4 : recordFor 3 (ticketsAfter start late 4) ≡ some 30
+  pub late5 : recordFor 3 (ticketsAfter start late 5) ≡ some 30
+  pub late6 : recordFor 3 (ticketsAfter start late 6) ≡ none
   -- slot 0 has compared no node by its turn that loads the root; in the end no key is held, and its next turn counts the node that it is at
   pub compared4 : comparedIn start lookup 0 2 4 ≡ []
   pub held6 : indexAfter start lookup 6 .register .held ≡ 0
@@ -148,6 +166,13 @@ computed = record {
   origin6 = refl;
   retired6 = refl;
   free6 = refl;
+  origin3 = refl;
+  fullyTested = refl;
+  turnTested = refl;
+  late3 = refl;
+  late4 = refl;
+  late5 = refl;
+  late6 = refl;
   compared4 = refl;
   held6 = refl;
   counts6 = refl;

@@ -27,6 +27,12 @@ ill-formed :
 unfolding commandsOf firstField otherFields isDigit allDigits valueAfter numberOf withNone withOne withTwo commandOf
 ill-formed = refl
 
+-- the bytes next to the digits; a second field that is no number; a third field
+ill-fields :
+    commandsOf ("P\t8:" ∷ "P\t/8" ∷ "D\t1\t" ∷ "D\t1\tx" ∷ "I\t1\t" ∷ "I\t1\t2x" ∷ "I\t1\t2\t3" ∷ "B\t0\t1\t" ∷ []) ≡ replicate 8 Ill
+unfolding commandsOf firstField otherFields isDigit allDigits valueAfter numberOf withNone withOne withTwo commandOf
+ill-fields = refl
+
 -- 02, C-18: a record may be any number of 64 bits, and none above; every other number has 32 bits
 wide-records :
     commandsOf ("I\t4294967295\t4294967295" ∷ "I\t0\t4294967296" ∷ "I\t1\t18446744073709551615" ∷ "I\t1\t00018446744073709551615"

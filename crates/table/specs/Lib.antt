@@ -5,4 +5,5 @@ pub mod Starred
 pub mod Readers
 pub mod NextTickets
 pub mod Turns
+pub mod Answers
 pub mod Table

@@ -5,7 +5,7 @@ use Rattle.datatypes.specs.declared.Link.the-variants.{Root, Left, Right}
 use Rattle.spec.specs.Calls.{ok, go, absent, wait, found, next, more, done, refused}
 use Rattle.table.specs.Picture.{row, _keptBy_, slot_wants_at_, _past_, slot_after_at_with_, root_held_awaited_stores_, picture, key, recordLow, recordHigh, left, right}
 use Rattle.table.specs.Picture.{standing, holders, nextFree, _of_:=_, root:=_, last:=_, free:=_, awaited:=_, reader_:=_, reads, idle, seeks, _ofKind_}
-use Rattle.table.specs.Picture.{Nothing, Ticket, Stale, _remembering_, _counting_, _but_, words, unset}
+use Rattle.table.specs.Picture.{Nothing, Ticket, Stale, _remembering_, _counting_, _but_, words, unset, tree, black, redLeaf, nil}
 use Rattle.table.specs.Entry.{P, I, D, W, B, S, R, E, _⇒_, stands, still, leaves, Entry, entry}
 use Rattle.table.specs.Lent.{three, single, five, four}
 
@@ -315,4 +315,7 @@ nextTickets =
     (three but (reader 3 := (seeks 15 1 remembering Ticket 20 200) ∷ standing of 5 := 2 ∷ holders of 1 := 8 ∷ holders of 6 := 9 ∷ []))
     (E 3 ⇒ ok
     ∷ leaves (standing of 5 := 0 ∷ nextFree of 8 := 5 ∷ nextFree of 5 := 0 ∷ last:= 5 ∷ free:= 6 ∷ reader 3 := (idle 0 0) ∷ []) ∷ [])
+    ∷ entry "next: a smaller key with a right link 0 and a left child: absent" (tree 8 (black redLeaf nil))
+    (S 0 25 ⇒ ok ∷ R 0 ⇒ go ∷ R 0 ⇒ absent
+    ∷ leaves [] ∷ [])
     ∷ []

@@ -1,9 +1,11 @@
 -- 01, 'Reader's turn', 'Retire' and the awaited slots of 'Delete B, other': lookups beside writes.
 use mathlib.Core.List.{List, [], _∷_, _++_}
 use Rattle.datatypes.specs.declared.Link.the-variants.{Root, Left, Right}
-use Rattle.spec.specs.Calls.{ok, go, absent, wait, found, more, done, refused}
+use Rattle.datatypes.specs.declared.Step.the-variants.{Replace}
+use Rattle.spec.specs.Calls.{ok, go, absent, wait, found, next, more, done, refused}
 use Rattle.table.specs.Picture.{row, _keptBy_, slot_wants_at_, _past_, wanting, root_held_awaited_stores_, picture, unset}
-use Rattle.table.specs.Entry.{P, I, D, W, B, R, E, _⇒_, begins, stands, still, Entry, entry}
+use Rattle.table.specs.Picture.{tree, black, redLeaf, nil, _on_, key, _of_:=_, hand, _but_}
+use Rattle.table.specs.Entry.{P, I, D, W, B, S, R, E, _⇒_, begins, stands, still, leaves, Entry, entry}
 use Rattle.table.specs.Lent.{three, five, four}
 
 abbrev pub readers : List Entry
@@ -170,4 +172,11 @@ readers =
     ∷ stands (picture (root 0 held 0 awaited 0 stores 0) [] [] [] (1 ∷ 2 ∷ 3 ∷ 4 ∷ 5 ∷ 6 ∷ 7 ∷ 8 ∷ []))
     ∷ still (row 1 0 0 0 0 0) ∷ still (row 2 0 0 0 0 0) ∷ still (row 3 0 0 0 0 0) ∷ still (row 4 0 0 0 0 0) ∷ still (row 5 0 0 0 0 0)
     ∷ still (row 6 0 0 0 0 0) ∷ still (row 7 0 0 0 0 0) ∷ still (row 8 0 0 0 0 0) ∷ [])
+    ∷ entry "keys equal in their low 16 or 31 bits are different keys" (three but (key of 2 := 65546 ∷ key of 3 := 2147483658 ∷ []))
+    (B 0 10 ⇒ ok ∷ R 0 ⇒ go ∷ R 0 ⇒ go ∷ R 0 ⇒ found 100 ∷ B 0 2147483658 ⇒ ok ∷ R 0 ⇒ go ∷ R 0 ⇒ go ∷ R 0 ⇒ found 300 ∷ S 0 10 ⇒ ok ∷ R 0 ⇒ go ∷ R 0 ⇒ go
+    ∷ R 0 ⇒ next 65546 200 ∷ S 0 65546 ⇒ ok ∷ R 0 ⇒ go ∷ R 0 ⇒ go ∷ R 0 ⇒ next 2147483658 300 ∷ I 10 101 ⇒ ok
+    ∷ leaves (hand (Replace 101 on Left 2) ∷ []) ∷ [])
+    ∷ entry "a lookup at a node with one child, on the other side: absent" (tree 8 (black redLeaf nil))
+    (B 0 25 ⇒ ok ∷ R 0 ⇒ go ∷ R 0 ⇒ absent
+    ∷ leaves [] ∷ [])
     ∷ []

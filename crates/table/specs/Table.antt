@@ -17,12 +17,14 @@ use Rattle.table.specs.Starred.{starred}
 use Rattle.table.specs.Readers.{readers}
 use Rattle.table.specs.NextTickets.{nextTickets}
 use Rattle.table.specs.Turns.{turns}
+use Rattle.table.specs.Answers.{Answers, answers}
 
 pub record TablesPass : Type 0 where
   pub starred : allPass starred ≡ true
   pub readers : allPass readers ≡ true
   pub nextTickets : allPass nextTickets ≡ true
   pub turns : allPass turns ≡ true
+  pub answers : Answers
 
 pub tables-pass : TablesPass
 unfolding allFrom allIn foldFrom foldIn word setWord recordAt nodeInRange poolInRange lengthRight freshNodes freshPool withRoot withQueue withHeld withReader
@@ -31,4 +33,4 @@ unfolding allFrom allIn foldFrom foldIn word setWord recordAt nodeInRange poolIn
     deleteFixup fixupAfterRemoval paintDeleteLevels paintDeleteFixup insertPlan unlinkPlan deletePlan insertStore replaceStore diagLower diagRaise
     zigLowerA zigLowerC zigRaise unlinkStore adoptStore promoteStore movedWrite publishStore detachStore stepFinds stepMade setUp insert delete stored
     writerTurn begin readerStep readerTurn giveUp
-tables-pass = record { starred = refl; readers = refl; nextTickets = refl; turns = refl }
+tables-pass = record { starred = refl; readers = refl; nextTickets = refl; turns = refl; answers = answers }

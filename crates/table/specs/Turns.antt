@@ -7,7 +7,8 @@ use Rattle.datatypes.specs.declared.Kind.the-variants as kind
 use Rattle.datatypes.specs.declared.Link.the-variants.{Root, Left}
 use Rattle.datatypes.specs.declared.Reader.{Reader}
 use Rattle.datatypes.specs.declared.Step.the-variants.{Vacant, Unlink, Publish}
-use Rattle.spec.specs.Register.{State}
+use lib.ListN.{replicate}
+use Rattle.spec.specs.Register.{State, state}
 use Rattle.spec.specs.Calls.{go, absent, found, next, refused}
 use Rattle.table.specs.Picture.{row, _keptBy_, root_held_awaited_stores_, picture, drawn, none, _on_, key, recordLow, recordHigh, left, right, colour}
 use Rattle.table.specs.Picture.{standing, holders, nextFree, Change, _of_:=_, root:=_, first:=_, last:=_, free:=_, held:=_, awaited:=_, count:=_, hand}
@@ -83,6 +84,13 @@ coloured =
     (6 ∷ 7 ∷ 8 ∷ []))
     []
     but (reader 3 := (reads 20 2) ∷ [])
+
+-- 260 nodes whose words are 0, but that three of them stand retired; slot 0 is at node 1, with the key 0
+abbrev retired260 : State
+retired260 =
+    state (replicate 2340 0) (three .register)
+    but (reader 0 := (reads 5 1) ∷ standing of 255 := 2 ∷ holders of 255 := 1 ∷ standing of 256 := 2 ∷ holders of 256 := 3 ∷ standing of 260 := 2
+    ∷ holders of 260 := 1 ∷ [])
 
 abbrev pub turns : List Entry
 turns =
@@ -189,4 +197,12 @@ turns =
     ∷ leaves (standing of 4 := 0 ∷ nextFree of 4 := 5 ∷ standing of 5 := 0 ∷ holders of 5 := 0 ∷ nextFree of 8 := 4 ∷ last:= 5 ∷ free:= 5
     ∷ reader 3 := (idle 0 0) ∷ []) ∷ [])
     ∷ elsewhere "turn: next of the first free node one past its range" nextFree 4 9
+    ∷ entry "turn: a node whose standing is 6, 258 or 2,147,483,650 is not retired, and keeps its holders"
+    (three but (standing of 6 := 6 ∷ holders of 6 := 8 ∷ standing of 7 := 258 ∷ holders of 7 := 8 ∷ standing of 8 := 2147483650 ∷ reader 3 := (reads 10 1) ∷ []))
+    (R 3 ⇒ found 100
+    ∷ leaves (reader 3 := (idle 0 0) ∷ []) ∷ [])
+    ∷ entry "turn: nodes 255, 256 and 260 of 260 lose the bit, and are freed in rising number" retired260
+    (R 0 ⇒ absent
+    ∷ leaves (standing of 255 := 0 ∷ holders of 255 := 0 ∷ nextFree of 255 := 260 ∷ holders of 256 := 2 ∷ standing of 260 := 0 ∷ holders of 260 := 0
+    ∷ nextFree of 8 := 255 ∷ last:= 260 ∷ free:= 7 ∷ reader 0 := (idle 0 0) ∷ []) ∷ [])
     ∷ []

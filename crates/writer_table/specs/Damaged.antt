@@ -1,9 +1,13 @@
 -- Steps on damaged pools and registers: every word and field in its range, but out of order. 12 and its order, counts at the ends of their
 -- ranges, damaged queues, ends of readings, and the decisions of docs/DECISIONS.md by their numbers.
+use Prim.Native.Nat.{ℕ}
+use Prim.Native.String.{String}
 use mathlib.Core.List.{List, [], _∷_}
 use Rattle.datatypes.specs.declared.Side.the-variants as side
+use Rattle.datatypes.specs.declared.Link.{Link}
 use Rattle.datatypes.specs.declared.Link.the-variants.{Root, Left, Right}
 use Rattle.datatypes.specs.declared.Purpose.the-variants.{ForInsert, RedSibling, BlackSibling}
+use Rattle.datatypes.specs.declared.Step.{Step}
 use Rattle.datatypes.specs.declared.Step.the-variants.{Insert, DiagLower, DiagRaise, ZigLowerA, ZigLowerC, ZigRaise, Unlink, Adopt, Promote, Publish}
 use Rattle.datatypes.specs.declared.Step.the-variants.{Detach}
 use Rattle.spec.specs.Calls.{ok, go, absent, wait, more, done, refused}
@@ -12,6 +16,15 @@ use Rattle.table.specs.Picture.{recordLow, left, right, colour, standing, holde
 use Rattle.table.specs.Picture.{count:=_, hand, atRest, fills, reader_:=_, store_:=_, reads, idle, _counting_, _but_}
 use Rattle.table.specs.Entry.{P, I, D, W, B, R, E, _⇒_, stands, still, leaves, Entry, entry, gives12}
 use Rattle.table.specs.Lent.{three, single, five, knot, lowered}
+
+-- This step, on the root, stores n in the link l, whatever the nodes stand as. A store on the right link of the root's node, still to come, stays as it
+-- is (Entry: asProfiled).
+abbrev keeps : String → Step → Link → ℕ → Entry
+keeps title x l n =
+    entry title
+    (five but (count:= 2 ∷ store 0 := (x on Root) ∷ store 1 := (Unlink on Right 2) ∷ standing of 1 := 2 ∷ standing of 2 := 0 ∷ standing of 3 := 0 ∷ standing of 4 := 2
+    ∷ standing of 5 := 0 ∷ []))
+    (W ⇒ more l n ∷ [])
 
 abbrev pub damaged : List Entry
 damaged =
@@ -436,4 +449,56 @@ damaged =
     (W ⇒ done (Right 2) 6
     ∷ leaves (right of 2 := 6 ∷ standing of 4 := 0 ∷ nextFree of 4 := 5 ∷ standing of 5 := 0 ∷ colour of 6 := 0 ∷ nextFree of 12 := 4 ∷ last:= 5 ∷ free:= 9 ∷ atRest ∷ [])
     ∷ [])
+    ∷ keeps "by links alone, and the stores to come stay as they are: Insert" (Insert 60 600) Root 6
+    ∷ keeps "by links alone, and the stores to come stay as they are: DiagLower" (DiagLower side.R ForInsert) (Left 4) 6
+    ∷ keeps "by links alone, and the stores to come stay as they are: DiagRaise" (DiagRaise side.R ForInsert) Root 4
+    ∷ keeps "by links alone, and the stores to come stay as they are: ZigLowerA" (ZigLowerA side.R ForInsert) (Right 3) 6
+    ∷ keeps "by links alone, and the stores to come stay as they are: ZigLowerC" (ZigLowerC side.R ForInsert) (Left 3) 6
+    ∷ keeps "by links alone, and the stores to come stay as they are: ZigRaise" (ZigRaise side.R BlackSibling) Root 3
+    ∷ keeps "by links alone, and the stores to come stay as they are: Unlink" Unlink Root 1
+    ∷ keeps "by links alone, and the stores to come stay as they are: Adopt" Adopt (Left 4) 1
+    ∷ keeps "by links alone, and the stores to come stay as they are: Promote" Promote Root 4
+    ∷ keeps "by links alone, and the stores to come stay as they are: Detach" (Detach 20) (Left 4) 0
+    ∷ entry "a delete of a key whose node stands free is accepted" (three but (standing of 1 := 0 ∷ []))
+    (D 10 ⇒ ok
+    ∷ leaves (hand (Unlink on Left 2) ∷ []) ∷ [])
+    ∷ entry "a delete of a key whose node stands retired is accepted" (three but (standing of 3 := 2 ∷ holders of 3 := 4 ∷ []))
+    (D 30 ⇒ ok
+    ∷ leaves (hand (Unlink on Right 2) ∷ []) ∷ [])
+    ∷ entry "a node that stands free, below a retired one, is freed again and counted: none reading"
+    (three but (hand (Unlink on Left 2) ∷ standing of 1 := 0 ∷ standing of 2 := 2 ∷ nextFree of 1 := 5 ∷ []))
+    (W ⇒ done (Left 2) 0
+    ∷ leaves (nextFree of 1 := 0 ∷ left of 2 := 0 ∷ nextFree of 8 := 1 ∷ last:= 1 ∷ free:= 6 ∷ held:= 2 ∷ atRest ∷ []) ∷ [])
+    ∷ entry "the node taken is the last, and its next free is not 0: that is the first, the last stays"
+    (three but (hand (Insert 5 50 on Left 1) ∷ last:= 4 ∷ colour of 1 := 0 ∷ []))
+    (W ⇒ done (Left 1) 4
+    ∷ leaves (left of 1 := 4 ∷ fills (row 4 5 50 1 0 0) ∷ first:= 5 ∷ free:= 4 ∷ held:= 4 ∷ atRest ∷ []) ∷ [])
+    ∷ entry "a publish with no store after it: done, and the slots are awaited" (five but (hand (Publish 3 on Root) ∷ reader 1 := (reads 10 0) ∷ []))
+    (W ⇒ done Root 6
+    ∷ leaves (standing of 2 := 2 ∷ holders of 2 := 2 ∷ fills (row 6 30 300 0 1 4) ∷ root:= 6 ∷ first:= 7 ∷ free:= 6 ∷ held:= 4 ∷ awaited:= 2 ∷ atRest ∷ []) ∷ [])
+    ∷ entry "a publish: the node taken is B itself: filled, linked, then freed"
+    (three but (hand (Publish 3 on Root) ∷ standing of 2 := 0 ∷ first:= 2 ∷ nextFree of 2 := 4 ∷ []))
+    (W ⇒ done Root 2
+    ∷ leaves (key of 2 := 30 ∷ recordLow of 2 := 300 ∷ nextFree of 2 := 0 ∷ nextFree of 8 := 2 ∷ first:= 4 ∷ last:= 2 ∷ held:= 2 ∷ atRest ∷ []) ∷ [])
+    ∷ entry "a publish: the node taken is the one whose link is stored: filled, then linked"
+    (three but (hand (Publish 1 on Right 2) ∷ standing of 2 := 0 ∷ first:= 2 ∷ nextFree of 2 := 4 ∷ []))
+    (W ⇒ done (Right 2) 2
+    ∷ leaves (fills (row 2 10 100 1 0 2) ∷ standing of 3 := 0 ∷ nextFree of 8 := 3 ∷ first:= 4 ∷ last:= 3 ∷ held:= 2 ∷ atRest ∷ []) ∷ [])
+    ∷ entry "a zig, A': the node taken is B: filled, then linked"
+    (five but (hand (ZigLowerA side.R ForInsert on Root) ∷ standing of 3 := 0 ∷ first:= 3 ∷ nextFree of 3 := 6 ∷ []))
+    (W ⇒ done (Right 3) 3
+    ∷ leaves (fills (row 3 40 400 1 0 3) ∷ first:= 6 ∷ free:= 6 ∷ atRest ∷ []) ∷ [])
+    ∷ entry "a zig, C': the node taken is B: filled, then linked"
+    (five but (hand (ZigLowerC side.R ForInsert on Root) ∷ standing of 3 := 0 ∷ first:= 3 ∷ nextFree of 3 := 6 ∷ []))
+    (W ⇒ done (Left 3) 3
+    ∷ leaves (fills (row 3 20 200 1 3 0) ∷ first:= 6 ∷ free:= 6 ∷ atRest ∷ []) ∷ [])
+    ∷ entry "a detach of B's right child, which no delete plans: the link that holds it is stored" (three but (hand (Detach 20 on Root) ∷ []))
+    (W ⇒ done (Right 2) 0
+    ∷ leaves (right of 2 := 0 ∷ standing of 3 := 0 ∷ nextFree of 8 := 3 ∷ last:= 3 ∷ free:= 6 ∷ atRest ∷ []) ∷ [])
+    ∷ entry "a promote where B has no left child names none" (three but (hand (Promote on Root) ∷ left of 2 := 0 ∷ []))
+    (W ⇒ done Root 3
+    ∷ leaves (left of 2 := 0 ∷ standing of 2 := 0 ∷ colour of 3 := 0 ∷ nextFree of 8 := 2 ∷ root:= 3 ∷ last:= 2 ∷ free:= 6 ∷ held:= 2 ∷ atRest ∷ []) ∷ [])
+    ∷ entry "a diag's top that is its own rising child is retired" (knot but (hand (DiagRaise side.L ForInsert on Root) ∷ []))
+    (W ⇒ done Root 1
+    ∷ leaves (colour of 1 := 0 ∷ standing of 1 := 0 ∷ nextFree of 8 := 1 ∷ last:= 1 ∷ free:= 7 ∷ atRest ∷ []) ∷ [])
     ∷ []

@@ -1,10 +1,15 @@
 -- 01, 'Delete B' in its three forms, and 'After a black place is lost': every case, x on the left and on the right, with what stands after
 -- each store or at the end. A slot reads from before the write where the title doesn't say otherwise; in the third form from between its two stores.
 use mathlib.Core.List.{List, [], _∷_}
+use Rattle.datatypes.specs.declared.Side.the-variants as side
 use Rattle.datatypes.specs.declared.Link.the-variants.{Root, Left, Right}
+use Rattle.datatypes.specs.declared.Purpose.the-variants.{RedSibling, BlackSibling}
+use Rattle.datatypes.specs.declared.Step.the-variants.{DiagLower, DiagRaise, Unlink, Adopt, Promote, Publish, Detach}
 use Rattle.spec.specs.Calls.{ok, more, done}
 use Rattle.table.specs.Picture.{row, _keptBy_, slot_wants_at_, root_held_awaited_stores_, picture, nil, red, black, redLeaf, blackLeaf, tree}
-use Rattle.table.specs.Entry.{D, W, B, E, _⇒_, stands, Entry, entry}
+use Rattle.table.specs.Picture.{count:=_, store_:=_, _on_}
+use Rattle.table.specs.Entry.{D, W, B, E, _⇒_, stands, leaves, Entry, entry}
+use Rattle.table.specs.Lent.{three, five}
 
 abbrev pub deletes : List Entry
 deletes =
@@ -527,4 +532,15 @@ deletes =
     ∷ row 9 90 900 0 0 0 ∷ row 10 100 1000 0 9 11 ∷ row 11 110 1100 0 0 0 ∷ row 12 120 1200 1 10 14 ∷ row 13 130 1300 0 0 0
     ∷ row 14 140 1400 0 13 15 ∷ row 15 150 1500 0 0 0 ∷ row 16 50 500 0 2 6 ∷ [])
     [] (17 ∷ 18 ∷ 19 ∷ 20 ∷ 4 ∷ 5 ∷ [])) ∷ [])
+    -- what the register keeps of the stores to come
+    ∷ entry "delete: publish and detach are planned, the detach with the deleted key" five
+    (D 20 ⇒ ok
+    ∷ leaves (count:= 2 ∷ store 0 := (Publish 3 on Root) ∷ store 1 := (Detach 20 on Root) ∷ []) ∷ [])
+    ∷ entry "delete: adopt and promote are planned" three
+    (D 20 ⇒ ok
+    ∷ leaves (count:= 2 ∷ store 0 := (Adopt on Root) ∷ store 1 := (Promote on Root) ∷ []) ∷ [])
+    ∷ entry "delete: an unlink is planned, a red sibling's diag and a black sibling's" (tree 12 (black blackLeaf (red (black nil redLeaf) blackLeaf)))
+    (D 10 ⇒ ok
+    ∷ leaves (count:= 5 ∷ store 0 := (Unlink on Left 2) ∷ store 1 := (DiagLower side.R RedSibling on Root) ∷ store 2 := (DiagRaise side.R RedSibling on Root)
+    ∷ store 3 := (DiagLower side.R BlackSibling on Left 5) ∷ store 4 := (DiagRaise side.R BlackSibling on Left 5) ∷ []) ∷ [])
     ∷ []

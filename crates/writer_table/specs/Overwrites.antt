@@ -19,6 +19,10 @@ three u v w = node black 2 v (one red 1 u) (one red 3 w)
 abbrev five : ℕ → ℕ → Tree
 five v w = node black 2 20 (one black 1 10) (node red 4 v (one black 3 30) (one black 5 w))
 
+-- keys 2 over 1 and 4, which is over two red ones, 3 and 5
+abbrev nephews : ℕ → Tree
+nephews v = node black 2 20 (one black 1 10) (node black 4 40 (one red 3 v) (one red 5 50))
+
 pub record Overwrites : Type 0 where
   pub listed : isListed (profile (Replace 5) .listing) ≡ true
   pub onlyKey : insert (one black 2 20) 2 21 ≡ one black 2 21
@@ -43,6 +47,9 @@ pub record Overwrites : Type 0 where
   pub wideZig : insert (node black 2 4294967316 (one red 0 8589934592) leaf) 1 12884901898
       ≡ node black 1 12884901898 (one red 0 8589934592) (one red 2 4294967316)
   pub wideDelete : delete (three 4294967306 4294967316 4294967326) 2 ≡ node black 3 4294967326 (one red 1 4294967306) leaf
+  pub deepDelete : delete (nephews 4294967326) 2 ≡ node black 3 4294967326 (one black 1 10) (node black 4 40 leaf (one red 5 50))
+  pub lowBits : insert (one black 10 100) 65546 101 ≡ node black 10 100 leaf (one red 65546 101)
+  pub outerFirst : delete (nephews 30) 1 ≡ node black 4 40 (node black 2 20 leaf (one red 3 30)) (one black 5 50)
 
 pub overwrites : Overwrites
 unfolding rel
@@ -69,4 +76,7 @@ overwrites =
       wideDiag = refl;
       wideZig = refl;
       wideDelete = refl;
+      deepDelete = refl;
+      lowBits = refl;
+      outerFirst = refl;
     }

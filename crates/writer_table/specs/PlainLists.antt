@@ -7,11 +7,11 @@ use mathlib.Core.List.{List, [], _∷_, _++_}
 use mathlib.Core.Option.{Option, none, some}
 use lib.ListN.{length}
 use lib.Dec.{eqb}
-use Rattle.sequential.specs.Tree.{leaf, rel}
-use Rattle.spec.specs.Calls.{Answer, ok, go, wait, absent, next, done, more, refused, Call, inserting, deleting, writing, beginning, turning, givingUp}
+use Rattle.sequential.specs.Tree.{red, black, Tree, leaf, node, rel}
+use Rattle.spec.specs.Calls.{Answer, ok, go, wait, absent, found, next, done, more, refused, Call, inserting, deleting, writing, beginning, turning, givingUp}
 use Rattle.datatypes.specs.declared.Kind.the-variants as kind
 use Rattle.datatypes.specs.declared.Link.the-variants.{Root}
-use Rattle.spec.specs.PlainList.{Plain, noneAccepted, noticeOf, recordFor, feed}
+use Rattle.spec.specs.PlainList.{Ticket, Plain, noneAccepted, noticeOf, recordFor, feed}
 
 -- a key and its record
 infix 70 _is_
@@ -26,10 +26,15 @@ pub data Line : Type 0 where
 
 pub record Entry : Type 0 where
   pub title : String
+  pub start : Plain
   pub lines : List Line
 
+-- it starts as on an index just set up, or with a tree and its tickets
 abbrev entry : String → List Line → Entry
-entry title lines = record { title = title; lines = lines }
+entry title lines = record { title = title; start = noneAccepted leaf []; lines = lines }
+
+abbrev entryFrom : String → Tree → List Ticket → List Line → Entry
+entryFrom title t ts lines = record { title = title; start = noneAccepted t ts; lines = lines }
 
 abbrev isRecord : Option ℕ → ℕ → Bool
 isRecord none v = false
@@ -46,11 +51,14 @@ holdsFrom x (lists ts ∷ later) = hasAll x ts && eqb (length (x .tickets)) (len
 
 abbrev pub allListed : List Entry → Bool
 allListed [] = true
-allListed (e ∷ es) = holdsFrom (noneAccepted leaf []) (e .lines) && allListed es
+allListed (e ∷ es) = holdsFrom (e .start) (e .lines) && allListed es
 
 -- an answer of a turn that made a store; which link it was does not matter
 abbrev stored : Answer
 stored = more Root 1
+
+abbrev ticket : ℕ → ℕ → Ticket
+ticket k v = record { key = k; value = v }
 
 abbrev insertOf : ℕ → ℕ → List Line
 insertOf k v = inserting k v gave ok ∷ writing gave done Root 1 ∷ []
@@ -127,6 +135,9 @@ plainLists =
     ∷ [])
     ∷ entry "plain list: what is neither wait nor a refusal is heard as carried out, the next ticket too"
     (inserting 3 30 gave ok ∷ writing gave next 1 10 ∷ lists (3 is 30 ∷ []) ∷ [])
+    ∷ entry "plain list: so are found, absent, go and ok"
+    (inserting 3 30 gave ok ∷ writing gave found 7 ∷ lists (3 is 30 ∷ []) ∷ inserting 4 40 gave ok ∷ writing gave absent ∷ lists (3 is 30 ∷ 4 is 40 ∷ [])
+    ∷ inserting 5 50 gave ok ∷ writing gave go ∷ inserting 6 60 gave ok ∷ writing gave ok ∷ lists (3 is 30 ∷ 4 is 40 ∷ 5 is 50 ∷ 6 is 60 ∷ []) ∷ [])
     ∷ entry "plain list: a delete of a key with a left child only takes it out at its first store"
     (insertOf 2 20 ++ insertOf 1 10 ++ deleting 2 gave ok ∷ lists (1 is 10 ∷ 2 is 20 ∷ []) ∷ writing gave done Root 1 ∷ lists (1 is 10 ∷ []) ∷ [])
     ∷ entry "plain list: a delete of a key with a right child only takes it out at its first store"
@@ -186,6 +197,30 @@ plainLists =
     ++ deleting 2 gave ok
     ∷ writing gave stored
     ∷ lists (1 is 10 ∷ 3 is 31 ∷ 4 is 41 ∷ 5 is 50 ∷ [])
+    ∷ [])
+    ∷ entry "plain list: keys equal in their low 16 or 31 bits are different keys"
+    (insertOf 5 50
+    ++ insertOf 65541 51
+    ++ insertOf 2147483653 52
+    ++ lists (5 is 50 ∷ 65541 is 51 ∷ 2147483653 is 52 ∷ [])
+    ∷ deleting 5 gave ok
+    ∷ writing gave done Root 1
+    ∷ lists (65541 is 51 ∷ 2147483653 is 52 ∷ [])
+    ∷ [])
+    ∷ entryFrom "plain list: started with a tree: the list store goes by it, and by the writes after it"
+    (node black 2 20 (node red 1 10 leaf leaf) (node red 3 30 leaf leaf)) (ticket 1 10 ∷ ticket 2 20 ∷ ticket 3 30 ∷ [])
+    (lists (1 is 10 ∷ 2 is 20 ∷ 3 is 30 ∷ [])
+    ∷ deleting 2 gave ok
+    ∷ writing gave stored
+    ∷ lists (1 is 10 ∷ 2 is 20 ∷ 3 is 30 ∷ [])
+    ∷ writing gave done Root 1
+    ∷ lists (1 is 10 ∷ 3 is 30 ∷ [])
+    ∷ insertOf 4 40
+    ++ deleting 3 gave ok
+    ∷ writing gave stored
+    ∷ lists (1 is 10 ∷ 3 is 30 ∷ 4 is 40 ∷ [])
+    ∷ writing gave done Root 1
+    ∷ lists (1 is 10 ∷ 4 is 40 ∷ [])
     ∷ [])
     -- 02, C-18: wide records
     ∷ entry "wide: plain list: an insert lists its whole record"

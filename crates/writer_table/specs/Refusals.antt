@@ -1,17 +1,18 @@
 -- 01, 'When a call is turned down': each number in each call that gives it but 12, the ends of each range, and the order of the tests.
-use Prim.Native.Nat.{ℕ}
+use Prim.Native.Nat.{ℕ, zero, suc, _+_}
 use Prim.Native.String.{String}
-use mathlib.Core.List.{List, [], _∷_}
+use mathlib.Core.List.{List, [], _∷_, _++_}
 use Rattle.datatypes.specs.declared.Side.the-variants as side
 use Rattle.datatypes.specs.declared.Link.the-variants.{Root, Left, Right}
 use Rattle.datatypes.specs.declared.Purpose.the-variants.{ForInsert}
+use Rattle.datatypes.specs.declared.Step.{Step}
 use Rattle.datatypes.specs.declared.Step.the-variants.{Vacant, Insert, Replace, DiagLower, DiagRaise, ZigLowerA, ZigLowerC, ZigRaise, Unlink, Adopt}
 use Rattle.datatypes.specs.declared.Step.the-variants.{Promote, Publish, Detach}
 use Rattle.spec.specs.Register.{State}
 use Rattle.spec.specs.Calls.{ok, go, absent, wait, found, next, done, refused}
 use Rattle.table.specs.Picture.{row, slot_wants_at_, root_held_awaited_stores_, picture, none, _on_, key, recordLow, recordHigh, left, right, colour, standing}
 use Rattle.table.specs.Picture.{holders, nextFree, Change, _of_:=_, root:=_, first:=_, last:=_, free:=_, held:=_, awaited:=_, count:=_, hand}
-use Rattle.table.specs.Picture.{reader_:=_, store_:=_, reads, idle, _but_, words, unset}
+use Rattle.table.specs.Picture.{reader_:=_, store_:=_, reads, idle, _but_, words, unset, rising}
 use Rattle.table.specs.Entry.{P, I, D, W, B, S, R, E, _⇒_, stands, leaves, Entry, entry}
 use Rattle.table.specs.Lent.{three, planned}
 
@@ -25,6 +26,18 @@ gives1 title n =
 -- a begin that is refused by 2
 abbrev gives2 : String → State → List Change → Entry
 gives2 title lent cs = entry title (lent but cs) (B 0 5 ⇒ refused 2 ∷ [])
+
+-- a store of each of these steps, on a node past the range; each place of the stores, from i on, of seven to come and of none
+abbrev onNode9 : List Step → List Entry
+onNode9 [] = []
+onNode9 (x ∷ xs) = gives2 "2: each step on node 9" planned (store 3 := (x on Right 9) ∷ []) ∷ onNode9 xs
+
+abbrev eachPlace : ℕ → ℕ → List Entry
+eachPlace zero i = []
+eachPlace (suc k) i =
+    gives2 "2: no store at each place to come" planned (store i := none ∷ [])
+    ∷ gives2 "2: a store at each place where none is to come" three (store i := (Unlink on Root) ∷ [])
+    ∷ eachPlace k (i + 1)
 
 -- Holders are any 32-bit word (02, C-15): every call is carried out on a pool with such words, and the two readings leave them.
 abbrev carriedOut : String → List Change → Entry
@@ -182,4 +195,27 @@ refusals =
     (I 25 5 ⇒ refused 10 ∷ [])
     ∷ entry "10: keys held N" (three but (held:= 8 ∷ []))
     (I 25 5 ⇒ refused 10 ∷ [])
-    ∷ []
+    ∷ entry "2 before wait" (three but (hand (Unlink on Left 2) ∷ awaited:= 4 ∷ left of 8 := 9 ∷ []))
+    (W ⇒ refused 2 ∷ [])
+    ∷ entry "set up of 300 nodes" (unset 300)
+    (P ⇒ ok
+    ∷ stands (picture (root 0 held 0 awaited 0 stores 0) [] [] [] (rising 300 1)) ∷ [])
+    -- a number that is 0 in its low 31 bits
+    ∷ gives2 "2: left 2,147,483,648" three (left of 5 := 2147483648 ∷ [])
+    ∷ gives2 "2: right 2,147,483,648" three (right of 5 := 2147483648 ∷ [])
+    ∷ gives2 "2: colour 2,147,483,648" three (colour of 5 := 2147483648 ∷ [])
+    ∷ gives2 "2: standing 2,147,483,648" three (standing of 5 := 2147483648 ∷ [])
+    ∷ gives2 "2: next 2,147,483,648" three (nextFree of 5 := 2147483648 ∷ [])
+    ∷ gives2 "2: root 2,147,483,648" three (root:= 2147483648 ∷ [])
+    ∷ gives2 "2: first 2,147,483,648" three (first:= 2147483648 ∷ [])
+    ∷ gives2 "2: last 2,147,483,648" three (last:= 2147483648 ∷ [])
+    ∷ gives2 "2: free 2,147,483,648" three (free:= 2147483648 ∷ [])
+    ∷ gives2 "2: held 2,147,483,648" three (held:= 2147483648 ∷ [])
+    ∷ gives2 "2: the node of a slot 2,147,483,648" three (reader 4 := (idle 0 2147483648) ∷ [])
+    ∷ gives2 "2: 2,147,483,655 stores to come" planned (count:= 2147483655 ∷ [])
+    ∷ gives2 "2: a store on node 2,147,483,648, left" planned (store 6 := (Adopt on Left 2147483648) ∷ [])
+    ∷ gives2 "2: a store on node 2,147,483,648, right" planned (store 6 := (Adopt on Right 2147483648) ∷ [])
+    ∷ gives2 "2: a publish of node 2,147,483,648" planned (store 3 := (Publish 2147483648 on Root) ∷ [])
+    ∷ onNode9 (Insert 5 50 ∷ DiagLower side.L ForInsert ∷ DiagRaise side.L ForInsert ∷ ZigLowerA side.L ForInsert ∷ ZigLowerC side.L ForInsert
+    ∷ ZigRaise side.L ForInsert ∷ Unlink ∷ Promote ∷ Publish 1 ∷ Detach 5 ∷ [])
+    ++ eachPlace 5 1
