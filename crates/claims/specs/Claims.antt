@@ -1,5 +1,6 @@
--- What the promise (crate theorem) excludes, each by a run that is computed (Computed): 01's useless indexes ('What pins the work', 2), and
--- claims that come near to those of demand 3 and are false. An index is excluded if what a clause says of one of its calls is false.
+-- What the promise (crate theorem) excludes, by a run that is computed (Computed) or by a clause that says so of every run: 01's useless indexes
+-- ('What pins the work', 2), others like them, and claims that come near to those of demand 3 and are false. An index is excluded if what a clause
+-- says of one of its calls is false.
 use Prim.Native.Nat.{ℕ, _+_, _*_, _^_, _<_, _≤_}
 use mathlib.Core.Path.{_≡_, refl, sym, ap, _∙_, subst}
 use mathlib.Core.Bool.{Bool, true, false, not, false≢true}

@@ -1,4 +1,4 @@
--- Three runs on a pool of eight nodes just set up, one on a pool of nine, and what they compute to. The exclusions (Claims) go by these facts.
+-- Runs on a pool of eight nodes just set up, one on a pool of nine, and what they compute to. The exclusions (Claims) go by these facts.
 use Prim.Native.Nat.{ℕ, _+_}
 use mathlib.Core.Path.{_≡_, refl}
 use mathlib.Core.Bool.{Bool, true, false, not, _&&_}
