@@ -8,7 +8,7 @@ use Rattle.spec.specs.Calls.{ok, go, absent, wait, found, next, more, done, ref
 
 pub record Answers : Type 0 where
   pub accepted : accepts acceptance.Accepted ≡ ok
-  pub turnedDown : accepts (acceptance.Refused 11) ≡ refused 11
+  pub acceptanceRefused : accepts (acceptance.Refused 11) ≡ refused 11
   pub more : writerSays (writer.More (Left 3) 4) ≡ more (Left 3) 4
   pub done : writerSays (writer.Done (Left 3) 4) ≡ done (Left 3) 4
   pub wait : writerSays writer.Wait ≡ wait
@@ -23,7 +23,7 @@ pub answers : Answers
 answers =
     record {
       accepted = refl;
-      turnedDown = refl;
+      acceptanceRefused = refl;
       more = refl;
       done = refl;
       wait = refl;

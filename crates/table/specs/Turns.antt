@@ -85,7 +85,7 @@ coloured =
     []
     but (reader 3 := (reads 20 2) ∷ [])
 
--- 260 nodes whose words are 0, but that three of them stand retired; slot 0 is at node 1, with the key 0
+-- 260 nodes whose words are 0, but that three of them stand retired; slot 0 looks for 5 and is at node 1, whose key is 0
 abbrev retired260 : State
 retired260 =
     state (replicate 2340 0) (three .register)

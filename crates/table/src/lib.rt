@@ -1,1 +1,2 @@
-// No code: document 01's starred examples, and those of readers and next tickets, stand in specs/, as one checked table.
+// No code: document 01's starred examples, those of readers, of next tickets and of what a reader's turn tests, and the notation of all tables, stand
+// in specs/.

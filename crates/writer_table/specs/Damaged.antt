@@ -495,9 +495,9 @@ damaged =
     ∷ entry "a detach of B's right child, which no delete plans: the link that holds it is stored" (three but (hand (Detach 20 on Root) ∷ []))
     (W ⇒ done (Right 2) 0
     ∷ leaves (right of 2 := 0 ∷ standing of 3 := 0 ∷ nextFree of 8 := 3 ∷ last:= 3 ∷ free:= 6 ∷ atRest ∷ []) ∷ [])
-    ∷ entry "a promote where B has no left child names none" (three but (hand (Promote on Root) ∷ left of 2 := 0 ∷ []))
+    ∷ entry "a promote by a red node asks for no sibling: B may have no left child" (three but (hand (Promote on Root) ∷ left of 2 := 0 ∷ []))
     (W ⇒ done Root 3
-    ∷ leaves (left of 2 := 0 ∷ standing of 2 := 0 ∷ colour of 3 := 0 ∷ nextFree of 8 := 2 ∷ root:= 3 ∷ last:= 2 ∷ free:= 6 ∷ held:= 2 ∷ atRest ∷ []) ∷ [])
+    ∷ leaves (standing of 2 := 0 ∷ colour of 3 := 0 ∷ nextFree of 8 := 2 ∷ root:= 3 ∷ last:= 2 ∷ free:= 6 ∷ held:= 2 ∷ atRest ∷ []) ∷ [])
     ∷ entry "a diag's top that is its own rising child is retired" (knot but (hand (DiagRaise side.L ForInsert on Root) ∷ []))
     (W ⇒ done Root 1
     ∷ leaves (colour of 1 := 0 ∷ standing of 1 := 0 ∷ nextFree of 8 := 1 ∷ last:= 1 ∷ free:= 7 ∷ atRest ∷ []) ∷ [])

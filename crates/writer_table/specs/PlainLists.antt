@@ -135,7 +135,7 @@ plainLists =
     ∷ [])
     ∷ entry "plain list: what is neither wait nor a refusal is heard as carried out, the next ticket too"
     (inserting 3 30 gave ok ∷ writing gave next 1 10 ∷ lists (3 is 30 ∷ []) ∷ [])
-    ∷ entry "plain list: so are found, absent, go and ok"
+    ∷ entry "plain list: found, absent, go and ok are heard as carried out too"
     (inserting 3 30 gave ok ∷ writing gave found 7 ∷ lists (3 is 30 ∷ []) ∷ inserting 4 40 gave ok ∷ writing gave absent ∷ lists (3 is 30 ∷ 4 is 40 ∷ [])
     ∷ inserting 5 50 gave ok ∷ writing gave go ∷ inserting 6 60 gave ok ∷ writing gave ok ∷ lists (3 is 30 ∷ 4 is 40 ∷ 5 is 50 ∷ 6 is 60 ∷ []) ∷ [])
     ∷ entry "plain list: a delete of a key with a left child only takes it out at its first store"

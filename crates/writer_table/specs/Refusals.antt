@@ -30,7 +30,7 @@ gives2 title lent cs = entry title (lent but cs) (B 0 5 ⇒ refused 2 ∷ [])
 -- a store of each of these steps, on a node past the range; each place of the stores, from i on, of seven to come and of none
 abbrev onNode9 : List Step → List Entry
 onNode9 [] = []
-onNode9 (x ∷ xs) = gives2 "2: each step on node 9" planned (store 3 := (x on Right 9) ∷ []) ∷ onNode9 xs
+onNode9 (x ∷ xs) = gives2 "2: each step but Adopt and Replace on node 9" planned (store 3 := (x on Right 9) ∷ []) ∷ onNode9 xs
 
 abbrev eachPlace : ℕ → ℕ → List Entry
 eachPlace zero i = []
@@ -200,7 +200,7 @@ refusals =
     ∷ entry "set up of 300 nodes" (unset 300)
     (P ⇒ ok
     ∷ stands (picture (root 0 held 0 awaited 0 stores 0) [] [] [] (rising 300 1)) ∷ [])
-    -- a number that is 0 in its low 31 bits
+    -- numbers of 2,147,483,648 or more whose low 31 bits are in range
     ∷ gives2 "2: left 2,147,483,648" three (left of 5 := 2147483648 ∷ [])
     ∷ gives2 "2: right 2,147,483,648" three (right of 5 := 2147483648 ∷ [])
     ∷ gives2 "2: colour 2,147,483,648" three (colour of 5 := 2147483648 ∷ [])
