@@ -194,6 +194,17 @@ counts-the-root e = let none-compared = ap length (computed .compared4) in omega
 pub counts-nothing : 0 ≢ length (comparedIn start replacing 0 2 7)
 counts-nothing e = let one-compared = ap length (computed .comparedThen) in omega arith
 
+-- One whose reader compares three nodes where one key is held and no write is in hand, and one whose reply counts more than the eight nodes.
+pub compares-three : (cs : List Call) (κ : Kind) (s k i j : ℕ) → Reading start cs κ s k i j
+    → ((t : ℕ) → i < t → t ≤ j → writeInHand (indexAfter start cs t) ≡ false) → indexAfter start cs j .register .held ≡ 1
+    → turnCount (indexAfter start cs j) s ≢ 3
+compares-three cs κ s k i j r idle one three =
+    let bound : 2 ^ 3 ≤ 4 = rw (three, one) at (promised cs .counted .low κ s k i j r idle) in
+    omega arith
+
+pub compares-nine : (cs : List Call) (j s : ℕ) → turnCount (indexAfter start cs j) s ≢ 9
+compares-nine cs j s e = let most = promised cs .counted .most j s .0 in omega arith
+
 -- Asked at the begin and at the turn alone, `low` is false: in `lookup` 3 is taken out between, no write is in hand at either end, slot 0 compares
 -- the node of 3 and no key is held.
 pub low-at-ends-only : ¬ ((cs : List Call) (κ : Kind) (s k i j : ℕ) → Reading start cs κ s k i j
