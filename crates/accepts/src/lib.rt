@@ -9,7 +9,8 @@ ghost use Prim.Native.Nat.{ℕ, _<_};
 ghost use Rattle.datatypes.specs.declared.Place.the-variants.{Held, Empty};
 ghost use Rattle.spec.specs.Register.{state, withWrite};
 ghost use Rattle.laws.specs.Tests.{lentNumber};
-ghost use Rattle.spec.specs.Calls.{ok, refused, accepts, placeOf, writeInHand, insert, delete};
+ghost use Rattle.laws.specs.Lists.{listNumber};
+ghost use Rattle.spec.specs.Calls.{ok, refused, accepts, placeOf, writeInHand, insert, delete, insertList};
 
 // Answers accepted, with the planned stores as the write in hand.
 fn accepted(reg: Register, write: Write) -> Reply
@@ -70,4 +71,42 @@ pub fn delete_at(pool: &[u32], reg: Register, k: u32, l: Link, n: u32) -> Reply
     }
     let write = plan.write;
     accepted(reg, write)
+}
+
+// Tests a list (document 02, C-24), after the tests of what is lent and of a write in hand: 18 the list is empty, its keys don't rise or its records
+// are not as many; 19 the index is not empty; 10 more keys than N − 4; 11 fewer free nodes than keys; 12 the queue ends before the last of them.
+pub fn list_refusal(pool: &[u32], reg: Register, keys: &[u32], records: &[u64]) -> u32
+    requires { ⌜ lentNumber (state (now pool) reg) ≡ 0 ⌝ }
+    ensures { λ r. ⌜ r ≡ listNumber (state (now (pool .entry)) reg) (now (keys .entry)) (now (records .entry)) ⌝ }
+{
+    if bulk::list_right(keys, records) {} else {
+        return 18;
+    }
+    if reg.root != 0 {
+        return 19;
+    }
+    let m = keys.len();
+    let room = pool::nodes(pool) - numbers::RESERVE as u32;
+    if (room as usize) < m {
+        return 10;
+    }
+    if (reg.free as usize) < m {
+        return 11;
+    }
+    if bulk::free_after(pool, reg.first, m - 1) == 0 {
+        return 12;
+    }
+    0
+}
+
+// Takes an accepted list in hand: its tree is made apart, and one store is to come.
+pub fn list_in(pool: &mut [u32], reg: Register, keys: &[u32], records: &[u64]) -> Reply
+    requires { ⌜ (lentNumber (state (now pool) reg) ≡ 0) × (writeInHand (state (now pool) reg) ≡ false) × (listNumber (state (now pool) reg) (now keys) (now records) ≡ 0) ⌝ }
+    ensures { λ r. ⌜ accepts (r .answer) ≡ insertList (state (now (pool .entry)) reg) (now (keys .entry)) (now (records .entry)) .answer ⌝ }
+    ensures { λ r. ⌜ state (now (pool .exit)) (r .register) ≡ insertList (state (now (pool .entry)) reg) (now (keys .entry)) (now (records .entry)) .after ⌝ }
+{
+    let grown = bulk::grow(pool, heads::head_of(reg), keys, records);
+    let head = grown.head;
+    let write = bulk::list_write(keys.len() as u32, grown.top);
+    accepted(heads::with_head(reg, head), write)
 }

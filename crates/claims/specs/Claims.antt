@@ -23,7 +23,7 @@ use Rattle.base.specs.Walk.{allIn, all-in}
 use Rattle.sequential.specs.Tree.{red, black, Tree, leaf, node}
 use Rattle.sequential.specs.Delete.{changedBy}
 use Rattle.spec.specs.Numbers.{leastNodes, mostNodes, slots}
-use Rattle.spec.specs.Pool.{word, child, nodes, keyWord, recordAt, standingFree, standingLinked, standingRetired}
+use Rattle.spec.specs.Pool.{word, child, nodes, keyWord, recordAt, standingFree, standingLinked, standingRetired, standingApart}
 use Rattle.spec.specs.Register.{State, state, noReader, begunReader, readerOf, nodeAt, hasSlot, isRoot}
 use Rattle.spec.specs.Calls.{Answer, go, absent, found, next, refused, Call, inserting, writing, call, reading, writeInHand, turnCount}
 use Rattle.spec.specs.PlainList.{carriedOut, noticeOf, recordFor, acceptedWrites}
@@ -33,7 +33,7 @@ use Rattle.promise.specs.Demands.{AtOneMoment, turnOf, Going, ends, goes, answe
 use Rattle.promise.specs.Demands.{standingAt, StoresOne, PromiseFrom}
 use Rattle.readers.specs.Reach.{leads-there}
 use Rattle.theorem.specs.Theorem.{promise}
-use Rattle.claims.specs.Computed.{start, lookup, rotation, before, threeKeys, nine, overtaken, replacing, late, has, tenIsNext, isBegin, computed}
+use Rattle.claims.specs.Computed.{start, lookup, rotation, before, threeKeys, nine, overtaken, replacing, late, has, tenIsNext, isBegin, listHeld, computed}
 
 promised : (cs : List Call) → PromiseFrom start cs
 promised = promise 8 (omega arith) (omega arith)
@@ -61,6 +61,10 @@ linked-before m e = leads (before .register .root) (promised rotation .demand2 .
 one-linked : standingAt before 1 ≡ standingLinked
 one-linked = promised rotation .demand2 .linked 5 1 .1 (rw (computed .root) (arrived 1 (omega arith)))
 
+-- no list is in hand, so that no node is made apart
+none-apart : (cs : List Call) (j m : ℕ) → listHeld (plainAfter start cs j .inHand) ≡ false → standingAt (indexAfter start cs j) m ≢ standingApart
+none-apart cs j m e a = let r = promised cs .demand2 .apart j .none m a in false≢true (sym e ∙ ap listHeld (r .2 .0))
+
 module _ (after : State) (l : Link) (n : ℕ) (linked : (m : ℕ) → (standingAt after m ≡ standingLinked) ↔ Leads (after .pool) (after .register .root) m)
     (tree : Stands (after .pool) (after .register .root) threeKeys) (one : StoresOne before after l n) where
   abbrev q : List ℕ
@@ -80,8 +84,11 @@ module _ (after : State) (l : Link) (n : ℕ) (linked : (m : ℕ) → (standingA
   top-new : standingAt before top ≢ standingLinked
   top-new e = let k = tree .2 in ⊎-elim (λ x. let y = x .1 in omega arith) (λ y. omega arith) (old-key top e)
 
+  comes : (m : ℕ) → standingAt before m ≢ standingLinked → standingAt after m ≡ standingLinked → m ≡ n
+  comes m d e = ⊎-elim (λ x. x) (λ a. absurd (none-apart rotation 5 m (computed .listBefore) a)) (one .comes m d e)
+
   top-is : top ≡ n
-  top-is = one .comes top top-new (linked top .1 (arrived top (let a = tree .0 in omega arith)))
+  top-is = comes top top-new (linked top .1 (arrived top (let a = tree .0 in omega arith)))
 
   -- its right child, with key 3, is node 1,
   right-linked : standingAt after right ≡ standingLinked
@@ -91,7 +98,7 @@ module _ (after : State) (l : Link) (n : ℕ) (linked : (m : ℕ) → (standingA
   right-is = elim (ℕ-discrete (standingAt before right) standingLinked) [
     | yes e ↦ (let k = tree .6 .2 in ⊎-elim (λ x. x .0) (λ y. absurd (omega arith)) (old-key right e))
     | no d ↦
-        (let same = ap (λ m. word q m keyWord) (one .comes right d right-linked ∙ sym top-is) in
+        (let same = ap (λ m. word q m keyWord) (comes right d right-linked ∙ sym top-is) in
         let j = tree .2 in
         let k = tree .6 .2 in
         absurd (omega arith))
@@ -264,7 +271,7 @@ retired-counted h =
         h .standing n .1 (
           a .0,
           omega arith,
-          ⊎-elim (λ e. absurd (leads-there _ _ n (d .linked 6 n .0 e) (computed .root6))) (λ x. x) (d .standing 6 n (a .0) (omega arith)),
+          ⊎-elim (λ e. absurd (leads-there _ _ n (d .linked 6 n .0 e) (computed .root6))) (⊎-map (λ x. x) (⊎-elim (λ x. x) (λ x. absurd (none-apart lookup 6 n (computed .list6) x)))) (d .standing 6 n (a .0) (omega arith)),
         )
 
 -- With no write in hand the tree is the sequential one of the writes accepted, from `leaf` on; the pool keeps its N nodes.

@@ -7,21 +7,21 @@ use mathlib.Core.Option.{Option, none, some}
 use lib.ListN.{replicate}
 use Rattle.datatypes.specs.declared.Side.the-variants.{L, R}
 use Rattle.sequential.specs.Tree.{red, black, Tree, leaf, node, rel}
-use Rattle.sequential.specs.Delete.{changedBy}
+use Rattle.sequential.specs.Delete.{Change, insertion, deletion, listInsertion, changedBy}
 use Rattle.base.specs.Walk.{allFrom, allIn, foldFrom, foldIn}
 use Rattle.spec.specs.Numbers.{slots}
 use Rattle.spec.specs.Pool.{child, standingRetired, keyWord, leftWord, recordAt}
 use Rattle.spec.specs.Pool.{word, setWord, nodeInRange, poolInRange, lengthRight, freshNodes, freshPool}
 use Rattle.spec.specs.Register.{State, state, noReader, begunReader, readerOf, withRoot, withQueue, withHeld, withReader, withAwaited, withWrite, nodeAt, setLink}
 use Rattle.spec.specs.Register.{putSlot, dropSlot, readingSlots, storeInRange, registerInRange, freshRegister, fresh, writeOf, lessFirst}
-use Rattle.spec.specs.Free.{takeFree, fillNode, takeNode, freeNode, retire, release, endReading}
+use Rattle.spec.specs.Free.{takeFree, fillAs, takeAs, freeNode, retire, release, endReading}
 use Rattle.spec.specs.Search.{seek, trail, leftmost}
 use Rattle.spec.specs.Plan.{insertFixup, fixupAfterInsert, paintInsertFixup, deleteFixup, fixupAfterRemoval, paintDeleteLevels, paintDeleteFixup}
 use Rattle.spec.specs.Plan.{insertPlan, unlinkPlan, deletePlan}
 use Rattle.spec.specs.Turn.{insertStore, replaceStore, unlinkStore, adoptStore, promoteStore, stepFinds, stepMade}
 use Rattle.spec.specs.Calls.{insert, delete, stored, writerTurn, begin, readerStep, readerTurn, turnCount}
 use Rattle.datatypes.specs.declared.Kind.the-variants as kind
-use Rattle.spec.specs.Calls.{ok, absent, found, next, refused, Call, inserting, deleting, writing, beginning, turning, givingUp, call, reading, writeInHand}
+use Rattle.spec.specs.Calls.{ok, absent, found, next, refused, Call, inserting, deleting, writing, beginning, turning, givingUp, insertingList, call, reading, writeInHand}
 use Rattle.spec.specs.PlainList.{recordFor, acceptedWrites}
 use Rattle.promise.specs.Run.{Start, justSetUp, callAt, after, indexAfter, plainAfter, ticketsAfter, comparedIn}
 use Rattle.promise.specs.Demands.{turnOf, origin, standingAt, fullyTestedTurn}
@@ -83,7 +83,15 @@ isBegin (some (deleting k)) = false
 isBegin (some writing) = false
 isBegin (some (beginning κ s k)) = true
 isBegin (some (turning s)) = false
+isBegin (some (insertingList ks vs)) = false
 isBegin (some (givingUp s)) = false
+
+-- whether a list is in hand (02, C-24)
+abbrev pub listHeld : Option Change → Bool
+listHeld none = false
+listHeld (some (insertion k v)) = false
+listHeld (some (deletion k)) = false
+listHeld (some (listInsertion ks vs)) = true
 
 pub record Computed : Type 0 where
   -- the first insert is accepted; before its turn no slot reads, and a reader's turn for 3 answers absent
@@ -117,8 +125,10 @@ pub record Computed : Type 0 where
   pub counts6 : turnCount (indexAfter start lookup 6) 0 ≡ 1
   -- no write is in hand in the end, nor after a begin
   pub idle6 : writeInHand (indexAfter start lookup 6) ≡ false
+  pub list6 : listHeld (plainAfter start lookup 6 .inHand) ≡ false
   pub begunIdle : allIn (λ i. not (isBegin (callAt lookup i) && writeInHand (indexAfter start lookup (i + 1)))) 0 6 ≡ true
   -- before the rotation: node 1 (key 3) over node 2 (key 1)
+  pub listBefore : listHeld (plainAfter start rotation 5 .inHand) ≡ false
   pub root : before .register .root ≡ 1
   pub left1 : child (before .pool) L 1 ≡ 2
   pub right1 : child (before .pool) R 1 ≡ 0
@@ -149,8 +159,8 @@ pub record Computed : Type 0 where
 
 pub computed : Computed
 unfolding after rel allFrom allIn foldFrom foldIn word setWord recordAt nodeInRange poolInRange lengthRight freshNodes freshPool withRoot withQueue withHeld
-    withReader withAwaited withWrite nodeAt setLink putSlot dropSlot readingSlots storeInRange registerInRange freshRegister fresh writeOf lessFirst takeFree fillNode
-    takeNode freeNode retire release endReading seek trail insertFixup fixupAfterInsert paintInsertFixup deleteFixup fixupAfterRemoval paintDeleteLevels paintDeleteFixup
+    withReader withAwaited withWrite nodeAt setLink putSlot dropSlot readingSlots storeInRange registerInRange freshRegister fresh writeOf lessFirst takeFree fillAs
+    takeAs freeNode retire release endReading seek trail insertFixup fixupAfterInsert paintInsertFixup deleteFixup fixupAfterRemoval paintDeleteLevels paintDeleteFixup
     insertPlan unlinkPlan deletePlan leftmost unlinkStore adoptStore promoteStore insertStore replaceStore stepFinds stepMade insert delete stored writerTurn begin readerStep readerTurn turnCount
     comparedIn
 computed = record {
@@ -177,7 +187,9 @@ computed = record {
   held6 = refl;
   counts6 = refl;
   idle6 = refl;
+  list6 = refl;
   begunIdle = refl;
+  listBefore = refl;
   root = refl;
   left1 = refl;
   right1 = refl;

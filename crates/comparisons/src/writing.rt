@@ -222,6 +222,7 @@ pub fn step_row(step: Step) -> usize {
         Step::Promote => rows::STEPS + 4,
         Step::Publish(_) => rows::STEPS + 5,
         Step::Detach(_) => rows::STEPS + 6,
+        Step::LinkAll(_, _) => rows::ROTATIONS + 30,
     }
 }
 

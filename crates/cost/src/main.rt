@@ -79,6 +79,7 @@ fn letter_of(step: Step) -> u8 {
         Step::Promote => b'm',
         Step::Publish(_) => b'p',
         Step::Detach(_) => b't',
+        Step::LinkAll(_, _) => b'l',
     }
 }
 

@@ -7,7 +7,7 @@ use lib.Dec.{eqb}
 use Rattle.datatypes.specs.declared.Link.the-variants.{Root, Left}
 use Rattle.datatypes.specs.declared.Tally.{Tally}
 use Rattle.spec.specs.Register.{State}
-use Rattle.spec.specs.Calls.{Answer, ok, go, absent, wait, found, next, more, done, refused, Call, inserting, deleting, writing, beginning, turning, givingUp}
+use Rattle.spec.specs.Calls.{Answer, ok, go, absent, wait, found, next, more, done, refused, Call, inserting, deleting, writing, beginning, turning, givingUp, insertingList}
 use Rattle.spec.specs.Calls.{call, turnCount}
 use Rattle.spec.specs.Tally.{tallied}
 use Rattle.datatypes.specs.declared.Kind.the-variants as kind
@@ -38,6 +38,7 @@ byCall st t (turning s) = tallied t (call st (turning s) .answer) (turnCount st 
 byCall st t (inserting k v) = t
 byCall st t (deleting k) = t
 byCall st t writing = t
+byCall st t (insertingList ks vs) = t
 byCall st t (beginning κ s k) = t
 byCall st t (givingUp s) = t
 

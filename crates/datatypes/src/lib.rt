@@ -46,6 +46,7 @@ pub struct Rotation {
 // Unlink: B's link from above := its only child, or 0.
 // Adopt, Promote: C's left := B's left; B's link from above := C.
 // Publish(C), Detach(key): B's link from above := C'; F's left := C's right. The key is B's, by which the place is found again.
+// LinkAll(count, top): the root := the top of a tree made apart, of so many nodes (document 02, C-24).
 pub enum Step {
     Vacant,
     Insert(u32, u64),
@@ -60,6 +61,7 @@ pub enum Step {
     Promote,
     Publish(u32),
     Detach(u32),
+    LinkAll(u32, u32),
 }
 
 // A planned store: `link` is the link from above of the place that the step works on.

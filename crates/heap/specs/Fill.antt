@@ -15,9 +15,9 @@ use Rattle.datatypes.specs.declared.Register.{Register}
 use Rattle.datatypes.specs.Side.{other}
 use Rattle.base.specs.Walk.{cond-both}
 use Rattle.spec.specs.Numbers.{nodeWords}
-use Rattle.spec.specs.Pool.{word, setWord, child, keyWord, recordAt, colourWord, standingWord, holdersWord, nextWord, standingFree, standingRetired}
+use Rattle.spec.specs.Pool.{word, setWord, child, keyWord, recordAt, colourWord, standingWord, holdersWord, nextWord, standingFree, standingLinked, standingRetired}
 use Rattle.spec.specs.Register.{State, withQueue, readingSlots}
-use Rattle.spec.specs.Free.{queueEmpty, takeFree, fillNode, takeNode, freeNode, retire, retireTwo}
+use Rattle.spec.specs.Free.{queueEmpty, takeFree, fillNode, takeNode, freeNode, retire, retireTwo, fillAs, takeAs}
 use Rattle.spec.specs.FreeQueue.{InPool}
 use Rattle.laws.specs.Words.{length-setWord, word-set}
 use Rattle.laws.specs.Records.{two-words}
@@ -36,34 +36,37 @@ pub record Filled (p q : List ℕ) (n k v : ℕ) (s : Side) (x y c : ℕ) : Type
   pub far-is : child q (other s) n ≡ y
   pub colour-is : colours q n ≡ hue c
 
+pub fill-as : (t : ℕ) (p : List ℕ) (n k v : ℕ) (s : Side) (x y c : ℕ) → InPool p n → Filled p (fillAs t p n k v s x y c) n k v s x y c
+unfolding fillAs recordAt
+fill-as t p n k v L x y c w =
+    let a = le-leb 1 n (w .low) in
+    let b = le-leb (n * nodeWords) (length p) (w .high) in
+    let e = eq-eqb n n refl in
+    record {
+      size = simp length-setWord;
+      others = λ m f d h. simp (word-set, length-setWord, a, b, ne-eqb n m d, lt-ltb f nodeWords h);
+      key-is = simp (word-set, length-setWord, a, b, e);
+      val-is = simp (word-set, length-setWord, a, b, e) (two-words v);
+      near-is = simp (word-set, length-setWord, a, b, e);
+      far-is = simp (word-set, length-setWord, a, b, e);
+      colour-is = colours-is _ n c (simp (word-set, length-setWord, a, b, e));
+    }
+fill-as t p n k v R x y c w =
+    let a = le-leb 1 n (w .low) in
+    let b = le-leb (n * nodeWords) (length p) (w .high) in
+    let e = eq-eqb n n refl in
+    record {
+      size = simp length-setWord;
+      others = λ m f d h. simp (word-set, length-setWord, a, b, ne-eqb n m d, lt-ltb f nodeWords h);
+      key-is = simp (word-set, length-setWord, a, b, e);
+      val-is = simp (word-set, length-setWord, a, b, e) (two-words v);
+      near-is = simp (word-set, length-setWord, a, b, e);
+      far-is = simp (word-set, length-setWord, a, b, e);
+      colour-is = colours-is _ n c (simp (word-set, length-setWord, a, b, e));
+    }
+
 pub fill-node : (p : List ℕ) (n k v : ℕ) (s : Side) (x y c : ℕ) → InPool p n → Filled p (fillNode p n k v s x y c) n k v s x y c
-unfolding fillNode recordAt
-fill-node p n k v L x y c w =
-    let a = le-leb 1 n (w .low) in
-    let b = le-leb (n * nodeWords) (length p) (w .high) in
-    let e = eq-eqb n n refl in
-    record {
-      size = simp length-setWord;
-      others = λ m f d h. simp (word-set, length-setWord, a, b, ne-eqb n m d, lt-ltb f nodeWords h);
-      key-is = simp (word-set, length-setWord, a, b, e);
-      val-is = simp (word-set, length-setWord, a, b, e) (two-words v);
-      near-is = simp (word-set, length-setWord, a, b, e);
-      far-is = simp (word-set, length-setWord, a, b, e);
-      colour-is = colours-is _ n c (simp (word-set, length-setWord, a, b, e));
-    }
-fill-node p n k v R x y c w =
-    let a = le-leb 1 n (w .low) in
-    let b = le-leb (n * nodeWords) (length p) (w .high) in
-    let e = eq-eqb n n refl in
-    record {
-      size = simp length-setWord;
-      others = λ m f d h. simp (word-set, length-setWord, a, b, ne-eqb n m d, lt-ltb f nodeWords h);
-      key-is = simp (word-set, length-setWord, a, b, e);
-      val-is = simp (word-set, length-setWord, a, b, e) (two-words v);
-      near-is = simp (word-set, length-setWord, a, b, e);
-      far-is = simp (word-set, length-setWord, a, b, e);
-      colour-is = colours-is _ n c (simp (word-set, length-setWord, a, b, e));
-    }
+fill-node = fill-as standingLinked
 
 module _ {p q : List ℕ} {n k v : ℕ} {s : Side} {x y c : ℕ} (h : Filled p q n k v s x y c) where
   -- trees without the new node stay
@@ -88,7 +91,7 @@ module _ {p q : List ℕ} {n k v : ℕ} {s : Side} {x y c : ℕ} (h : Filled p q
 
 -- the register after a node is taken: only the queue's fields change
 pub take-pool : (st : State) (k v : ℕ) (s : Side) (x y c : ℕ) → takeNode st k v s x y c .pool ≡ fillNode (st .pool) (st .register .first) k v s x y c
-unfolding takeNode takeFree
+unfolding takeAs takeFree
 take-pool st k v s x y c = refl
 
 pub record Queued (r q : Register) : Type 0 where
@@ -111,7 +114,7 @@ queued-refl : (r : Register) → Queued r r
 queued-refl r = record { root = refl; held = refl; readers = refl; awaited = refl; write = refl }
 
 pub take-register : (st : State) (k v : ℕ) (s : Side) (x y c : ℕ) → Queued (st .register) (takeNode st k v s x y c .register)
-unfolding takeNode takeFree withQueue
+unfolding takeAs takeFree withQueue
 take-register st k v s x y c = record { root = refl; held = refl; readers = refl; awaited = refl; write = refl }
 
 -- Retiring and freeing.

@@ -2,6 +2,8 @@ pub mod Rep
 pub mod Sites
 pub mod Colours
 pub mod Fill
+pub mod Grown
+pub mod Grows
 pub mod Paths
 pub mod Fixups
 pub mod DeleteFixupRun

@@ -14,7 +14,7 @@ use refusals::Tested;
 ghost use mathlib.Core.Path.{_≡_};
 ghost use Rattle.datatypes.specs.declared.Kind.the-variants as kind;
 ghost use Rattle.spec.specs.Register.{state};
-ghost use Rattle.spec.specs.Calls.{accepts, writerSays, readerSays, setUp, insert, delete, writerTurn, begin, readerTurn, turnCount, giveUp};
+ghost use Rattle.spec.specs.Calls.{accepts, writerSays, readerSays, setUp, insert, delete, insertList, writerTurn, begin, readerTurn, turnCount, giveUp};
 
 // Set up: makes the lent words a fresh pool, every node free, and answers its register.
 // Needs: nothing of the words but their number. The register that goes in is not read; fresh::fresh_register(0) makes one.
@@ -84,6 +84,31 @@ pub fn delete(pool: &[u32], reg: Register, k: u32) -> Reply
         Place::Empty(_) => replies::refused(9, reg),
         Place::TooDeep => replies::refused(12, reg),
     }
+}
+
+// Insert a list (document 02, C-24): a list of keys with their records, on an empty index, becomes one tree, in hand as a write of one store.
+// Needs: nothing; keys and records are lent, the i-th record is the i-th key's.
+// Answers: Accepted. Then writer_turn answers Done with the root and the tree's top; readers see none of the list before it and all of it after.
+// Refuses, tested in this order: 1 length; 2 a word or field out of range; 6 a write is in hand; 18 the list is empty, its keys don't rise strictly or
+// there are not as many records; 19 the root isn't 0; 10 more keys than N − 4; 11 fewer free nodes than keys; 12 the queue ends before them.
+// Leaves: the first free nodes taken and filled in key order, made apart (standing 3), and in the register the write in hand; refused, both as they were.
+pub fn insert_list(pool: &mut [u32], reg: Register, keys: &[u32], records: &[u64]) -> Reply
+    ensures { λ r. ⌜ accepts (r .answer) ≡ insertList (state (now (pool .entry)) reg) (now (keys .entry)) (now (records .entry)) .answer ⌝ }
+    ensures { λ r. ⌜ state (now (pool .exit)) (r .register) ≡ insertList (state (now (pool .entry)) reg) (now (keys .entry)) (now (records .entry)) .after ⌝ }
+{
+    let why = refusals::lent_refusal(pool, reg, Tested::All);
+    if why != 0 {
+        return replies::refused(why, reg);
+    }
+    let hand = reg.write;
+    if hand.count != 0 {
+        return replies::refused(6, reg);
+    }
+    let wrong = accepts::list_refusal(pool, reg, keys, records);
+    if wrong != 0 {
+        return replies::refused(wrong, reg);
+    }
+    accepts::list_in(pool, reg, keys, records)
 }
 
 // Writer's turn: makes the next store of the write in hand, one link, and the colour work up to the store after it.

@@ -10,4 +10,5 @@ pub mod Fresh
 pub mod Inserts
 pub mod Turns
 pub mod Deletes
+pub mod Lists
 pub mod Writers

@@ -16,7 +16,7 @@ use Rattle.base.specs.Lists.{_∈_, Distinct}
 use Rattle.spec.specs.Numbers.{nodeWords, wordLimit}
 use Rattle.spec.specs.Pool.{place, word, setWord, recordAt, keyWord, recordLowWord, recordHighWord, linkWord, colourWord, standingWord, holdersWord, nextWord, standingLinked}
 use Rattle.spec.specs.Register.{State, withQueue}
-use Rattle.spec.specs.Free.{takeFree, fillNode, takeNode, freeNode}
+use Rattle.spec.specs.Free.{takeFree, fillNode, takeNode, freeNode, fillAs, takeAs}
 use Rattle.spec.specs.FreeQueue.{InPool, Chain, lastOf, Queue}
 use Rattle.laws.specs.Words.{length-setWord, set-none, set-at, word-same, word-other}
 use Rattle.laws.specs.Records.{record-other}
@@ -59,25 +59,25 @@ pub record-link : (p : List ℕ) (d n : ℕ) (s : Side) (b : ℕ) → recordAt (
 record-link p d n s b = record-other p d n (linkWord s) b (omega (arith, link-low s)) (inr (link-high s))
 
 -- A taken node is filled word by word, here only: what setting a word of it keeps, filling it keeps. G f u says that word f may be set to u.
-pub record Fills (G : ℕ → ℕ → Type 0) (k v : ℕ) (s : Side) (x y c : ℕ) : Type 0 where
+pub record Fills (G : ℕ → ℕ → Type 0) (a k v : ℕ) (s : Side) (x y c : ℕ) : Type 0 where
   pub key : G keyWord k
   pub low : G recordLowWord (v % wordLimit)
   pub high : G recordHighWord (v / wordLimit)
   pub near : G (linkWord s) x
   pub far : G (linkWord (other s)) y
   pub colour : G colourWord c
-  pub standing : G standingWord standingLinked
+  pub standing : G standingWord a
   -- the other words are 0
   pub zero : (f : ℕ) → G f 0
 
-module _ (P : List ℕ → Type 0) (p : List ℕ) (n k v : ℕ) (s : Side) (x y c : ℕ) where
-  pub fill-keeps : (G : ℕ → ℕ → Type 0) → ((q : List ℕ) (f u : ℕ) → f < nodeWords → G f u → P q → P (setWord q n f u)) → Fills G k v s x y c
-      → P p → P (fillNode p n k v s x y c)
-  unfolding fillNode
-  fill-keeps G put g h =
+module _ (a : ℕ) (P : List ℕ → Type 0) (p : List ℕ) (n k v : ℕ) (s : Side) (x y c : ℕ) where
+  pub fill-as-keeps : (G : ℕ → ℕ → Type 0) → ((q : List ℕ) (f u : ℕ) → f < nodeWords → G f u → P q → P (setWord q n f u)) → Fills G a k v s x y c
+      → P p → P (fillAs a p n k v s x y c)
+  unfolding fillAs
+  fill-as-keeps G put g h =
       put _ nextWord 0 (omega arith) (g .zero nextWord)
       (put _ holdersWord 0 (omega arith) (g .zero holdersWord)
-      (put _ standingWord standingLinked (omega arith) (g .standing)
+      (put _ standingWord a (omega arith) (g .standing)
       (put _ colourWord c (omega arith) (g .colour)
       (put _ (linkWord (other s)) y (omega (arith, link-low (other s))) (g .far)
       (put _ (linkWord s) x (omega (arith, link-low s)) (g .near)
@@ -86,39 +86,52 @@ module _ (P : List ℕ → Type 0) (p : List ℕ) (n k v : ℕ) (s : Side) (x y 
       (put p keyWord k (omega arith) (g .key) h))))))))
 
   -- what setting any word of it keeps
-  pub fill-keeps-any : ((q : List ℕ) (f u : ℕ) → f < nodeWords → P q → P (setWord q n f u)) → P p → P (fillNode p n k v s x y c)
-  fill-keeps-any put h =
-      fill-keeps (λ f u. Unit {0}) (λ q f u l g i. put q f u l i)
+  pub fill-as-any : ((q : List ℕ) (f u : ℕ) → f < nodeWords → P q → P (setWord q n f u)) → P p → P (fillAs a p n k v s x y c)
+  fill-as-any put h =
+      fill-as-keeps (λ f u. Unit {0}) (λ q f u l g i. put q f u l i)
       record { key = tt; low = tt; high = tt; near = tt; far = tt; colour = tt; standing = tt; zero = λ f. tt }
       h
 
--- filling no node, or one past the pool's end, changes nothing
-pub fill-none : (p : List ℕ) (k v : ℕ) (s : Side) (x y c : ℕ) → fillNode p 0 k v s x y c ≡ p
-fill-none p k v s x y c = fill-keeps-any (λ q. q ≡ p) p 0 k v s x y c (λ q f u l e. set-none q f u ∙ e) refl
+-- a node that stands linked
+pub fill-keeps : (P : List ℕ → Type 0) (p : List ℕ) (n k v : ℕ) (s : Side) (x y c : ℕ) (G : ℕ → ℕ → Type 0)
+    → ((q : List ℕ) (f u : ℕ) → f < nodeWords → G f u → P q → P (setWord q n f u)) → Fills G standingLinked k v s x y c
+    → P p → P (fillNode p n k v s x y c)
+fill-keeps = fill-as-keeps standingLinked
 
-pub fill-past : (p : List ℕ) (n k v : ℕ) (s : Side) (x y c : ℕ) → 1 ≤ n → length p ≤ n * nodeWords - nodeWords → fillNode p n k v s x y c ≡ p
-fill-past p n k v s x y c h past =
-    fill-keeps-any (λ q. q ≡ p) p n k v s x y c
+pub fill-keeps-any : (P : List ℕ → Type 0) (p : List ℕ) (n k v : ℕ) (s : Side) (x y c : ℕ)
+    → ((q : List ℕ) (f u : ℕ) → f < nodeWords → P q → P (setWord q n f u)) → P p → P (fillNode p n k v s x y c)
+fill-keeps-any = fill-as-any standingLinked
+
+-- filling no node, or one past the pool's end, changes nothing
+pub fill-as-none : (a : ℕ) (p : List ℕ) (k v : ℕ) (s : Side) (x y c : ℕ) → fillAs a p 0 k v s x y c ≡ p
+fill-as-none a p k v s x y c = fill-as-any a (λ q. q ≡ p) p 0 k v s x y c (λ q f u l e. set-none q f u ∙ e) refl
+
+pub fill-as-past : (a : ℕ) (p : List ℕ) (n k v : ℕ) (s : Side) (x y c : ℕ) → 1 ≤ n → length p ≤ n * nodeWords - nodeWords → fillAs a p n k v s x y c ≡ p
+fill-as-past a p n k v s x y c h past =
+    fill-as-any a (λ q. q ≡ p) p n k v s x y c
     (λ q f u l e. let g : length q ≡ length p = ap length e in set-at q n f u h ∙ (set-out q (place n f) u (omega arith) ∙ e))
     refl
 
-fill-outside : (p : List ℕ) (n k v : ℕ) (s : Side) (x y c a : ℕ) (l : List ℕ) → ¬ (n ∈ l) → Chain p a l → Chain (fillNode p n k v s x y c) a l
-fill-outside p n k v s x y c a l out h = fill-keeps-any (λ q. Chain q a l) p n k v s x y c (λ q f u i j. chain-outside q n f u a l i out j) h
+fill-outside : (t : ℕ) (p : List ℕ) (n k v : ℕ) (s : Side) (x y c a : ℕ) (l : List ℕ) → ¬ (n ∈ l) → Chain p a l → Chain (fillAs t p n k v s x y c) a l
+fill-outside t p n k v s x y c a l out h = fill-as-any t (λ q. Chain q a l) p n k v s x y c (λ q f u i j. chain-outside q n f u a l i out j) h
 
 -- Take: the first node is taken and filled, the rest stays in order.
 last-after : (p : List ℕ) (n m z : ℕ) (l : List ℕ) → Chain p n l → z ≡ lastOf (m ∷ l) → cond (eqb n 0) 0 z ≡ lastOf l
 last-after p n m z [] h e = rw (eq-eqb n 0 h)
 last-after p n m z (k ∷ l) h e = rw (ne-eqb n 0 (let a = h .0 in let b = h .1 .low in omega arith)) e
 
-pub take-queue : (st : State) (n : ℕ) (l : List ℕ) (k v : ℕ) (s : Side) (x y c : ℕ) → Queue st (n ∷ l) → ¬ (n ∈ l) → Queue (takeNode st k v s x y c) l
-unfolding takeNode takeFree withQueue
-take-queue st n l k v s x y c q out =
+pub take-as-queue : (t : ℕ) (st : State) (n : ℕ) (l : List ℕ) (k v : ℕ) (s : Side) (x y c : ℕ) → Queue st (n ∷ l) → ¬ (n ∈ l) → Queue (takeAs t st k v s x y c) l
+unfolding takeAs takeFree withQueue
+take-as-queue t st n l k v s x y c q out =
     let first = q .chain .0 in
     let rest = rw (sym first) at (q .chain .2) in
     record {
-      chain = fill-outside (st .pool) (st .register .first) k v s x y c (word (st .pool) (st .register .first) nextWord) l (rw first out) rest;
+      chain = fill-outside t (st .pool) (st .register .first) k v s x y c (word (st .pool) (st .register .first) nextWord) l (rw first out) rest;
       last = last-after (st .pool) (word (st .pool) (st .register .first) nextWord) n (st .register .last) l rest (q .last);
     }
+
+pub take-queue : (st : State) (n : ℕ) (l : List ℕ) (k v : ℕ) (s : Side) (x y c : ℕ) → Queue st (n ∷ l) → ¬ (n ∈ l) → Queue (takeNode st k v s x y c) l
+take-queue = take-as-queue standingLinked
 
 -- Free: a node that is not in the queue goes to its end.
 not-last : (m k : ℕ) (l : List ℕ) → ¬ (m ∈ (k ∷ l)) → lastOf (k ∷ l) ≢ m

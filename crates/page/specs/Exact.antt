@@ -13,7 +13,7 @@ use Rattle.base.specs.Lists.{_∈_}
 use Rattle.datatypes.specs.declared.Side.the-variants.{L, R}
 use Rattle.spec.specs.Numbers.{wordLimit, recordLimit}
 use Rattle.spec.specs.Pool.{word, keyWord, leftWord, rightWord, colourWord, standingWord, nextWord, recordLowWord, recordHighWord}
-use Rattle.spec.specs.Pool.{redColour, standingRetired, recordAt, child, nodes, nodeInRange, poolInRange}
+use Rattle.spec.specs.Pool.{redColour, standingApart, recordAt, child, nodes, nodeInRange, poolInRange}
 use Rattle.spec.specs.Register.{State, registerInRange}
 use Rattle.laws.specs.Tests.{and-left, and-right, lentNumber, lent}
 use Rattle.texts.specs.Ascii.{blank}
@@ -48,7 +48,7 @@ unfolding nodeInRange
 links-of p c n h =
     let left = leb (word p n leftWord) c in
     let right = leb (word p n rightWord) c in
-    let others = leb (word p n colourWord) redColour && leb (word p n standingWord) standingRetired in
+    let others = leb (word p n colourWord) redColour && leb (word p n standingWord) standingApart in
     let next = leb (word p n nextWord) c in
     let t = and-left (left && right) others (and-left (left && right && others) next h) in
     (leb-true (word p n leftWord) c (and-left left right t), leb-true (word p n rightWord) c (and-right left right t))

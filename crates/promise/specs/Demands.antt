@@ -14,21 +14,24 @@ use Rattle.datatypes.specs.declared.Side.the-variants.{L, R}
 use Rattle.datatypes.specs.declared.Link.{Link}
 use Rattle.datatypes.specs.declared.Link.the-variants.{Root, Left, Right}
 use Rattle.datatypes.specs.declared.Step.{Step}
+use Rattle.datatypes.specs.declared.Step.the-variants.{LinkAll}
 use Rattle.datatypes.specs.declared.Kind.{Kind}
 use Rattle.datatypes.specs.declared.Reader.{Reader}
 use Rattle.datatypes.specs.declared.Kind.the-variants as kind
 use Rattle.sequential.specs.Tree.{Colour, red, black, Tree, leaf, node}
-use Rattle.sequential.specs.Delete.{changedBy}
+use Rattle.sequential.specs.Delete.{listInsertion, changedBy}
+use Rattle.sequential.specs.Balanced.{balancedTree}
 use Rattle.base.specs.Lists.{_∈_, Distinct}
 use Rattle.spec.specs.Numbers.{slots, mostStores}
 use Rattle.spec.specs.Pool.{word, child, nodes, keyWord, recordAt, colourWord, standingWord, holdersWord}
-use Rattle.spec.specs.Pool.{standingFree, standingLinked, standingRetired, blackColour, redColour}
+use Rattle.spec.specs.Pool.{standingFree, standingLinked, standingRetired, standingApart, blackColour, redColour}
 use Rattle.spec.specs.Register.{State, state, withReader, readerOf, storeOf, linkNode, hasSlot, begunReader}
 use Rattle.spec.specs.Turn.{profile}
-use Rattle.spec.specs.Calls.{Answer, go, absent, found, next, more, done, wait, refused, Outcome, unless, Call, writing, call, reading, writeInHand}
+use Rattle.spec.specs.Calls.{Answer, go, absent, found, next, more, done, wait, refused, Outcome, unless, Call, writing, insertingList, call, reading, writeInHand}
 use Rattle.spec.specs.Calls.{_gives_, wrongLength, outOfRange, slotTooHigh, readerStep, readerTurn, turnCount}
-use Rattle.spec.specs.PlainList.{Ticket, carriedOut, noticeOf, recordFor, acceptedWrites}
+use Rattle.spec.specs.PlainList.{Ticket, Plain, carriedOut, noticeOf, recordFor, acceptedWrites}
 use Rattle.spec.specs.FreeQueue.{Queue}
+use Rattle.spec.specs.Bulk.{freeAfter}
 use Rattle.promise.specs.Run.{Start, justSetUp, Reads, callAt, indexAfter, plainAfter, ticketsAfter, Gives, Turns, Reading, Lookup, NextSearch, comparedIn}
 
 -- 'Lookup': found means that at one of the lookup's moments the plain list has the wanted key with just this record, absent that at one of
@@ -103,11 +106,24 @@ pub record Reaches (st : State) (s m : ℕ) : Type 0 where
 abbrev pub takesOne : Step → Bool
 takesOne x = profile x .takes
 
-pub record Takes (st : State) (c : Call) (m : ℕ) : Type 0 where
+pub record TakesOne (st : State) (c : Call) (m : ℕ) : Type 0 where
   pub turn : c ≡ writing
   pub makes : noticeOf (call st c .answer) ≡ carriedOut
   pub step : takesOne (storeOf (st .register) 0 .step) ≡ true
   pub first : st .register .first ≡ m
+
+-- 02, C-24: an accepted list takes the first free nodes, as many as it has keys.
+pub record TakesMany (st : State) (c : Call) (m : ℕ) : Type 0 where
+  pub keys : List ℕ
+  pub records : List ℕ
+  pub list : c ≡ insertingList keys records
+  pub makes : noticeOf (call st c .answer) ≡ carriedOut
+  pub place : ℕ
+  pub below : place < length keys
+  pub node : freeAfter (st .pool) (st .register .first) place ≡ m
+
+abbrev pub Takes : State → Call → ℕ → Type 0
+Takes st c m = TakesOne st c m ⊎ TakesMany st c m
 
 -- the standing of node n
 abbrev pub standingAt : State → ℕ → ℕ
@@ -167,8 +183,19 @@ pub record StoresOne (before after : State) (l : Link) (n : ℕ) : Type 0 where
   pub others : (m : Link) → m ≢ l → TreeLink (before .pool) m → linkNode after m ≡ linkNode before m
   pub tickets : (m : ℕ) → standingAt before m ≡ standingLinked
       → (word (after .pool) m keyWord ≡ word (before .pool) m keyWord) × (recordAt (after .pool) m ≡ recordAt (before .pool) m)
-  -- no other node than n comes to stand linked
-  pub comes : (m : ℕ) → standingAt before m ≢ standingLinked → standingAt after m ≡ standingLinked → m ≡ n
+  -- no other node than n comes to stand linked, but for those that were made apart (02, C-24); all of these do
+  pub comes : (m : ℕ) → standingAt before m ≢ standingLinked → standingAt after m ≡ standingLinked → (m ≡ n) ⊎ (standingAt before m ≡ standingApart)
+  pub apart : (m : ℕ) → standingAt before m ≡ standingApart → standingAt after m ≡ standingLinked
+
+-- 02, C-24: the list in hand that has not made its store, and the tree made of it
+abbrev pub ListInHand : Plain → List ℕ → List ℕ → Type 0
+ListInHand x ks vs = (x .inHand ≡ some (listInsertion ks vs)) × (x .made ≡ 0)
+
+pub record ApartRight (st : State) (x : Plain) : Type 0 where
+  pub planned : (ks vs : List ℕ) → ListInHand x ks vs
+      → (top : ℕ) × (storeOf (st .register) 0 .step ≡ LinkAll (length ks) top) × Stands (st .pool) top (balancedTree ks vs)
+      × ((n : ℕ) → (standingAt st n ≡ standingApart) ↔ Leads (st .pool) top n)
+  pub none : (n : ℕ) → standingAt st n ≡ standingApart → (ks : List ℕ) × (vs : List ℕ) × ListInHand x ks vs
 
 pub record Demand2 (S : Start) (cs : List Call) : Type 0 where
   -- whenever no write is in hand the tree is the sequential tree of the writes accepted, in order, on the start's (`leaf` when just set up)
@@ -177,10 +204,14 @@ pub record Demand2 (S : Start) (cs : List Call) : Type 0 where
   -- 'Pool and register', standing: the nodes that stand linked are those that links lead to from the root. So at rest they are that tree's.
   pub linked : (j n : ℕ) → (standingAt (indexAfter S cs j) n ≡ standingLinked) ↔ Leads (indexAfter S cs j .pool) (indexAfter S cs j .register .root) n
   pub free : (j : ℕ) → FreeRight (indexAfter S cs j)
-  -- each node from 1 to N stands linked, free or retired
+  -- each node from 1 to N stands linked, free or retired, or (02, C-24) made apart
   pub standing : (j n : ℕ) → 1 ≤ n → n ≤ S .size
       → (standingAt (indexAfter S cs j) n ≡ standingLinked)
-      ⊎ ((standingAt (indexAfter S cs j) n ≡ standingFree) ⊎ (standingAt (indexAfter S cs j) n ≡ standingRetired))
+      ⊎ ((standingAt (indexAfter S cs j) n ≡ standingFree)
+      ⊎ ((standingAt (indexAfter S cs j) n ≡ standingRetired) ⊎ (standingAt (indexAfter S cs j) n ≡ standingApart)))
+  -- 02, C-24: while an accepted list has not made its store, its tree stands apart: the nodes made apart are just those that links lead to from its
+  -- top, which the planned store names. At all other times no node is made apart.
+  pub apart : (j : ℕ) → ApartRight (indexAfter S cs j) (plainAfter S cs j)
   -- 'Retire' and 'Reader's turn': a node that stands retired has a holder that is reading
   pub retiredHeld : (j n : ℕ) → standingAt (indexAfter S cs j) n ≡ standingRetired
       → (s : ℕ) × (s < slots) × (hasSlot (word (indexAfter S cs j .pool) n holdersWord) s ≡ true) × Reads (indexAfter S cs j) s

@@ -14,7 +14,7 @@ use Rattle.datatypes.specs.declared.Reader.{Reader}
 use Rattle.sequential.specs.Tree.{Tree, leaf}
 use Rattle.spec.specs.Pool.{nodes}
 use Rattle.spec.specs.Register.{State, fresh, readerOf}
-use Rattle.spec.specs.Calls.{Answer, ok, absent, found, next, Call, inserting, deleting, writing, beginning, turning, givingUp, call, reading, setUp}
+use Rattle.spec.specs.Calls.{Answer, ok, absent, found, next, Call, inserting, deleting, writing, beginning, turning, givingUp, insertingList, call, reading, setUp}
 use Rattle.spec.specs.PlainList.{Ticket, Plain, noneAccepted, Notice, turnedDown, waited, carriedOut, noticeOf, feed}
 
 -- Where a run starts: N, pool and register, the sequential tree that stands there, and the plain list's tickets. 01's own start is `justSetUp N`.
@@ -75,6 +75,7 @@ thenCompared before s x carriedOut (deleting k) = before
 thenCompared before s x carriedOut writing = before
 thenCompared before s x carriedOut (beginning κ t k) = before
 thenCompared before s x carriedOut (givingUp t) = before
+thenCompared before s x carriedOut (insertingList ks vs) = before
 
 abbrev pub perhapsCompared : List ℕ → ℕ → State → Option Call → List ℕ
 perhapsCompared before s st none = before

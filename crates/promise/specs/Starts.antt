@@ -8,7 +8,7 @@ use lib.ListN.{length}
 use Rattle.sequential.specs.Tree.{find}
 use Rattle.sequential.specs.Proper.{Proper}
 use Rattle.spec.specs.Numbers.{nodeWords, leastNodes, mostNodes, slots}
-use Rattle.spec.specs.Pool.{standingLinked, standingRetired}
+use Rattle.spec.specs.Pool.{standingLinked, standingRetired, standingApart}
 use Rattle.spec.specs.Register.{noWrite}
 use Rattle.spec.specs.Calls.{outOfRange, reading}
 use Rattle.spec.specs.PlainList.{recordFor, Unique}
@@ -32,6 +32,7 @@ pub record SoundStart (S : Start) : Type 0 where
   pub linked : (n : ℕ) → (standingAt (S .index) n ≡ standingLinked) ↔ Leads (S .index .pool) (S .index .register .root) n
   -- all others stand free and are queued
   pub unretired : (n : ℕ) → standingAt (S .index) n ≢ standingRetired
+  pub unapart : (n : ℕ) → standingAt (S .index) n ≢ standingApart
   pub free : FreeRight (S .index)
   -- the plain list has the tree's tickets, one for a key; keys held is their number
   pub told : (k : ℕ) → recordFor k (S .tickets) ≡ find (S .tree) k

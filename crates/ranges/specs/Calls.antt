@@ -1,32 +1,39 @@
 -- No call leaves the ranges: refusal 2 is never met once they hold.
-use Prim.Native.Nat.{ℕ, _+_, _-_, _≤_}
+use Prim.Native.Nat.{ℕ, _+_, _-_, _%_, _<_, _≤_}
 use mathlib.Core.Path.{_≡_, refl}
-use mathlib.Core.Bool.{true, false}
-use mathlib.Core.List.{List}
+use mathlib.Core.Bool.{Bool, true, false, cond, not, _&&_, false≢true}
+use mathlib.Core.List.{List, [], _∷_}
 use native.Mathlib.Omega.{arith}
-use native.Mathlib.Decide.{decLt}
-use lib.ListN.{getD}
-use borrow.Author.Tests.{le-leb, lt-ltb, le-ltb}
+use native.Mathlib.Decide.{ℕ-discrete, decLt}
+use lib.ListN.{getD, length}
+use lib.Dec.{eqb, leb}
+use borrow.Author.Tests.{le-leb, lt-ltb, le-ltb, eq-eqb, leb-true, ltb-false, not-false}
 use Rattle.base.specs.Walk.{in-all}
 use Rattle.datatypes.specs.declared.Link.{Link}
 use Rattle.datatypes.specs.declared.Link.the-variants.{Root, Left, Right}
 use Rattle.datatypes.specs.declared.Place.{Place}
 use Rattle.datatypes.specs.declared.Place.the-variants.{Held, Empty, TooDeep}
 use Rattle.datatypes.specs.declared.Step.{Step}
-use Rattle.datatypes.specs.declared.Step.the-variants.{Vacant, Insert, Replace, DiagLower, DiagRaise, ZigLowerA, ZigLowerC, ZigRaise, Unlink, Adopt, Promote, Publish, Detach}
+use Rattle.datatypes.specs.declared.Step.the-variants.{Vacant, Insert, Replace, DiagLower, DiagRaise, ZigLowerA, ZigLowerC, ZigRaise, Unlink, Adopt, Promote, Publish, Detach, LinkAll}
 use Rattle.datatypes.specs.declared.Write.{Write}
 use Rattle.datatypes.specs.declared.Reader.{Reader}
-use Rattle.spec.specs.Numbers.{slots, pathBound, mostStores}
-use Rattle.spec.specs.Pool.{word, leftWord, rightWord, colourWord, standingWord, nextWord, nodeInRange, poolInRange}
+use Rattle.datatypes.specs.declared.Side.the-variants.{L}
+use Rattle.spec.specs.Numbers.{slots, pathBound, mostStores, mostLevels, leastNodes, mostNodes, nodeWords, reserve}
+use Rattle.spec.specs.Pool.{word, leftWord, rightWord, colourWord, standingWord, nextWord, nodes, nodeInRange, poolInRange, lengthRight, blackColour, redColour, standingApart}
 use Rattle.spec.specs.Register.{State, state, vacant, readerOf, storeOf, withReader, withWrite, linkInRange, nodeNumber, stepInRange}
 use Rattle.spec.specs.Register.{storeInRange, readerInRange, registerInRange, writeOf, lessFirst}
 use Rattle.spec.specs.Free.{endReading}
 use Rattle.spec.specs.Search.{towards}
-use Rattle.spec.specs.Plan.{Plan}
+use Rattle.spec.specs.Plan.{Plan, store}
 use Rattle.spec.specs.Turn.{stepFinds, stepMade}
 use Rattle.spec.specs.Calls.{Outcome, outOfRange, namedNode, namedOutOfRange, placeOf, insertAt, deleteAt, stored, Call, childFor}
-use Rattle.readers.specs.CallCase.{CallCase, refuses, plansInsert, plansDelete, waits, stores, begins, loads, misses, meets, finds, leaves, Loads, atRoot, lookingUp, searching}
-use Rattle.ranges.specs.Fits.{PoolOk, child-fits, Within, within-reader, within-end, within-write}
+use Rattle.readers.specs.CallCase.{CallCase, tests-pass, refuses, plansInsert, plansDelete, plansList, waits, stores, begins, loads, misses, meets, finds, leaves, Loads, atRoot, lookingUp, searching}
+use Rattle.spec.specs.Calls.{listTests, acceptedList}
+use Rattle.spec.specs.Bulk.{grownTree}
+use Rattle.sequential.specs.Balanced.{all, blackLevels}
+use Rattle.heap.specs.Grows.{grow-each}
+use Rattle.laws.specs.Tests.{and-right}
+use Rattle.ranges.specs.Fits.{PoolOk, child-fits, Within, within-reader, within-end, within-write, within-take-as, within-link}
 use Rattle.ranges.specs.Stores.{step-within}
 use Rattle.ranges.specs.Writes.{Number, LinkOk, StepOk, WriteOk, write-of, write-less}
 use Rattle.ranges.specs.Plans.{PlaceOk, seek-ok, PlanOk, insert-ok, delete-ok}
@@ -59,6 +66,7 @@ step-true capacity Adopt h = refl
 step-true capacity Promote h = refl
 step-true capacity (Publish n) h = number-true capacity n h
 step-true capacity (Detach k) h = refl
+step-true capacity (LinkAll m n) h = rw (le-leb m capacity (h .0), le-leb n capacity (h .1))
 
 store-true : (capacity : ℕ) (w : Write) (i : ℕ) → WriteOk capacity w → storeInRange capacity w i ≡ true
 unfolding storeInRange
@@ -74,7 +82,7 @@ node-true capacity p n h =
       le-leb (word p n leftWord) capacity (h n leftWord (omega arith) .left refl),
       le-leb (word p n rightWord) capacity (h n rightWord (omega arith) .right refl),
       le-leb (word p n colourWord) 1 (h n colourWord (omega arith) .colour refl),
-      le-leb (word p n standingWord) 2 (h n standingWord (omega arith) .standing refl),
+      le-leb (word p n standingWord) 3 (h n standingWord (omega arith) .standing refl),
       le-leb (word p n nextWord) capacity (h n nextWord (omega arith) .next refl),
     )
 
@@ -122,12 +130,33 @@ ranged-plan : (capacity : ℕ) (st : State) (w : Plan) → Within capacity st �
 unfolding withWrite
 ranged-plan capacity st w h o = record { within = within-write capacity st (writeOf (w .stores)) h; write = write-of capacity (w .stores) (o .stores) (o .few) }
 
-ranged-store : (capacity : ℕ) (st : State) (l : Link) (x : Step) → Ranged capacity st → stepFinds st l x ≡ true → Ranged capacity (stored (stepMade st l x) .after)
+-- An accepted list: what each node taken and each link set keeps.
+list-within : (capacity : ℕ) (ks vs : List ℕ) (st : State) → length ks ≤ 1023 → Within capacity st
+    → Within capacity (grownTree st ks vs .after) × (grownTree st ks vs .top ≤ capacity)
+unfolding grownTree
+list-within capacity ks vs st few h =
+    grow-each ks vs (blackLevels (length ks)) (λ k x. Within capacity x) (λ n. n ≤ capacity) (omega arith) (λ k x w. w .first)
+    (λ k x i level n u w. within-take-as standingApart capacity x _ _ L n 0 _ (omega arith) u (omega arith) (colour-low (leb level (blackLevels (length ks)))) w)
+    (λ k x n v a u w. within-link capacity x (Right n) v u w)
+    mostLevels 0 (all (length ks)) st (omega arith) h
+  where
+    colour-low : (b : Bool) → cond b blackColour redColour ≤ 1
+    colour-low true = omega arith
+    colour-low false = omega arith
+
+ranged-list : (capacity : ℕ) (st : State) (ks vs : List ℕ) → Ranged capacity st → length ks ≤ 1023 → length ks ≤ capacity → Ranged capacity (acceptedList (grownTree st ks vs) (length ks) .after)
+unfolding withWrite
+ranged-list capacity st ks vs h few low =
+    let g = list-within capacity ks vs st few (h .within) in
+    let stores = store Root (LinkAll (length ks) (grownTree st ks vs .top)) ∷ [] in
+    record { within = within-write capacity (grownTree st ks vs .after) (writeOf stores) (g .0); write = write-of capacity stores ((tt, (low, g .1)), tt) (omega arith) }
+
+ranged-store : (capacity : ℕ) (st : State) (l : Link) (x : Step) → Ranged capacity st → StepOk capacity x → stepFinds st l x ≡ true → Ranged capacity (stored (stepMade st l x) .after)
 unfolding stored withWrite
-ranged-store capacity st l x h f =
+ranged-store capacity st l x h ok f =
     let m = stepMade st l x in
     record {
-      within = within-write capacity (m .after) (lessFirst (m .after .register .write)) (step-within capacity st (h .within) l x);
+      within = within-write capacity (m .after) (lessFirst (m .after .register .write)) (step-within capacity st (h .within) l x ok);
       write = write-less capacity (m .after .register .write) (step-hand capacity st (h .within) (h .write) l x f);
     }
 
@@ -146,14 +175,28 @@ load-fits capacity st s y n h (atRoot a e f) = rw f (h .root)
 load-fits capacity st s y n h (lookingUp κ a b e f) = rw f (child-loaded-fits capacity st (readerOf (st .register) s) h)
 load-fits capacity st s y n h (searching κ a e f) = rw f (child-loaded-fits capacity st (readerOf (st .register) s) h)
 
+in-hand : (n : ℕ) → not (eqb n 0) ≡ true → 0 < n
+in-hand n e = elim (ℕ-discrete n 0) [ yes z ↦ absurd (false≢true (rw (eq-eqb n 0 z) at e)) | no d ↦ omega arith ]
+
+pub length-most : (p : List ℕ) → lengthRight p ≡ true → nodes p ≤ mostNodes
+unfolding lengthRight
+length-most p e = leb-true (nodes p) mostNodes (and-right (eqb (length p % nodeWords) 0 && leb leastNodes (nodes p)) (leb (nodes p) mostNodes) e)
+
 pub ranged-next : (capacity : ℕ) (st : State) (c : Call) (o : Outcome) → CallCase st c o → Ranged capacity st → Ranged capacity (o .after)
 ranged-next capacity st c o (refuses d x) h = h
 ranged-next capacity st c o (plansInsert k v e) h =
     ranged-plan capacity st (insertAt st k v (placeOf st k)) (h .within) (insert-at capacity st k v (h .within) (placeOf st k) (place-ok capacity st k (h .within)))
 ranged-next capacity st c o (plansDelete k e) h =
     ranged-plan capacity st (deleteAt st (placeOf st k)) (h .within) (delete-at capacity st (h .within) (placeOf st k) (place-ok capacity st k (h .within)))
+ranged-next capacity st c o (plansList ks vs e) h =
+    let t = tests-pass (listTests st ks vs) (omega arith, (omega arith, (omega arith, (omega arith, (omega arith, (omega arith, (omega arith, (omega arith, tt)))))))) e in
+    let few = ltb-false (nodes (st .pool) - reserve) (length ks) (t .1 .1 .1 .1 .1 .0) in
+    let size = h .within .size in
+    let most = length-most (st .pool) (not-false (lengthRight (st .pool)) (t .0)) in
+    ranged-list capacity st ks vs h (omega arith) (omega arith)
 ranged-next capacity st c o (waits d) h = h
-ranged-next capacity st c o (stores a w f) h = ranged-store capacity st (storeOf (st .register) 0 .link) (storeOf (st .register) 0 .step) h f
+ranged-next capacity st c o (stores a w f) h =
+    ranged-store capacity st (storeOf (st .register) 0 .link) (storeOf (st .register) 0 .step) h (h .write .come 0 (in-hand (st .register .write .count) w) .1) f
 ranged-next capacity st c o (begins κ s k u e) h = ranged-reader capacity st s _ (omega arith) h
 ranged-next capacity st c o (loads s y n p l d) h = ranged-reader capacity st s _ (load-fits capacity st s y n (h .within) l) h
 ranged-next capacity st c o (misses s y n p l e f) h = ranged-end capacity st s h

@@ -21,20 +21,20 @@ use Rattle.datatypes.specs.declared.Write.{Write}
 use Rattle.datatypes.specs.Side.{other}
 use Rattle.spec.specs.Numbers.{nodeWords}
 use Rattle.spec.specs.Pool.{place, word, setWord, child, paint, nodes, recordHighWord, leftWord, rightWord, linkWord, redColour, standingRetired}
-use Rattle.spec.specs.Pool.{colourWord, standingWord, holdersWord, nextWord, standingFree, standingLinked, standingRetired}
+use Rattle.spec.specs.Pool.{colourWord, standingWord, holdersWord, nextWord, standingFree, standingLinked, standingRetired, standingApart}
 use Rattle.spec.specs.Register.{State, state, noReader, readerOf, withRoot, withQueue, withHeld, withReader, withAwaited, withWrite, countUp}
 use Rattle.spec.specs.Register.{countDown, nodeAt, linkNode, setLink, dropSlot, readingSlots}
-use Rattle.spec.specs.Free.{queueEmpty, takeFree, takeNode, freeNode, retire, retireTwo, release, endReading}
+use Rattle.spec.specs.Free.{queueEmpty, takeFree, takeNode, freeNode, retire, retireTwo, release, endReading, takeAs}
 use Rattle.laws.specs.Words.{length-setWord, set-none, word-at, set-at, word-other}
-use Rattle.laws.specs.Queue.{fill-keeps}
-use Rattle.readers.specs.Words.{fill-length}
+use Rattle.laws.specs.Queue.{fill-as-keeps}
+use Rattle.readers.specs.Words.{fill-as-length}
 
 -- word f may be v; the capacity is N
 pub record WordOk (capacity f v : ℕ) : Type 0 where
   pub left : f ≡ leftWord → v ≤ capacity
   pub right : f ≡ rightWord → v ≤ capacity
   pub colour : f ≡ colourWord → v ≤ redColour
-  pub standing : f ≡ standingWord → v ≤ standingRetired
+  pub standing : f ≡ standingWord → v ≤ standingApart
   pub next : f ≡ nextWord → v ≤ capacity
 
 abbrev pub PoolOk : ℕ → List ℕ → Type 0
@@ -79,7 +79,7 @@ fit-link capacity R v h = omega arith
 fit-colour : (capacity v : ℕ) → v ≤ 1 → WordOk capacity colourWord v
 fit-colour capacity v h = omega arith
 
-fit-standing : (capacity v : ℕ) → v ≤ 2 → WordOk capacity standingWord v
+pub fit-standing : (capacity v : ℕ) → v ≤ standingApart → WordOk capacity standingWord v
 fit-standing capacity v h = omega arith
 
 fit-holders : (capacity v : ℕ) → WordOk capacity holdersWord v
@@ -131,22 +131,23 @@ count-up : (capacity n : ℕ) → n ≤ capacity → countUp capacity n ≤ capa
 count-up capacity n h = elim (decLt n capacity) [ yes u ↦ rw (lt-ltb n capacity u) (omega arith) | no u ↦ rw (le-ltb n capacity (omega arith)) h ]
 
 -- Take.
-pub within-take : (capacity : ℕ) (st : State) (k v : ℕ) (s : Side) (x y c : ℕ) → x ≤ capacity → y ≤ capacity → c ≤ 1 → Within capacity st → Within capacity (takeNode st k v s x y c)
-unfolding takeNode takeFree withQueue
-within-take capacity st k v s x y c hx hy hc h =
+pub within-take-as : (t capacity : ℕ) (st : State) (k v : ℕ) (s : Side) (x y c : ℕ) → t ≤ standingApart → x ≤ capacity → y ≤ capacity → c ≤ 1 → Within capacity st
+    → Within capacity (takeAs t st k v s x y c)
+unfolding takeAs takeFree withQueue
+within-take-as t capacity st k v s x y c ht hx hy hc h =
     let p = st .pool in
     let n = st .register .first in
     let next = word p n nextWord in
     record {
-      size = ap (λ m. m / nodeWords) (fill-length p n k v s x y c) ∙ h .size;
-      fits = fill-keeps (PoolOk capacity) p n k v s x y c (WordOk capacity) (λ q f u. fits-set capacity q n f u) record {
+      size = ap (λ m. m / nodeWords) (fill-as-length t p n k v s x y c) ∙ h .size;
+      fits = fill-as-keeps t (PoolOk capacity) p n k v s x y c (WordOk capacity) (λ q f u. fits-set capacity q n f u) record {
         key = fit-ticket capacity _ k (omega arith);
         low = fit-ticket capacity _ _ (omega arith);
         high = fit-ticket capacity _ _ (omega arith);
         near = fit-link capacity s x hx;
         far = fit-link capacity (other s) y hy;
         colour = fit-colour capacity c hc;
-        standing = fit-standing capacity standingLinked (omega arith);
+        standing = fit-standing capacity t ht;
         zero = fit-zero capacity;
       } (h .fits);
       root = h .root;
@@ -156,6 +157,9 @@ within-take capacity st k v s x y c hx hy hc h =
       held = h .held;
       readers = h .readers;
     }
+
+pub within-take : (capacity : ℕ) (st : State) (k v : ℕ) (s : Side) (x y c : ℕ) → x ≤ capacity → y ≤ capacity → c ≤ 1 → Within capacity st → Within capacity (takeNode st k v s x y c)
+within-take capacity st k v s x y c hx hy hc h = within-take-as standingLinked capacity st k v s x y c (omega arith) hx hy hc h
 
 -- Free, retire, release.
 pub within-free : (capacity : ℕ) (st : State) (n : ℕ) → n ≤ capacity → Within capacity st → Within capacity (freeNode st n)

@@ -18,16 +18,17 @@ use Rattle.datatypes.specs.declared.Ending.{Ending}
 use Rattle.datatypes.specs.declared.Ending.the-variants.{Balanced, Blacken, Rotate, RotateTwice, Missing}
 use Rattle.datatypes.specs.declared.Fixup.{Fixup}
 use Rattle.datatypes.specs.declared.Step.{Step}
-use Rattle.datatypes.specs.declared.Step.the-variants.{Vacant, Insert, Replace, DiagLower, DiagRaise, ZigLowerA, ZigLowerC, ZigRaise, Unlink, Adopt, Promote, Publish, Detach}
+use Rattle.datatypes.specs.declared.Step.the-variants.{Vacant, Insert, Replace, DiagLower, DiagRaise, ZigLowerA, ZigLowerC, ZigRaise, Unlink, Adopt, Promote, Publish, Detach, LinkAll}
 use Rattle.datatypes.specs.declared.Write.{Write}
 use Rattle.datatypes.specs.Side.{other}
 use Rattle.spec.specs.Pool.{word, setWord, child, nodes, redColour, keyWord, recordAt, standingWord, holdersWord, standingRetired}
 use Rattle.spec.specs.Register.{State, state, noReader, linkNode, setLink, withRoot, withQueue, withHeld, withReader, withAwaited, withWrite, readingSlots, dropSlot}
-use Rattle.spec.specs.Free.{queueEmpty, takeFree, takeNode, freeNode, retire, release, endReading}
+use Rattle.spec.specs.Free.{queueEmpty, takeFree, takeNode, freeNode, retire, release, endReading, takeAs}
 use Rattle.spec.specs.Search.{pathTo}
 use Rattle.spec.specs.Plan.{fixupAfterInsert, paintInsertFixup, paintDeleteFixup, redChild, onlyChild}
 use Rattle.spec.specs.Turn.{painted, colourOf, oneMore, oneLess, endInsert, insertStore, copyNode, diagLower, endDiag, diagRaise, zigLowerA}
 use Rattle.spec.specs.Turn.{zigLowerC, endZig, zigRaise, replaceStore, unlinkStore, adoptStore, promoteStore, movedWrite, publishStore, detachStore, isNode}
+use Rattle.spec.specs.Turn.{linkAllStore}
 use Rattle.spec.specs.Turn.{stepFinds, stepMade, unlinkPath, unlinkFixup, promotePath, promoteFixup}
 use Rattle.heap.specs.Fill.{retire-quiet, retireTwo-quiet}
 use Rattle.laws.specs.Tests.{and-right}
@@ -37,6 +38,10 @@ use Rattle.ranges.specs.Writes.{WriteOk, write-moved}
 abbrev hand : State → Write
 hand st = st .register .write
 
+hand-all : (st : State) (m n : ℕ) → hand (linkAllStore st m n .after) ≡ hand st
+unfolding linkAllStore withHeld withRoot
+hand-all st m n = refl
+
 hand-link : (st : State) (l : Link) (v : ℕ) → hand (setLink st l v) ≡ hand st
 unfolding setLink withRoot
 hand-link st Root v = refl
@@ -44,7 +49,7 @@ hand-link st (Left n) v = refl
 hand-link st (Right n) v = refl
 
 hand-take : (st : State) (k v : ℕ) (s : Side) (x y c : ℕ) → hand (takeNode st k v s x y c) ≡ hand st
-unfolding takeNode takeFree withQueue
+unfolding takeAs takeFree withQueue
 hand-take st k v s x y c = refl
 
 hand-removal : (st : State) (c : Fixup) (x : ℕ) (path : List Link) → hand (paintDeleteFixup st c x path) ≡ hand st
@@ -160,3 +165,4 @@ module _ (capacity : ℕ) (st : State) (h : Within capacity st) (w : WriteOk cap
       let d = filled st (and-right (isNode (linkNode st l)) (not (queueEmpty st)) f) in
       rw (publish-hand st l c) (write-moved capacity (linkNode st l) n (st .register .write) (record { low = omega arith; high = h .first }) w)
   step-hand l (Detach k) f = same _ (hand-retire _ _ ∙ hand-removal _ _ _ _ ∙ hand-link st _ _)
+  step-hand l (LinkAll m n) f = same _ (hand-all st m n)

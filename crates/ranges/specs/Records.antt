@@ -1,6 +1,6 @@
 -- 02, C-18: what holds of every record given holds of every record kept. A record is kept in each node, however it stands, in each planned store
 -- that sets one, and in each slot that remembers a ticket. Every call on every pool and register keeps this.
-use Prim.Native.Nat.{ℕ, zero, suc, _+_, _*_, _<_, _≤_}
+use Prim.Native.Nat.{ℕ, zero, suc, _+_, _-_, _*_, _<_, _≤_}
 use mathlib.Core.Path.{_≡_, refl, subst}
 use mathlib.Core.Bool.{Bool, true, false}
 use mathlib.Core.List.{List, [], _∷_, _++_}
@@ -8,6 +8,7 @@ use mathlib.Core.Logic.{inr}
 use native.Mathlib.Omega.{arith}
 use native.Mathlib.Decide.{ℕ-discrete, decLe, decLt}
 use lib.Dec.{eqb, ltb}
+use borrow.Author.Tests.{ltb-false, not-false}
 use lib.ListN.{length, getD, set, take, replicate, length-take, List·getD-map}
 use lib.Seq.{getD-take, getD-set-same, getD-set-other, set-out}
 use Rattle.base.specs.Lists.{getD-past}
@@ -25,31 +26,37 @@ use Rattle.datatypes.specs.declared.Ending.{Ending}
 use Rattle.datatypes.specs.declared.Ending.the-variants.{Balanced, Blacken, Rotate, RotateTwice, Missing}
 use Rattle.datatypes.specs.declared.Fixup.{Fixup}
 use Rattle.datatypes.specs.declared.Step.{Step}
-use Rattle.datatypes.specs.declared.Step.the-variants.{Vacant, Insert, Replace, DiagLower, DiagRaise, ZigLowerA, ZigLowerC, ZigRaise, Unlink, Adopt, Promote, Publish, Detach}
+use Rattle.datatypes.specs.declared.Step.the-variants.{Vacant, Insert, Replace, DiagLower, DiagRaise, ZigLowerA, ZigLowerC, ZigRaise, Unlink, Adopt, Promote, Publish, Detach, LinkAll}
 use Rattle.datatypes.specs.declared.Store.{Store}
 use Rattle.datatypes.specs.declared.Write.{Write}
 use Rattle.datatypes.specs.declared.Reader.{Reader}
-use Rattle.spec.specs.Numbers.{nodeWords, mostStores}
+use Rattle.spec.specs.Numbers.{nodeWords, mostStores, mostLevels, reserve}
 use Rattle.spec.specs.Pool.{word, setWord, child, nodes, recordAt, keyWord, recordLowWord, recordHighWord, leftWord, rightWord, standingWord}
-use Rattle.spec.specs.Pool.{holdersWord, blackColour, redColour, standingRetired, lengthRight}
+use Rattle.spec.specs.Pool.{holdersWord, blackColour, redColour, standingLinked, standingRetired, standingApart, lengthRight}
 use Rattle.spec.specs.Register.{State, state, noReader, vacant, readerOf, storeOf, remembering, counting, withRoot, withQueue, withHeld, withReader, withAwaited, withWrite}
 use Rattle.spec.specs.Register.{linkNode, setLink, readingSlots, dropSlot, writeOf, lessFirst}
-use Rattle.spec.specs.Free.{takeFree, fillNode, takeNode, freeNode, retire, release, endReading}
+use Rattle.spec.specs.Free.{takeFree, fillAs, takeAs, takeNode, freeNode, retire, release, endReading}
 use Rattle.spec.specs.FreeQueue.{Whole}
 use Rattle.spec.specs.Search.{pathTo}
-use Rattle.spec.specs.Plan.{fixupAfterInsert, fixupAfterRemoval, paintDeleteFixup, onlyChild, turnStores, rotationStores, endingStores, Plan}
+use Rattle.spec.specs.Plan.{fixupAfterInsert, fixupAfterRemoval, paintDeleteFixup, onlyChild, turnStores, rotationStores, endingStores, Plan, store}
 use Rattle.spec.specs.Plan.{insertPlan, twoChildren, successorPath, unlinkPlan, successorPlan, deletePlan}
 use Rattle.spec.specs.Turn.{painted, colourOf, oneMore, oneLess, endInsert, insertStore, copyNode, diagLower, diagRaise, zigLowerA, zigLowerC, zigRaise}
-use Rattle.spec.specs.Turn.{replaceStore, unlinkStore, adoptStore, promoteStore, movedStore, movedWrite, publishStore, detachStore, stepMade}
-use Rattle.spec.specs.Calls.{Outcome, Call, inserting, deleting, writing, beginning, turning, givingUp, call, insert, delete, stored, writerTurn, begin}
+use Rattle.spec.specs.Turn.{replaceStore, unlinkStore, adoptStore, promoteStore, movedStore, movedWrite, publishStore, detachStore, linkAllStore, stepMade}
+use Rattle.spec.specs.Calls.{Outcome, Call, inserting, deleting, writing, beginning, turning, givingUp, insertingList, call, insert, delete, stored, writerTurn, begin}
+use Rattle.spec.specs.Calls.{listTests, acceptedList, insertList}
+use Rattle.spec.specs.Bulk.{grownTree, linkApart, linkAllApart}
+use Rattle.sequential.specs.Balanced.{all, blackLevels}
+use Rattle.heap.specs.Grows.{grow-each}
+use Rattle.readers.specs.Words.{fill-as-length}
+use Rattle.ranges.specs.Calls.{length-most}
 use Rattle.spec.specs.Calls.{readerTurn, giveUp, placeOf, insertAt, deleteAt}
-use Rattle.laws.specs.Words.{word-none}
+use Rattle.laws.specs.Words.{word-none, length-setWord}
 use Rattle.laws.specs.Records.{record-kept, record-other}
-use Rattle.laws.specs.Queue.{fill-none, fill-past}
+use Rattle.laws.specs.Queue.{fill-as-none, fill-as-past}
 use Rattle.laws.specs.Tests.{whole-length}
-use Rattle.heap.specs.Fill.{fill-node, Quiet, free-quiet, retire-quiet, retireTwo-quiet}
+use Rattle.heap.specs.Fill.{fill-as, Quiet, free-quiet, retire-quiet, retireTwo-quiet}
 use Rattle.heap.specs.ColourWork.{ColoursOnly, coloursOnly-insertFixup, coloursOnly-removal, coloursOnly-paint, Coloured, end-diag, end-zig}
-use Rattle.readers.specs.CallCase.{CallCase, call-case, refuses, plansInsert, plansDelete, waits, stores, begins, loads, misses, meets, finds, leaves}
+use Rattle.readers.specs.CallCase.{CallCase, call-case, tests-pass, refuses, plansInsert, plansDelete, plansList, waits, stores, begins, loads, misses, meets, finds, leaves}
 use Rattle.readers.specs.CallCase.{Loads, atRoot, lookingUp, searching}
 use Rattle.ranges.specs.Writes.{padded-at, moved-up}
 
@@ -68,6 +75,26 @@ OfStep P Adopt = Unit {0}
 OfStep P Promote = Unit {0}
 OfStep P (Publish n) = Unit {0}
 OfStep P (Detach k) = Unit {0}
+OfStep P (LinkAll m n) = Unit {0}
+
+-- P holds of every record that a call gives
+abbrev pub GivenBy : (ℕ → Type 0) → Call → Type 0
+GivenBy P (inserting k v) = P v
+GivenBy P (deleting k) = Unit {0}
+GivenBy P writing = Unit {0}
+GivenBy P (beginning κ s k) = Unit {0}
+GivenBy P (turning s) = Unit {0}
+GivenBy P (givingUp s) = Unit {0}
+GivenBy P (insertingList ks vs) = (i : ℕ) → i < length vs → P (getD vs i 0)
+
+-- a tree made of a list: the pool keeps its length
+whole-take : (t : ℕ) (st : State) (k v : ℕ) (s : Side) (x y c : ℕ) → Whole (st .pool) → Whole (takeAs t st k v s x y c .pool)
+unfolding takeAs takeFree
+whole-take t st k v s x y c w = let e = fill-as-length t (st .pool) (st .register .first) k v s x y c in omega arith
+
+whole-right : (st : State) (n v : ℕ) → Whole (st .pool) → Whole (setLink st (Right n) v .pool)
+unfolding setLink
+whole-right st n v w = let e = length-setWord (st .pool) n rightWord v in omega arith
 
 -- of every record kept: in a node, linked, retired or free (no node, and one past the pool's end, reads 0); in a planned store; in a slot
 pub record AllRecords (P : ℕ → Type 0) (st : State) : Type 0 where
@@ -76,6 +103,9 @@ pub record AllRecords (P : ℕ → Type 0) (st : State) : Type 0 where
   pub inSlots : (s : ℕ) → P (readerOf (st .register) s .value)
 
 module _ (P : ℕ → Type 0) where
+  given-at : (vs : List ℕ) (i : ℕ) → ((i : ℕ) → i < length vs → P (getD vs i 0)) → P 0 → P (getD vs i 0)
+  given-at vs i g z = elim (decLt i (length vs)) [ yes u ↦ g i u | no u ↦ rw (getD-past 0 vs i (omega arith)) z ]
+
   -- Pools.
   abbrev OfPool : List ℕ → Type 0
   OfPool p = (n : ℕ) → P (recordAt p n)
@@ -88,14 +118,14 @@ module _ (P : ℕ → Type 0) where
   pool-set p m f v a b h n = rw (record-other p m n f v b (inr a)) (h n)
 
   -- a node filled, with a record that P holds of; no node, or one past the end, is not
-  pool-fill : (p : List ℕ) (m k v : ℕ) (s : Side) (x y c : ℕ) → Whole p → P v → OfPool p → OfPool (fillNode p m k v s x y c)
-  pool-fill p m k v s x y c w g h = elim (ℕ-discrete m 0) [
-    | yes z ↦ rw (z, fill-none p k v s x y c) h
+  pool-fill : (t : ℕ) (p : List ℕ) (m k v : ℕ) (s : Side) (x y c : ℕ) → Whole p → P v → OfPool p → OfPool (fillAs t p m k v s x y c)
+  pool-fill t p m k v s x y c w g h = elim (ℕ-discrete m 0) [
+    | yes z ↦ rw (z, fill-as-none t p k v s x y c) h
     | no d ↦ elim (decLe (m * nodeWords) (length p)) [
-      | no u ↦ rw (fill-past p m k v s x y c (omega arith) (omega arith)) h
+      | no u ↦ rw (fill-as-past t p m k v s x y c (omega arith) (omega arith)) h
       | yes u ↦
-          (let q = fillNode p m k v s x y c in
-          let i = fill-node p m k v s x y c (record { low = omega arith; high = u }) in
+          (let q = fillAs t p m k v s x y c in
+          let i = fill-as t p m k v s x y c (record { low = omega arith; high = u }) in
           λ n. elim (ℕ-discrete m n) [
             | yes e ↦ subst (λ j. P (recordAt q j)) e (rw (i .val-is) g)
             | no e ↦ rw (record-kept p q n (λ f l. i .others n f e (omega arith))) (h n)
@@ -107,13 +137,16 @@ module _ (P : ℕ → Type 0) where
   all-pool : (st : State) (q : List ℕ) → OfPool q → AllRecords P st → AllRecords P (state q (st .register))
   all-pool st q g h = record { inNodes = g; inStores = h .inStores; inSlots = h .inSlots }
 
-  all-take : (st : State) (k v : ℕ) (s : Side) (x y c : ℕ) → Whole (st .pool) → P v → AllRecords P st → AllRecords P (takeNode st k v s x y c)
-  unfolding takeNode takeFree withQueue
-  all-take st k v s x y c w g h = record {
-    inNodes = pool-fill (st .pool) (st .register .first) k v s x y c w g (h .inNodes);
+  all-take-as : (t : ℕ) (st : State) (k v : ℕ) (s : Side) (x y c : ℕ) → Whole (st .pool) → P v → AllRecords P st → AllRecords P (takeAs t st k v s x y c)
+  unfolding takeAs takeFree withQueue
+  all-take-as t st k v s x y c w g h = record {
+    inNodes = pool-fill t (st .pool) (st .register .first) k v s x y c w g (h .inNodes);
     inStores = h .inStores;
     inSlots = h .inSlots;
   }
+
+  all-take : (st : State) (k v : ℕ) (s : Side) (x y c : ℕ) → Whole (st .pool) → P v → AllRecords P st → AllRecords P (takeNode st k v s x y c)
+  all-take st k v s x y c w g h = all-take-as standingLinked st k v s x y c w g h
 
   all-quiet : (st after : State) → Quiet st after → AllRecords P st → AllRecords P after
   all-quiet st after e h = record {
@@ -275,6 +308,21 @@ module _ (P : ℕ → Type 0) where
   unfolding movedWrite
   moved-stores b n w h i = rw (List·getD-map (movedStore b n) (w .stores) i vacant) (h i)
 
+  one-linked : (q : List ℕ) (n : ℕ) → OfPool q → OfPool (linkApart q n)
+  unfolding linkApart
+  one-linked q n h = cond-both {A = List ℕ} OfPool (eqb (word q n standingWord) standingApart) (pool-set q n standingWord standingLinked (omega arith) (omega arith) h) h
+
+  -- An accepted list: each node is filled with a record of the list.
+  all-list : (st : State) (ks vs : List ℕ) → Whole (st .pool) → length ks ≤ 1023 → ((i : ℕ) → P (getD vs i 0)) → AllRecords P st
+      → AllRecords P (acceptedList (grownTree st ks vs) (length ks) .after)
+  unfolding grownTree
+  all-list st ks vs w few g h =
+      let a = grow-each ks vs (blackLevels (length ks)) (λ k x. Whole (x .pool) × AllRecords P x) (λ n. Unit {0}) tt (λ k x y. tt)
+      (λ k x i level n u y. (whole-take standingApart x _ _ L n 0 _ (y .0), all-take-as standingApart x _ _ L n 0 _ (y .0) (g i) (y .1)))
+      (λ k x n v b u y. (whole-right x n v (y .0), all-link x (Right n) v (y .1)))
+      mostLevels 0 (all (length ks)) st (omega arith) (w, h) in
+      all-write _ (writeOf (store Root (LinkAll (length ks) _) ∷ [])) (write-stores (store Root (LinkAll (length ks) _) ∷ []) (tt, tt)) (a .0 .1)
+
   -- The stores. Insert and Replace fill a node with the record given, a copy is filled with its node's. The pool's nodes are whole: a node cut by its
   -- end would get one word of the two.
   module _ (st : State) (w : Whole (st .pool)) (h : AllRecords P st) where
@@ -309,6 +357,14 @@ module _ (P : ℕ → Type 0) where
         (all-write (state (linked .pool) (withAwaited r (readingSlots r))) (movedWrite b n (r .write)) (moved-stores b n (r .write) (a .inStores))
         (all-awaited linked (readingSlots r) a))
 
+    all-linked : (m n : ℕ) → AllRecords P (linkAllStore st m n .after)
+    unfolding linkAllStore linkAllApart withHeld withRoot
+    all-linked m n = record {
+      inNodes = fold-keeps linkApart OfPool 1 (nodes (st .pool) + 1) (st .pool) (λ q i a b x. one-linked q i x) (h .inNodes);
+      inStores = h .inStores;
+      inSlots = h .inSlots;
+    }
+
     all-step : (l : Link) (x : Step) → OfStep P x → AllRecords P (stepMade st l x .after)
     unfolding stepMade replaceStore diagLower diagRaise zigLowerA zigLowerC zigRaise unlinkStore adoptStore promoteStore detachStore
     all-step l Vacant g = h
@@ -323,6 +379,7 @@ module _ (P : ℕ → Type 0) where
     all-step l Adopt g = all-link st _ _ h
     all-step l Promote g = all-retire _ _ (all-removal _ _ _ _ (all-painted _ _ _ (all-held _ _ (all-link st l _ h))))
     all-step l (Publish c) g = all-publish l c
+    all-step l (LinkAll m n) g = all-linked m n
     all-step l (Detach k) g = all-retire _ _ (all-removal _ _ _ _ (all-link st _ _ h))
 
     all-stored : (l : Link) (x : Step) → OfStep P x → AllRecords P (stored (stepMade st l x) .after)
@@ -342,11 +399,16 @@ module _ (P : ℕ → Type 0) where
       let k = word p (x .node) keyWord in
       rw e (cond-both (λ (z : Reader). P (z .value)) (ltb (x .key) k) {x = remembering x k (recordAt p (x .node))} {y = x} (h .inNodes (x .node)) (h .inSlots s))
 
-  all-next : (st : State) (c : Call) (o : Outcome) → Whole (st .pool) → CallCase st c o → ((k v : ℕ) → c ≡ inserting k v → P v) → AllRecords P st → AllRecords P (o .after)
+  all-next : (st : State) (c : Call) (o : Outcome) → Whole (st .pool) → CallCase st c o → GivenBy P c → AllRecords P st → AllRecords P (o .after)
   all-next st c o w (refuses d x) g h = h
   all-next st c o w (plansInsert k v e) g h =
-      all-write st (writeOf (insertAt st k v (placeOf st k) .stores)) (write-stores _ (insert-planned st k v (placeOf st k) (g k v refl))) h
+      all-write st (writeOf (insertAt st k v (placeOf st k) .stores)) (write-stores _ (insert-planned st k v (placeOf st k) g)) h
   all-next st c o w (plansDelete k e) g h = all-write st (writeOf (deleteAt st (placeOf st k) .stores)) (write-stores _ (delete-planned st (placeOf st k))) h
+  all-next st c o w (plansList ks vs e) g h =
+      let t = tests-pass (listTests st ks vs) (omega arith, (omega arith, (omega arith, (omega arith, (omega arith, (omega arith, (omega arith, (omega arith, tt)))))))) e in
+      let few = ltb-false (nodes (st .pool) - reserve) (length ks) (t .1 .1 .1 .1 .1 .0) in
+      let most = length-most (st .pool) (not-false (lengthRight (st .pool)) (t .0)) in
+      all-list st ks vs w (omega arith) (λ i. given-at vs i g (at-none st h)) h
   all-next st c o w (waits d) g h = h
   all-next st c o w (stores a i f) g h = all-stored st w h (storeOf (st .register) 0 .link) (storeOf (st .register) 0 .step) (h .inStores 0)
   all-next st c o w (begins κ s k u e) g h = all-reader st s _ (at-none st h) h
@@ -358,16 +420,17 @@ module _ (P : ℕ → Type 0) where
 
 -- and a call on a pool of a wrong length is refused
 length-refused : (st : State) (c : Call) → lengthRight (st .pool) ≡ false → call st c .after ≡ st
-unfolding insert delete writerTurn begin readerTurn giveUp
+unfolding insert delete writerTurn begin readerTurn giveUp insertList
 length-refused st (inserting k v) e = rw e
 length-refused st (deleting k) e = rw e
 length-refused st writing e = rw e
 length-refused st (beginning κ s k) e = rw e
 length-refused st (turning s) e = rw e
 length-refused st (givingUp s) e = rw e
+length-refused st (insertingList ks vs) e = rw e
 
 -- Every call, on every pool and register.
-pub all-kept : (P : ℕ → Type 0) (st : State) (c : Call) → ((k v : ℕ) → c ≡ inserting k v → P v) → AllRecords P st → AllRecords P (call st c .after)
+pub all-kept : (P : ℕ → Type 0) (st : State) (c : Call) → GivenBy P c → AllRecords P st → AllRecords P (call st c .after)
 all-kept P st c g h = go (lengthRight (st .pool)) refl
   where
     go : (b : Bool) → lengthRight (st .pool) ≡ b → AllRecords P (call st c .after)

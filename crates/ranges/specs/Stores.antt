@@ -1,9 +1,14 @@
 -- No store of the writer leaves the ranges of the pool and of the register's own fields.
-use Prim.Native.Nat.{ℕ, zero, suc, _≤_}
+use Prim.Native.Nat.{ℕ, zero, suc, _+_, _≤_}
+use mathlib.Core.Path.{_≡_, refl, _∙_}
+use native.Mathlib.Decide.{decLe}
+use lib.ListN.{length}
+use borrow.Author.Tests.{le-leb, lt-leb}
 use mathlib.Core.List.{List, [], _∷_}
 use native.Mathlib.Omega.{arith}
 use lib.Dec.{eqb}
-use Rattle.base.specs.Walk.{cond-both}
+use Rattle.base.specs.Walk.{cond-both, fold-keeps}
+use Rattle.laws.specs.Words.{length-setWord}
 use Rattle.datatypes.specs.declared.Side.{Side}
 use Rattle.datatypes.specs.declared.Side.the-variants.{L, R}
 use Rattle.datatypes.specs.declared.Link.{Link}
@@ -13,19 +18,21 @@ use Rattle.datatypes.specs.declared.Ending.{Ending}
 use Rattle.datatypes.specs.declared.Ending.the-variants.{Balanced, Blacken, Rotate, RotateTwice, Missing}
 use Rattle.datatypes.specs.declared.Fixup.{Fixup}
 use Rattle.datatypes.specs.declared.Step.{Step}
-use Rattle.datatypes.specs.declared.Step.the-variants.{Vacant, Insert, Replace, DiagLower, DiagRaise, ZigLowerA, ZigLowerC, ZigRaise, Unlink, Adopt, Promote, Publish, Detach}
+use Rattle.datatypes.specs.declared.Step.the-variants.{Vacant, Insert, Replace, DiagLower, DiagRaise, ZigLowerA, ZigLowerC, ZigRaise, Unlink, Adopt, Promote, Publish, Detach, LinkAll}
 use Rattle.datatypes.specs.Side.{other, linkAt, owner, sideOf}
-use Rattle.spec.specs.Pool.{child, paint, blackColour, redColour}
-use Rattle.spec.specs.Register.{State, state, linkNode, setLink, withAwaited, readingSlots}
+use Rattle.spec.specs.Pool.{word, child, paint, nodes, blackColour, redColour, standingWord, standingLinked, standingApart}
+use Rattle.spec.specs.Bulk.{linkApart, linkAllApart}
+use Rattle.spec.specs.Register.{State, state, linkNode, setLink, withRoot, withHeld, withAwaited, readingSlots}
 use Rattle.spec.specs.Free.{takeNode}
 use Rattle.spec.specs.Search.{pathTo}
 use Rattle.spec.specs.Plan.{fixupAfterInsert, paintInsertFixup, paintDeleteLevels, paintEnd, paintDeleteFixup, redChild, onlyChild, nearest}
 use Rattle.spec.specs.Turn.{painted, colourOf, oneMore, oneLess, endInsert, insertStore, copyColour, risenColour, copyNode, diagLower, underCopy}
-use Rattle.spec.specs.Turn.{endDiag, diagRaise, zigLowerA, zigLowerC, endZig, zigRaise, stepMade}
+use Rattle.spec.specs.Turn.{endDiag, diagRaise, zigLowerA, zigLowerC, endZig, zigRaise, heldMore, linkAllStore, stepMade}
 use Rattle.spec.specs.Turn.{unlinkPath, unlinkFixup, unlinkStore, adoptStore, replaceStore, promotePath, promoteFixup, promoteStore, publishStore, detachPath, detachFixup, detachStore}
 use Rattle.heap.specs.ColourWork.{coloursOnly-paint, coloursOnly-insertFixup, coloursOnly-deleteFixup}
-use Rattle.ranges.specs.Fits.{PoolOk, child-fits, colour-fits, Within, within-pool, within-take, within-retire, within-retireTwo, within-write}
+use Rattle.ranges.specs.Fits.{PoolOk, fits-set, fit-standing, child-fits, colour-fits, Within, within-pool, within-take, within-retire, within-retireTwo, within-write}
 use Rattle.ranges.specs.Fits.{within-awaited, within-link, fits-paint, within-more, within-less, node-fits}
+use Rattle.ranges.specs.Writes.{StepOk}
 
 fits-insertFixup : (capacity m : ℕ) (path : List Link) (p : List ℕ) → PoolOk capacity p → PoolOk capacity (paintInsertFixup m path p)
 unfolding paintInsertFixup
@@ -204,18 +211,43 @@ module _ (capacity : ℕ) (st : State) (h : Within capacity st) where
       let c = linkNode st above in
       within-retire capacity _ c (node-fits capacity st above h) (within-removal capacity _ (detachFixup st l k) (kid R c) path (within-link capacity st above (kid R c) (low R c) h))
 
-  pub step-within : (l : Link) (x : Step) → Within capacity (stepMade st l x .after)
+  all-fit : (q : List ℕ) (n : ℕ) → (length q ≡ length (st .pool)) × PoolOk capacity q → (length (linkApart q n) ≡ length (st .pool)) × PoolOk capacity (linkApart q n)
+  unfolding linkApart
+  all-fit q n g = cond-both {A = List ℕ} (λ x. (length x ≡ length (st .pool)) × PoolOk capacity x) (eqb (word q n standingWord) standingApart)
+      (length-setWord q n standingWord standingLinked ∙ g .0, fits-set capacity q n standingWord standingLinked (omega arith) (fit-standing capacity standingLinked (omega arith)) (g .1)) g
+
+  held-fits : (m k : ℕ) → heldMore capacity m k ≤ capacity
+  held-fits m k = elim (decLe (k + m) capacity) [ yes u ↦ rw (le-leb (k + m) capacity u) u | no u ↦ rw (lt-leb (k + m) capacity (omega arith)) (omega arith) ]
+
+  link-all-within : (m n : ℕ) → n ≤ capacity → Within capacity (linkAllStore st m n .after)
+  unfolding linkAllStore linkAllApart withHeld withRoot
+  link-all-within m n u =
+      let g = fold-keeps linkApart (λ q. (length q ≡ length (st .pool)) × PoolOk capacity q) 1 (nodes (st .pool) + 1) (st .pool) (λ q i a b x. all-fit q i x) (refl, h .fits) in
+      let w = within-pool capacity st (linkAllApart (st .pool)) (g .0) (g .1) h in
+      record {
+        size = w .size;
+        fits = w .fits;
+        root = u;
+        first = h .first;
+        last = h .last;
+        free = h .free;
+        held = rw (h .size) (held-fits m (st .register .held));
+        readers = h .readers;
+      }
+
+  pub step-within : (l : Link) (x : Step) → StepOk capacity x → Within capacity (stepMade st l x .after)
   unfolding stepMade
-  step-within l Vacant = h
-  step-within l (Insert k v) = insert-within l k v
-  step-within l (Replace v) = replace-within l v
-  step-within l (DiagLower s c) = diag-lower-within l s c
-  step-within l (DiagRaise s c) = diag-raise-within l s c
-  step-within l (ZigLowerA s c) = zig-lower-A-within l s c
-  step-within l (ZigLowerC s c) = zig-lower-C-within l s c
-  step-within l (ZigRaise s c) = zig-raise-within l s c
-  step-within l Unlink = unlink-within l
-  step-within l Adopt = adopt-within l
-  step-within l Promote = promote-within l
-  step-within l (Publish c) = publish-within l c
-  step-within l (Detach k) = detach-within l k
+  step-within l (LinkAll m n) ok = link-all-within m n (ok .1)
+  step-within l Vacant ok = h
+  step-within l (Insert k v) ok = insert-within l k v
+  step-within l (Replace v) ok = replace-within l v
+  step-within l (DiagLower s c) ok = diag-lower-within l s c
+  step-within l (DiagRaise s c) ok = diag-raise-within l s c
+  step-within l (ZigLowerA s c) ok = zig-lower-A-within l s c
+  step-within l (ZigLowerC s c) ok = zig-lower-C-within l s c
+  step-within l (ZigRaise s c) ok = zig-raise-within l s c
+  step-within l Unlink ok = unlink-within l
+  step-within l Adopt ok = adopt-within l
+  step-within l Promote ok = promote-within l
+  step-within l (Publish c) ok = publish-within l c
+  step-within l (Detach k) ok = detach-within l k

@@ -28,7 +28,7 @@ both a b e = (and-left a b e, and-right a b e)
 node-fits : (N : ℕ) (p : List ℕ) (n f : ℕ) → nodeInRange p N n ≡ true → WordOk N f (word p n f)
 unfolding nodeInRange
 node-fits N p n f e =
-    let a = both (leb (word p n leftWord) N && leb (word p n rightWord) N && (leb (word p n colourWord) 1 && leb (word p n standingWord) 2)) _ e in
+    let a = both (leb (word p n leftWord) N && leb (word p n rightWord) N && (leb (word p n colourWord) 1 && leb (word p n standingWord) 3)) _ e in
     let b = both (leb (word p n leftWord) N && leb (word p n rightWord) N) _ (a .0) in
     let c = both (leb (word p n leftWord) N) _ (b .0) in
     let d = both (leb (word p n colourWord) 1) _ (b .1) in
@@ -36,7 +36,7 @@ node-fits N p n f e =
       left = λ i. rw i (leb-true _ N (c .0));
       right = λ i. rw i (leb-true _ N (c .1));
       colour = λ i. rw i (leb-true _ 1 (d .0));
-      standing = λ i. rw i (leb-true _ 2 (d .1));
+      standing = λ i. rw i (leb-true _ 3 (d .1));
       next = λ i. rw i (leb-true _ N (a .1));
     }
 

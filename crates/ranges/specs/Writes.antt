@@ -12,7 +12,7 @@ use Rattle.base.specs.Walk.{cond-both}
 use Rattle.datatypes.specs.declared.Link.{Link}
 use Rattle.datatypes.specs.declared.Link.the-variants.{Root, Left, Right}
 use Rattle.datatypes.specs.declared.Step.{Step}
-use Rattle.datatypes.specs.declared.Step.the-variants.{Vacant, Insert, Replace, DiagLower, DiagRaise, ZigLowerA, ZigLowerC, ZigRaise, Unlink, Adopt, Promote, Publish, Detach}
+use Rattle.datatypes.specs.declared.Step.the-variants.{Vacant, Insert, Replace, DiagLower, DiagRaise, ZigLowerA, ZigLowerC, ZigRaise, Unlink, Adopt, Promote, Publish, Detach, LinkAll}
 use Rattle.datatypes.specs.declared.Store.{Store}
 use Rattle.datatypes.specs.declared.Write.{Write}
 use Rattle.spec.specs.Numbers.{mostStores}
@@ -43,6 +43,7 @@ StepOk capacity Adopt = Unit {0}
 StepOk capacity Promote = Unit {0}
 StepOk capacity (Publish n) = Number capacity n
 StepOk capacity (Detach k) = Unit {0}
+StepOk capacity (LinkAll m n) = (m ≤ capacity) × (n ≤ capacity)
 
 abbrev pub StoreOk : ℕ → Store → Type 0
 StoreOk capacity x = LinkOk capacity (x .link) × StepOk capacity (x .step)

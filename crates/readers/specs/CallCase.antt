@@ -20,6 +20,9 @@ use Rattle.spec.specs.Calls.{ok, go, absent, wait, found, next, refused, Outcom
 use Rattle.spec.specs.Calls.{insertTests, deleteTests, waiting, firstFinds, writerTests, beginTests, reading, writeInHand, placeOf, insertAt, deleteAt}
 use Rattle.spec.specs.Calls.{insert, delete, stored, writerTurn, begin, emptyAnswer, loaded, childFor, afterComparing}
 use Rattle.spec.specs.Calls.{readerStep, readerTests, readerTurn, giveUpTests, giveUp, Call, inserting, deleting, writing}
+use Rattle.spec.specs.Calls.{listTests, acceptedList, insertList, insertingList}
+use Rattle.spec.specs.Bulk.{grownTree}
+use lib.ListN.{length}
 use Rattle.spec.specs.Calls.{beginning, turning, givingUp, call, wrongLength, outOfRange, namedOutOfRange, slotTooHigh}
 use Rattle.promise.specs.Run.{Reads}
 use Rattle.readers.specs.Descends.{step-root, step-found, step-child, step-next, load-none, load-some}
@@ -46,6 +49,7 @@ testsOf st writing = writerTests st
 testsOf st (beginning κ s k) = beginTests st s
 testsOf st (turning s) = readerTests st s
 testsOf st (givingUp s) = giveUpTests st s
+testsOf st (insertingList ks vs) = listTests st ks vs
 
 pub data CallCase (st : State) : Call → Outcome → Type 0 where
   refuses : (c : Call) → firstOf (testsOf st c) ≢ 0 → CallCase st c (outcome (refused (firstOf (testsOf st c))) st)
@@ -53,6 +57,7 @@ pub data CallCase (st : State) : Call → Outcome → Type 0 where
       → CallCase st (inserting k v) (outcome ok (state (st .pool) (withWrite (st .register) (writeOf (insertAt st k v (placeOf st k) .stores)))))
   plansDelete : (k : ℕ) → firstOf (deleteTests st k) ≡ 0
       → CallCase st (deleting k) (outcome ok (state (st .pool) (withWrite (st .register) (writeOf (deleteAt st (placeOf st k) .stores)))))
+  plansList : (ks vs : List ℕ) → firstOf (listTests st ks vs) ≡ 0 → CallCase st (insertingList ks vs) (acceptedList (grownTree st ks vs) (length ks))
   waits : st .register .awaited ≢ 0 → CallCase st writing (outcome wait st)
   stores : st .register .awaited ≡ 0 → writeInHand st ≡ true → stepFinds st (storeOf (st .register) 0 .link) (storeOf (st .register) 0 .step) ≡ true
       → CallCase st writing (stored (stepMade st (storeOf (st .register) 0 .link) (storeOf (st .register) 0 .step)))
@@ -151,10 +156,11 @@ begin-case st κ s k e =
     begins κ s k (leb-false slots s (c .1 .1 .0)) (c .1 .1 .1 .0)
 
 pub call-case : (st : State) (c : Call) → CallCase st c (call st c)
-unfolding insert delete writerTurn begin readerTurn giveUp
+unfolding insert delete writerTurn begin readerTurn giveUp insertList
 call-case st (inserting k v) = tested st (inserting k v) (outcome ok (state (st .pool) (withWrite (st .register) (writeOf (insertAt st k v (placeOf st k) .stores))))) (plansInsert k v)
 call-case st (deleting k) = tested st (deleting k) (outcome ok (state (st .pool) (withWrite (st .register) (writeOf (deleteAt st (placeOf st k) .stores))))) (plansDelete k)
 call-case st writing = tested st writing (cond (waiting st) (outcome wait st) (stored (stepMade st (storeOf (st .register) 0 .link) (storeOf (st .register) 0 .step)))) (turn-case st)
 call-case st (beginning κ s k) = tested st (beginning κ s k) (outcome ok (state (st .pool) (withReader (st .register) s (begunReader κ k)))) (begin-case st κ s k)
 call-case st (turning s) = tested st (turning s) (readerStep st s) (λ e. step-case st s (passed st s (namedOutOfRange st s) e))
+call-case st (insertingList ks vs) = tested st (insertingList ks vs) (acceptedList (grownTree st ks vs) (length ks)) (plansList ks vs)
 call-case st (givingUp s) = tested st (givingUp s) (outcome ok (endReading st s)) (λ e. leaves s (passed st s (outOfRange st) e))

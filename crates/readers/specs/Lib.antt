@@ -15,4 +15,5 @@ pub mod ColourWork
 pub mod Turns
 pub mod CallCase
 pub mod Safe
+pub mod Apart
 pub mod NextDescends

@@ -3,7 +3,7 @@ use Prim.Native.Nat.{ℕ, _<_, _≤_}
 use mathlib.Core.Path.{_≡_, sym, ap, _∙_, subst}
 use mathlib.Core.Bool.{true, cond, false≢true}
 use mathlib.Core.List.{List}
-use mathlib.Core.Logic.{_≢_, inr}
+use mathlib.Core.Logic.{_≢_}
 use native.Mathlib.Omega.{arith}
 use native.Mathlib.Decide.{ℕ-discrete, decLt}
 use lib.Dec.{eqb, ltb}
@@ -12,7 +12,7 @@ use borrow.Author.Tests.{ne-eqb, lt-ltb, le-ltb}
 use Rattle.base.specs.Walk.{cond-both}
 use Rattle.datatypes.specs.declared.Side.{Side}
 use Rattle.spec.specs.Numbers.{slots}
-use Rattle.spec.specs.Pool.{word, child, nodes, standingWord, holdersWord, standingFree, standingLinked, standingRetired}
+use Rattle.spec.specs.Pool.{word, child, nodes, standingWord, holdersWord, standingFree, standingLinked, standingRetired, standingApart}
 use Rattle.spec.specs.Register.{State, hasSlot, readingSlots, countUp, withQueue}
 use Rattle.spec.specs.Free.{retire, retireTwo}
 use Rattle.spec.specs.FreeQueue.{InPool, Whole}
@@ -25,14 +25,14 @@ use Rattle.readers.specs.Words.{retire-some, marked-length, marked-other
 use Rattle.readers.specs.Owned.{Owned, own-retire}
 use Rattle.readers.specs.Reach.{HasStanding, NodeChange, comes, rests, goes}
 
--- each number stands free, linked or retired
-pub ranked : (st : State) (l : List ℕ) → Whole (st .pool) → Owned st l → (n : ℕ) → word (st .pool) n standingWord ≤ standingRetired
+-- each number stands free, linked, retired or made apart
+pub ranked : (st : State) (l : List ℕ) → Whole (st .pool) → Owned st l → (n : ℕ) → word (st .pool) n standingWord ≤ standingApart
 ranked st l w h n = elim (ℕ-discrete (word (st .pool) n standingWord) 0) [
   | yes e ↦ omega arith
   | no d ↦ h .good n (stands-node (st .pool) n standingWord w (omega arith) d) .rank
 ]
 
--- the three cases of a standing
+-- the three cases of a standing where none is made apart
 pub three : {A : Type 0} (a : ℕ) → a ≤ standingRetired → (a ≡ standingFree → A) → (a ≡ standingLinked → A) → (a ≡ standingRetired → A) → A
 three a h f g k = elim (ℕ-discrete a standingFree) [
   | yes e ↦ f e
@@ -45,7 +45,7 @@ pub change-same : (p q : List ℕ) (W : ℕ → Type 0) (n : ℕ) → word p n s
 change-same p q W n rank e same =
     three (word p n standingWord) rank
     (λ i. goes (omega arith) (e ∙ i) (λ j. absurd (omega arith)))
-    (λ i. comes (inr i) (e ∙ i))
+    (λ i. comes (omega arith) (e ∙ i))
     (λ i. rests i (e ∙ i) (same i .0) (same i .1))
 
 -- Nodes retired: of no node do links change; a node stays as it is, or was linked and is retired or, with none reading, freed.

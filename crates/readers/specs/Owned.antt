@@ -1,4 +1,4 @@
--- Who has which node: each stands free, linked or retired; the free ones are the queue's; a retired one has holders, which are reading;
+-- Who has which node: each stands free, linked, retired or made apart; the free ones are the queue's; a retired one has holders, which are reading;
 -- awaited slots are reading. Kept by begin, a reader's step, the end of a reading, retire, take, and a store of a link or a colour.
 use Prim.Native.Nat.{ℕ, _+_, _<_, _≤_}
 use mathlib.Core.Path.{_≡_, refl, sym, ap, _∙_}
@@ -15,22 +15,22 @@ use Rattle.datatypes.specs.declared.Side.{Side}
 use Rattle.datatypes.specs.declared.Reader.{Reader}
 use Rattle.datatypes.specs.declared.Register.{Register}
 use Rattle.spec.specs.Numbers.{slots}
-use Rattle.spec.specs.Pool.{word, setWord, nodes, standingWord, holdersWord, standingFree, standingLinked, standingRetired}
+use Rattle.spec.specs.Pool.{word, setWord, nodes, standingWord, holdersWord, standingFree, standingLinked, standingRetired, standingApart}
 use Rattle.spec.specs.Register.{State, state, noReader, dropSlot, readingSlots, withReader, withAwaited, withQueue}
-use Rattle.spec.specs.Free.{fillNode, takeFree, takeNode, freeNode, retire, endReading}
+use Rattle.spec.specs.Free.{fillAs, takeFree, takeAs, takeNode, freeNode, retire, endReading}
 use Rattle.spec.specs.FreeQueue.{InPool}
 use Rattle.laws.specs.Words.{length-setWord, word-other}
 use Rattle.laws.specs.Reading.{readingIn, ReadingOnly, only-reading, only-more, only-drop}
 use Rattle.laws.specs.Freed.{free-length}
 use Rattle.readers.specs.Words.{node-length, node-high, free-other, free-standing, free-holders, retire-none, retire-some, marked}
-use Rattle.readers.specs.Words.{marked-length, marked-other, marked-standing, marked-holders, fill-length, fill-other, fill-standing}
-use Rattle.readers.specs.Words.{fill-holders}
+use Rattle.readers.specs.Words.{marked-length, marked-other, marked-standing, marked-holders, fill-as-length, fill-as-other, fill-as-standing}
+use Rattle.readers.specs.Words.{fill-as-holders}
 use Rattle.readers.specs.QueueExact.{QueueExact, free-exact, take-exact, mark-exact, word-exact, field-exact}
 use Rattle.readers.specs.Release.{else-free, freedBelow, end-released}
 
 -- a node's standing and holders, with these reader records
 pub record Good (xs : List Reader) (standing holders : ℕ) : Type 0 where
-  pub rank : standing ≤ standingRetired
+  pub rank : standing ≤ standingApart
   pub holder : standing ≡ standingRetired → holders ≢ 0
   pub held : standing ≡ standingRetired → ReadingOnly slots xs holders
 
@@ -43,8 +43,9 @@ pub record Owned (st : State) (l : List ℕ) : Type 0 where
 good-free : (xs : List Reader) → Good xs standingFree 0
 good-free xs = record { rank = omega arith; holder = λ e. absurd (omega arith); held = λ e. absurd (omega arith) }
 
-good-linked : (xs : List Reader) → Good xs standingLinked 0
-good-linked xs = record { rank = omega arith; holder = λ e. absurd (omega arith); held = λ e. absurd (omega arith) }
+-- a taken node stands linked or made apart
+good-taken : (xs : List Reader) (t : ℕ) → t ≤ standingApart → t ≢ standingRetired → Good xs t 0
+good-taken xs t u d = record { rank = u; holder = λ e. absurd (d e); held = λ e. absurd (d e) }
 
 good-retired : (r : Register) → readingSlots r ≢ 0 → Good (r .readers) standingRetired (readingSlots r)
 good-retired r d = record { rank = omega arith; holder = λ e. d; held = λ e. only-reading r }
@@ -148,24 +149,28 @@ own-retire st l n h hn d = elim (ℕ-discrete (readingSlots (st .register)) 0) [
       (own-mark st l n standingRetired (readingSlots (st .register)) h hn d (omega arith) (good-retired (st .register) c))
 ]
 
-pub own-take : (st : State) (n : ℕ) (l : List ℕ) (k v : ℕ) (s : Side) (x y c : ℕ) → Owned st (n ∷ l) → Owned (takeNode st k v s x y c) l
-unfolding takeNode takeFree withQueue
-own-take st n l k v s x y c h =
+pub own-take-as : (t : ℕ) (st : State) (n : ℕ) (l : List ℕ) (k v : ℕ) (s : Side) (x y c : ℕ) → t ≤ standingApart → t ≢ standingFree → t ≢ standingRetired → Owned st (n ∷ l)
+    → Owned (takeAs t st k v s x y c) l
+unfolding takeAs takeFree withQueue
+own-take-as t st n l k v s x y c low used kept h =
     let p = st .pool in
     let a = st .register .first in
     let first : a ≡ n = h .exact .queued .chain .0 in
     let ha : InPool p a = rw first (h .exact .standing n .0 (inl refl) .0) in
-    let q = fillNode p a k v s x y c in
+    let q = fillAs t p a k v s x y c in
     record {
-      exact = take-exact st n l k v s x y c (h .exact);
+      exact = take-exact t st n l k v s x y c used (h .exact);
       good = λ m hm. elim (ℕ-discrete a m) [
-        | yes i ↦ rw (← i, fill-standing p a k v s x y c ha, fill-holders p a k v s x y c ha) (good-linked (st .register .readers))
-        | no d ↦ rw (fill-other p a k v s x y c m standingWord (omega arith) d, fill-other p a k v s x y c m holdersWord (omega arith) d)
-            (h .good m (node-length q p m (sym (fill-length p a k v s x y c)) hm))
+        | yes i ↦ rw (← i, fill-as-standing t p a k v s x y c ha, fill-as-holders t p a k v s x y c ha) (good-taken (st .register .readers) t low kept)
+        | no d ↦ rw (fill-as-other t p a k v s x y c m standingWord (omega arith) d, fill-as-other t p a k v s x y c m holdersWord (omega arith) d)
+            (h .good m (node-length q p m (sym (fill-as-length t p a k v s x y c)) hm))
       ];
       awaited = h .awaited;
       perSlot = h .perSlot;
     }
+
+pub own-take : (st : State) (n : ℕ) (l : List ℕ) (k v : ℕ) (s : Side) (x y c : ℕ) → Owned st (n ∷ l) → Owned (takeNode st k v s x y c) l
+own-take st n l k v s x y c h = own-take-as standingLinked st n l k v s x y c (omega arith) (omega arith) (omega arith) h
 
 -- key, record, links and colour
 pub own-word : (st : State) (l : List ℕ) (n f v : ℕ) → f < standingWord → Owned st l → Owned (state (setWord (st .pool) n f v) (st .register)) l

@@ -13,13 +13,13 @@ use Rattle.datatypes.specs.declared.Register.{Register}
 use Rattle.base.specs.Lists.{_∈_, in-append, Distinct, pigeonhole}
 use Rattle.spec.specs.Pool.{word, setWord, nodes, standingWord, holdersWord, standingFree}
 use Rattle.spec.specs.Register.{State, state, withQueue}
-use Rattle.spec.specs.Free.{takeFree, fillNode, takeNode, freeNode}
+use Rattle.spec.specs.Free.{takeFree, fillAs, takeAs, freeNode}
 use Rattle.spec.specs.FreeQueue.{InPool, Chain, Queue}
 use Rattle.laws.specs.Words.{length-setWord, word-other}
-use Rattle.laws.specs.Queue.{chain-word, take-queue, free-queue}
+use Rattle.laws.specs.Queue.{chain-word, take-as-queue, free-queue}
 use Rattle.laws.specs.Freed.{free-length}
 use Rattle.readers.specs.Words.{node-length, node-high, free-other, free-standing, free-register, marked, marked-length}
-use Rattle.readers.specs.Words.{marked-other, marked-standing, fill-length, fill-other, fill-standing}
+use Rattle.readers.specs.Words.{marked-other, marked-standing, fill-as-length, fill-as-other, fill-as-standing}
 
 -- one more at the end
 pub distinct-end : (n : ℕ) (l : List ℕ) → ¬ (n ∈ l) → Distinct l → Distinct (l ++ n ∷ [])
@@ -73,30 +73,30 @@ free-exact st l n h hn d =
     }
 
 -- Take: from the front.
-pub take-exact : (st : State) (n : ℕ) (l : List ℕ) (k v : ℕ) (s : Side) (x y c : ℕ) → QueueExact st (n ∷ l) → QueueExact (takeNode st k v s x y c) l
-unfolding takeNode takeFree withQueue
-take-exact st n l k v s x y c h =
+pub take-exact : (t : ℕ) (st : State) (n : ℕ) (l : List ℕ) (k v : ℕ) (s : Side) (x y c : ℕ) → t ≢ standingFree → QueueExact st (n ∷ l) → QueueExact (takeAs t st k v s x y c) l
+unfolding takeAs takeFree withQueue
+take-exact t st n l k v s x y c used h =
     let p = st .pool in
     let a = st .register .first in
     let first : a ≡ n = h .queued .chain .0 in
-    let q = fillNode p a k v s x y c in
+    let q = fillAs t p a k v s x y c in
     let here = h .standing n .0 (inl refl) in
     let ha : InPool p a = rw first (here .0) in
-    let size : length q ≡ length p = fill-length p a k v s x y c in
+    let size : length q ≡ length p = fill-as-length t p a k v s x y c in
     record {
-      queued = take-queue st n l k v s x y c (h .queued) (h .once .0);
+      queued = take-as-queue t st n l k v s x y c (h .queued) (h .once .0);
       once = h .once .1;
       standing = λ m. (
         λ i. (let old = h .standing m .0 (inr i) in (
           node-length p q m size (old .0),
-          fill-other p a k v s x y c m standingWord (omega arith) (λ e. h .once .0 (rw (sym first ∙ e) i)) ∙ old .1,
+          fill-as-other t p a k v s x y c m standingWord (omega arith) (λ e. h .once .0 (rw (sym first ∙ e) i)) ∙ old .1,
         )),
         λ b. (elim (ℕ-discrete a m) [
-          | yes e ↦ absurd (let z = sym (fill-standing p a k v s x y c ha) ∙ ap (λ i. word q i standingWord) e ∙ b .1 in omega arith)
+          | yes e ↦ absurd (used (sym (fill-as-standing t p a k v s x y c ha) ∙ ap (λ i. word q i standingWord) e ∙ b .1))
           | no d ↦ ⊎-elim
               (λ e. absurd (d (first ∙ sym e)))
               (λ i. i)
-              (h .standing m .1 (node-length q p m (sym size) (b .0), sym (fill-other p a k v s x y c m standingWord (omega arith) d) ∙ b .1))
+              (h .standing m .1 (node-length q p m (sym size) (b .0), sym (fill-as-other t p a k v s x y c m standingWord (omega arith) d) ∙ b .1))
         ]),
       );
       counted = let e = h .counted in omega arith;

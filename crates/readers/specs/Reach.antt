@@ -12,7 +12,7 @@ use Rattle.base.specs.Lists.{_∈_, in-append}
 use Rattle.datatypes.specs.declared.Side.{Side}
 use Rattle.datatypes.specs.declared.Side.the-variants.{L, R}
 use Rattle.spec.specs.Numbers.{slots}
-use Rattle.spec.specs.Pool.{word, child, linkWord, nodes, standingWord, holdersWord, standingFree, standingLinked, standingRetired}
+use Rattle.spec.specs.Pool.{word, child, linkWord, nodes, standingWord, holdersWord, standingFree, standingLinked, standingRetired, standingApart}
 use Rattle.spec.specs.Register.{State, hasSlot, dropSlot}
 use Rattle.spec.specs.Free.{endReading}
 use Rattle.spec.specs.FreeQueue.{InPool, Whole}
@@ -39,7 +39,14 @@ pub record Closed (p : List ℕ) : Type 0 where
   pub linked : LinkedClosed p
   pub retired : (n : ℕ) (z : Side) → HasStanding p n standingRetired → child p z n ≢ 0 → (s : ℕ) → s < slots → hasSlot (word p n holdersWord) s ≡ true → Kept p s (child p z n)
 
--- a kept node does not stand free
+-- a kept node is linked or retired, so it does not stand free
+abbrev pub InUse : List ℕ → ℕ → Type 0
+InUse p m = HasStanding p m standingLinked ⊎ HasStanding p m standingRetired
+
+pub kept-use : (p : List ℕ) (s m : ℕ) → Kept p s m → InUse p m
+kept-use p s m (inl e) = inl e
+kept-use p s m (inr e) = inr (e .0)
+
 pub kept-stands : (p : List ℕ) (s m : ℕ) → Kept p s m → word p m standingWord ≢ standingFree
 kept-stands p s m (inl e) z = omega arith
 kept-stands p s m (inr e) z = let a = e .0 in omega arith
@@ -105,6 +112,20 @@ module _ (st : State) (s : ℕ) (l : List ℕ) (w : Whole (st .pool)) (h : Queue
       let e = end-released st s l h .size in
       node-length after before n (sym e) (stands-node after n standingWord (whole-kept before after e w) (omega arith) d)
 
+  pub end-apart : (n : ℕ) → HasStanding before n standingApart → HasStanding after n standingApart
+  end-apart n e =
+      let hn = stands-node before n standingWord w (omega arith) (omega arith) in
+      end-released st s l h .standing n (within n hn) ∙ rw e
+
+  pub apart-end : (n : ℕ) → HasStanding after n standingApart → HasStanding before n standingApart
+  apart-end n e =
+      let hn = after-node n (omega arith) in
+      go (freedBy before s n) (sym (end-released st s l h .standing n (within n hn)) ∙ e)
+    where
+      go : (b : Bool) → cond b standingFree (word before n standingWord) ≡ standingApart → HasStanding before n standingApart
+      go true e = absurd (omega arith)
+      go false e = e
+
   pub linked-end : (n : ℕ) → HasStanding after n standingLinked → HasStanding before n standingLinked
   linked-end n e =
       let hn = after-node n (omega arith) in
@@ -152,8 +173,8 @@ module _ (st : State) (s : ℕ) (l : List ℕ) (w : Whole (st .pool)) (h : Queue
 
 -- A store. What becomes of a node from one pool to the next, with W the slots that are reading.
 pub data NodeChange (p q : List ℕ) (W : ℕ → Type 0) (n : ℕ) : Type 0 where
-  -- it was free or linked and is linked now
-  comes : HasStanding p n standingFree ⊎ HasStanding p n standingLinked → HasStanding q n standingLinked → NodeChange p q W n
+  -- it was free, made apart or linked and is linked now
+  comes : word p n standingWord ≢ standingRetired → HasStanding q n standingLinked → NodeChange p q W n
   -- it was linked and is retired with all that are reading, its links as they were
   leaves : HasStanding p n standingLinked → HasStanding q n standingRetired → ((s : ℕ) → s < slots → W s → hasSlot (word q n holdersWord) s ≡ true)
       → ((z : Side) → child q z n ≡ child p z n) → NodeChange p q W n
@@ -176,11 +197,11 @@ module _ (p q : List ℕ) (W : ℕ → Type 0) (change : (n : ℕ) → NodeChang
       go (goes a e none) (inr i) = absurd (a (i .0))
 
   -- a node that was retired is not linked again
-  pub not-again : (m : ℕ) → word p m standingWord ≢ standingFree → word p m standingWord ≢ standingLinked → word q m standingWord ≢ standingLinked
+  pub not-again : (m : ℕ) → InUse p m → word p m standingWord ≢ standingLinked → word q m standingWord ≢ standingLinked
   not-again m a b = go (change m)
     where
       go : NodeChange p q W m → word q m standingWord ≢ standingLinked
-      go (comes c e) z = ⊎-elim a b c
+      go (comes c e) z = ⊎-elim b c a
       go (leaves c e bits same) z = absurd (b c)
       go (rests c e same links) z = omega arith
       go (goes c e none) z = omega arith

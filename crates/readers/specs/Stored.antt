@@ -18,7 +18,7 @@ use Rattle.datatypes.specs.Side.{sameSide}
 use Rattle.spec.specs.Numbers.{nodeWords, slots}
 use Rattle.spec.specs.Pool.{word, setWord, child, keyWord, recordAt, leftWord, rightWord, linkWord, colourWord, standingWord, holdersWord, standingFree, standingLinked}
 use Rattle.spec.specs.Register.{State, state, withRoot, withQueue, setLink}
-use Rattle.spec.specs.Free.{takeFree, takeNode}
+use Rattle.spec.specs.Free.{takeFree, takeNode, takeAs}
 use Rattle.base.specs.Lists.{_∈_}
 use Rattle.spec.specs.FreeQueue.{InPool, Whole}
 use Rattle.laws.specs.Words.{length-setWord, word-same, word-other}
@@ -127,7 +127,7 @@ link-stored st q (Right d) v w o h = side-stored st q d R v (Right d) (λ n z. r
 -- and with the first free node taken and filled before
 pub taking-stored : (st : State) (n : ℕ) (q : List ℕ) (k w : ℕ) (s : Side) (x y c : ℕ) (l : Link) (v : ℕ) → Whole (st .pool) → TreeLink (st .pool) l → Owned st (n ∷ q)
     → Stored st (setLink (takeNode st k w s x y c) l v) (n ∷ []) l v
-unfolding takeNode takeFree withQueue
+unfolding takeAs takeFree withQueue
 taking-stored st n q k w s x y c l v whole o h =
     let p = st .pool in
     let a = st .register .first in

@@ -15,7 +15,7 @@ use Rattle.datatypes.specs.declared.Link.{Link}
 use Rattle.datatypes.specs.declared.Link.the-variants.{Root, Left, Right}
 use Rattle.datatypes.specs.declared.Write.{Write}
 use Rattle.datatypes.specs.Side.{linkAt, owner, owner-at}
-use Rattle.spec.specs.Pool.{word, child, linkWord, keyWord, recordAt, standingWord, holdersWord, standingFree, standingLinked, standingRetired}
+use Rattle.spec.specs.Pool.{word, child, linkWord, keyWord, recordAt, standingWord, holdersWord, standingFree, standingLinked, standingRetired, standingApart}
 use Rattle.spec.specs.Register.{State, state, nodeAt, linkNode, withWrite}
 use Rattle.spec.specs.Free.{retire, retireTwo}
 use Rattle.base.specs.Lists.{_∈_}
@@ -50,7 +50,8 @@ pub record Turn (st after : State) (came gone : List ℕ) (l : Link) (v : ℕ) :
   pub change : (n : ℕ) → NodeChange (st .pool) (after .pool) (Reads st) n
   -- those linked afterwards: those that were or came, and did not go
   pub linked : (n : ℕ) → HasStanding (after .pool) n standingLinked ↔ ((HasStanding (st .pool) n standingLinked ⊎ (n ∈ came)) × (¬ (n ∈ gone)))
-  pub new : (n : ℕ) → n ∈ came → HasStanding (st .pool) n standingFree
+  -- who came was free or made apart
+  pub new : (n : ℕ) → n ∈ came → HasStanding (st .pool) n standingFree ⊎ HasStanding (st .pool) n standingApart
   pub keys : (n : ℕ) → ¬ (n ∈ came) → word (after .pool) n keyWord ≡ word (st .pool) n keyWord
   pub records : (n : ℕ) → ¬ (n ∈ came) → recordAt (after .pool) n ≡ recordAt (st .pool) n
   pub links : (n : ℕ) (z : Side) → ¬ (n ∈ came) → child (after .pool) z n ≡ cond (hitsLink l n z) v (child (st .pool) z n)
@@ -86,7 +87,7 @@ linked-stays : {st mid : State} {came : List ℕ} {l : Link} {v : ℕ} → Store
 linked-stays s n e i = let z = s .new n i .0 in absurd (omega arith)
 
 -- What was stored, then the nodes of `gone` retired.
-module _ (st mid after : State) (q came gone : List ℕ) (l : Link) (v : ℕ) (w : Whole (st .pool)) (o : TreeLink (st .pool) l) (h : Owned st q) (s : Stored st mid came l v)
+module _ (st mid after : State) (q came gone : List ℕ) (l : Link) (v : ℕ) (w : Whole (st .pool)) (o : TreeLink (st .pool) l) (h : Owned st q) (none : (n : ℕ) → word (st .pool) n standingWord ≢ standingApart) (s : Stored st mid came l v)
     (quiet : Quiet mid after) (each : (n : ℕ) → Retires (mid .pool) (after .pool) (Reads mid) n)
     (was-linked : (n : ℕ) → n ∈ gone → HasStanding (st .pool) n standingLinked × (owner l ≢ n) × (word (after .pool) n standingWord ≢ standingLinked))
     (kept : (n : ℕ) → ¬ (n ∈ gone) → word (after .pool) n standingWord ≡ word (mid .pool) n standingWord)
@@ -102,7 +103,7 @@ module _ (st mid after : State) (q came gone : List ℕ) (l : Link) (v : ℕ) (w
     where
       plain : ¬ (n ∈ came) → word (after .pool) n standingWord ≡ word (mid .pool) n standingWord → word (after .pool) n holdersWord ≡ word (mid .pool) n holdersWord
           → NodeChange (st .pool) (after .pool) (Reads st) n
-      plain i a b = change-same (st .pool) (after .pool) (Reads st) n (ranked st q w h n) (a ∙ s .standing n i)
+      plain i a b = change-same (st .pool) (after .pool) (Reads st) n (let r = ranked st q w h n in let d = none n in omega arith) (a ∙ s .standing n i)
           (λ e. (
             b ∙ s .holders n i,
             λ z. links-stay n z i (owner-linked (st .pool) l n
@@ -110,16 +111,16 @@ module _ (st mid after : State) (q came gone : List ℕ) (l : Link) (v : ℕ) (w
           ))
 
       go : Retires (mid .pool) (after .pool) (Reads mid) n → Dec (n ∈ gone) → Dec (n ∈ came) → NodeChange (st .pool) (after .pool) (Reads st) n
-      go (stays a b) g (yes i) = comes (inl (s .new n i .0)) (a ∙ s .new n i .1)
+      go (stays a b) g (yes i) = comes (let f = s .new n i .0 in omega arith) (a ∙ s .new n i .1)
       go (stays a b) g (no i) = plain i a b
       go (out a b bits) (no j) c = absurd (let z = kept n j in omega arith)
       go (out a b bits) (yes j) c =
           let e = was-linked n j in
           leaves (e .0) b (λ t u r. bits t u (subst (λ xs. readingIn xs t ≡ true) (sym (s .readers)) r)) (λ z. links-stay n z (linked-stays s n (e .0)) (e .1))
-      go (off a b none) (no j) c = absurd (let z = kept n j in omega arith)
-      go (off a b none) (yes j) c =
+      go (off a b no-one) (no j) c = absurd (let z = kept n j in omega arith)
+      go (off a b no-one) (yes j) c =
           let e = was-linked n j .0 in
-          goes (omega arith) b (λ _ t u r. none t u (subst (λ xs. readingIn xs t ≡ true) (sym (s .readers)) r))
+          goes (omega arith) b (λ _ t u r. no-one t u (subst (λ xs. readingIn xs t ≡ true) (sym (s .readers)) r))
 
   linked-of : (n : ℕ) → HasStanding (after .pool) n standingLinked ↔ ((HasStanding (st .pool) n standingLinked ⊎ (n ∈ came)) × (¬ (n ∈ gone)))
   linked-of n = (there (in-dec n gone) (in-dec n came), λ x. back (x .1) (x .0))
@@ -138,7 +139,7 @@ module _ (st mid after : State) (q came gone : List ℕ) (l : Link) (v : ℕ) (w
     size = quiet .words .size ∙ s .size;
     change = change-of;
     linked = linked-of;
-    new = λ n i. s .new n i .0;
+    new = λ n i. inl (s .new n i .0);
     keys = λ n i. quiet .words .words n keyWord (omega arith) ∙ s .keys n i;
     records = λ n i. record-kept (mid .pool) (after .pool) n (λ f u. quiet .words .words n f (omega arith)) ∙ s .records n i;
     links = λ n z i. same-link n z ∙ s .links n z i;
@@ -149,7 +150,8 @@ module _ (st mid after : State) (q came gone : List ℕ) (l : Link) (v : ℕ) (w
     owned = owned;
   }
 
-module _ (st mid : State) (q came : List ℕ) (l : Link) (v : ℕ) (w : Whole (st .pool)) (o : TreeLink (st .pool) l) (h : Owned st q) (s : Stored st mid came l v) where
+module _ (st mid : State) (q came : List ℕ) (l : Link) (v : ℕ) (w : Whole (st .pool)) (o : TreeLink (st .pool) l) (h : Owned st q) (none : (n : ℕ) → word (st .pool) n standingWord ≢ standingApart)
+    (s : Stored st mid came l v) where
   linked-mid : (n : ℕ) → HasStanding (st .pool) n standingLinked → HasStanding (mid .pool) n standingLinked
   linked-mid n e = s .standing n (linked-stays s n e) ∙ e
 
@@ -159,14 +161,14 @@ module _ (st mid : State) (q came : List ℕ) (l : Link) (v : ℕ) (w : Whole (s
   -- none retired
   pub turn-none : Turn st mid came [] l v
   turn-none =
-      turn-of st mid mid q came [] l v w o h s
+      turn-of st mid mid q came [] l v w o h none s
       (record { words = alike-refl upToColour (mid .pool); fields = record { root = refl; held = refl; readers = refl; awaited = refl; write = refl } })
       (λ n. stays refl refl) (λ n i. absurd i) (λ n i. refl) (omega arith) (s .queue) (s .owned)
 
   -- one
   pub turn-one : (c : ℕ) → HasStanding (st .pool) c standingLinked → owner l ≢ c → Turn st (retire mid c) came (c ∷ []) l v
   turn-one c e d =
-      turn-of st mid (retire mid c) q came (c ∷ []) l v w o h s (retire-quiet mid c)
+      turn-of st mid (retire mid c) q came (c ∷ []) l v w o h none s (retire-quiet mid c)
       (λ n. retire-retires mid c n (node-mid c e) (linked-mid c e))
       (λ n. only n)
       (λ n i. retire-other mid c n standingWord (λ x. i (inl (sym x))) (omega arith))
@@ -182,7 +184,7 @@ module _ (st mid : State) (q came : List ℕ) (l : Link) (v : ℕ) (w : Whole (s
   pub turn-two : (a c : ℕ) → a ≢ c → HasStanding (st .pool) a standingLinked → HasStanding (st .pool) c standingLinked → owner l ≢ a → owner l ≢ c → Turn st (retireTwo mid a c) came (a ∷ c ∷ []) l v
   turn-two a c apart ea ec da dc =
       let all = retireTwo-owned mid a c apart (node-mid a ea) (node-mid c ec) (linked-mid a ea) (linked-mid c ec) (s .queue) (s .owned) in
-      turn-of st mid (retireTwo mid a c) q came (a ∷ c ∷ []) l v w o h s (retireTwo-quiet mid a c)
+      turn-of st mid (retireTwo mid a c) q came (a ∷ c ∷ []) l v w o h none s (retireTwo-quiet mid a c)
       (retireTwo-retires mid a c apart (node-mid a ea) (node-mid c ec) (linked-mid a ea) (linked-mid c ec))
       (λ n. both n)
       (λ n i. retireTwo-other mid a c apart (node-mid a ea) (node-mid c ec) (linked-mid a ea) (linked-mid c ec) n (λ x. i (inl (sym x))) (λ x. i (inr (inl (sym x)))))
@@ -219,7 +221,7 @@ turn-write st a came gone l v x t = record {
 -- Such a turn makes one store (promise: StoresOne), if it changes the link, and the node that comes, if any, is its new node.
 module _ (st after : State) (came gone : List ℕ) (l : Link) (v : ℕ) (t : Turn st after came gone l v) where
   not-came : (n : ℕ) → HasStanding (st .pool) n standingLinked → ¬ (n ∈ came)
-  not-came n e i = let z = t .new n i in absurd (omega arith)
+  not-came n e i = ⊎-elim (λ z. absurd (omega arith)) (λ z. absurd (omega arith)) (t .new n i)
 
   link-holds : (m : Link) → m ≡ l → TreeLink (st .pool) m → linkNode after m ≡ v
   unfolding nodeAt
@@ -233,12 +235,14 @@ module _ (st after : State) (came gone : List ℕ) (l : Link) (v : ℕ) (t : Tur
   link-stays (Left n) d o = t .links n L (not-came n o) ∙ rw (other-link l n L d)
   link-stays (Right n) d o = t .links n R (not-came n o) ∙ rw (other-link l n R d)
 
-  pub turn-stores : TreeLink (st .pool) l → linkNode st l ≢ v → ((n : ℕ) → n ∈ came → n ≡ v) → StoresOne st after l v
-  turn-stores o d f = record {
+  pub turn-stores : TreeLink (st .pool) l → linkNode st l ≢ v → ((n : ℕ) → n ∈ came → (n ≡ v) ⊎ HasStanding (st .pool) n standingApart)
+      → ((n : ℕ) → HasStanding (st .pool) n standingApart → (n ∈ came) × (¬ (n ∈ gone))) → StoresOne st after l v
+  turn-stores o d f all = record {
     own = o;
     moved = d;
     holds = link-holds l refl o;
     others = link-stays;
     tickets = λ n e. (t .keys n (not-came n e), t .records n (not-came n e));
     comes = λ n d e. ⊎-elim (λ i. absurd (d i)) (f n) (t .linked n .0 e .0);
+    apart = λ n e. (let a = all n e in t .linked n .1 (inr (a .0), a .1));
   }

@@ -13,10 +13,10 @@ use Rattle.datatypes.specs.declared.Side.{Side}
 use Rattle.spec.specs.Numbers.{nodeWords}
 use Rattle.spec.specs.Pool.{place, word, setWord, nodes, standingWord, holdersWord, nextWord, standingFree, standingLinked, standingRetired}
 use Rattle.spec.specs.Register.{State, state, withQueue, countUp, readingSlots}
-use Rattle.spec.specs.Free.{queueEmpty, fillNode, freeNode, retire}
+use Rattle.spec.specs.Free.{queueEmpty, fillNode, freeNode, retire, fillAs}
 use Rattle.spec.specs.FreeQueue.{InPool, Whole}
 use Rattle.laws.specs.Words.{length-setWord, word-none, word-at, word-same, word-other}
-use Rattle.laws.specs.Queue.{fill-keeps-any, node-kept}
+use Rattle.laws.specs.Queue.{fill-as-any, node-kept}
 
 pub node-length : (p q : List ℕ) (m : ℕ) → length q ≡ length p → InPool p m → InPool q m
 node-length p q m e h = record { low = h .low; high = rw e (h .high) }
@@ -112,24 +112,35 @@ module _ (p : List ℕ) (n a b : ℕ) where
   pub marked-holders : InPool p n → word marked n holdersWord ≡ b
   marked-holders h = word-same _ n holdersWord b (node-kept p n n standingWord a h) (omega arith)
 
--- Take: the first node is filled, no other word changes.
-module _ (p : List ℕ) (n k v : ℕ) (s : Side) (x y c : ℕ) where
-  pub fill-length : length (fillNode p n k v s x y c) ≡ length p
-  unfolding fillNode
-  fill-length = simp length-setWord
+-- Take: the first node is filled, no other word changes. It stands as t.
+module _ (t : ℕ) (p : List ℕ) (n k v : ℕ) (s : Side) (x y c : ℕ) where
+  pub fill-as-length : length (fillAs t p n k v s x y c) ≡ length p
+  unfolding fillAs
+  fill-as-length = simp length-setWord
 
-  pub fill-other : (m f : ℕ) → f < nodeWords → n ≢ m → word (fillNode p n k v s x y c) m f ≡ word p m f
-  fill-other m f h d = fill-keeps-any (λ q. word q m f ≡ word p m f) p n k v s x y c (λ q g u l e. word-other q n m g f u l h (inl d) ∙ e) refl
+  pub fill-as-other : (m f : ℕ) → f < nodeWords → n ≢ m → word (fillAs t p n k v s x y c) m f ≡ word p m f
+  fill-as-other m f h d = fill-as-any t (λ q. word q m f ≡ word p m f) p n k v s x y c (λ q g u l e. word-other q n m g f u l h (inl d) ∙ e) refl
 
-  pub fill-standing : InPool p n → word (fillNode p n k v s x y c) n standingWord ≡ standingLinked
-  unfolding fillNode
-  fill-standing h =
+  pub fill-as-standing : InPool p n → word (fillAs t p n k v s x y c) n standingWord ≡ t
+  unfolding fillAs
+  fill-as-standing h =
       word-other _ n n nextWord standingWord 0 (omega arith) (omega arith) (inr (omega arith))
       ∙ word-other _ n n holdersWord standingWord 0 (omega arith) (omega arith) (inr (omega arith))
-      ∙ word-same _ n standingWord standingLinked (node-length p _ n (simp length-setWord) h) (omega arith)
+      ∙ word-same _ n standingWord t (node-length p _ n (simp length-setWord) h) (omega arith)
 
-  pub fill-holders : InPool p n → word (fillNode p n k v s x y c) n holdersWord ≡ 0
-  unfolding fillNode
-  fill-holders h =
+  pub fill-as-holders : InPool p n → word (fillAs t p n k v s x y c) n holdersWord ≡ 0
+  unfolding fillAs
+  fill-as-holders h =
       word-other _ n n nextWord holdersWord 0 (omega arith) (omega arith) (inr (omega arith))
       ∙ word-same _ n holdersWord 0 (node-length p _ n (simp length-setWord) h) (omega arith)
+
+-- linked
+module _ (p : List ℕ) (n k v : ℕ) (s : Side) (x y c : ℕ) where
+  pub fill-length : length (fillNode p n k v s x y c) ≡ length p
+  fill-length = fill-as-length standingLinked p n k v s x y c
+
+  pub fill-other : (m f : ℕ) → f < nodeWords → n ≢ m → word (fillNode p n k v s x y c) m f ≡ word p m f
+  fill-other = fill-as-other standingLinked p n k v s x y c
+
+  pub fill-standing : InPool p n → word (fillNode p n k v s x y c) n standingWord ≡ standingLinked
+  fill-standing = fill-as-standing standingLinked p n k v s x y c

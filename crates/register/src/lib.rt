@@ -167,6 +167,7 @@ fn step_in_range(s: Step, capacity: u32) -> bool
         Step::Promote => true,
         Step::Publish(n) => node_number(n, capacity),
         Step::Detach(_) => true,
+        Step::LinkAll(m, n) => (m <= capacity) & (n <= capacity),
     }
 }
 
@@ -197,6 +198,7 @@ fn is_vacant(s: Step) -> bool
         Step::Promote => false,
         Step::Publish(_) => false,
         Step::Detach(_) => false,
+        Step::LinkAll(_, _) => false,
     }
 }
 

@@ -21,10 +21,12 @@ use Rattle.promise.specs.Run.{Reads}
 use Rattle.tree.specs.Linked.{Linked}
 use Rattle.laws.specs.Reading.{reader-other}
 use Rattle.readers.specs.NextSearches.{Nothing, Ticket, Answered}
-use Rattle.readers.specs.CallCase.{CallCase, refuses, plansInsert, plansDelete, waits, stores, begins, loads, misses, meets, finds, leaves, testsOf}
+use Rattle.readers.specs.CallCase.{CallCase, refuses, plansInsert, plansDelete, plansList, waits, stores, begins, loads, misses, meets, finds, leaves, testsOf}
 use Rattle.readers.specs.Safe.{Safe, end-reader, end-own}
 use Rattle.runs.specs.Writer.{Writer, afterStore}
-use Rattle.runs.specs.Sound.{Sound}
+use Rattle.spec.specs.Bulk.{grownTree}
+use Rattle.spec.specs.Calls.{insertingList}
+use Rattle.runs.specs.Sound.{Sound, taken-by}
 use Rattle.runs.specs.Slot.{Stand, StandAt, EmptyRight, stand-begin, load-fields, stand-absent, stand-next-ticket, stand-found}
 use Rattle.runs.specs.Follow.{BeginsBy, EndsBy, stand-own}
 
@@ -36,6 +38,7 @@ slotOf writing = 0
 slotOf (beginning κ s k) = s
 slotOf (turning s) = s
 slotOf (givingUp s) = s
+slotOf (insertingList ks vs) = 0
 
 abbrev pub keyOfCall : Call → ℕ
 keyOfCall (inserting k v) = k
@@ -44,6 +47,7 @@ keyOfCall writing = 0
 keyOfCall (beginning κ s k) = k
 keyOfCall (turning s) = 0
 keyOfCall (givingUp s) = 0
+keyOfCall (insertingList ks vs) = 0
 
 -- the kind of search that a begin names
 abbrev pub searchOf : Call → Kind
@@ -53,6 +57,7 @@ searchOf writing = kind.Lookup
 searchOf (beginning κ s k) = κ
 searchOf (turning s) = kind.Lookup
 searchOf (givingUp s) = kind.Lookup
+searchOf (insertingList ks vs) = kind.Lookup
 
 abbrev pub kindOf : Call → ℕ
 kindOf (inserting k v) = 0
@@ -61,6 +66,7 @@ kindOf writing = 2
 kindOf (beginning κ s k) = 3
 kindOf (turning s) = 4
 kindOf (givingUp s) = 5
+kindOf (insertingList ks vs) = 6
 
 -- which answer it is, and its record
 abbrev pub toldOf : Answer → ℕ
@@ -102,6 +108,7 @@ pub begun-is : (st : State) (c : Call) (o : Outcome) (κ : Kind) (s k : ℕ) →
 begun-is st c o κ s k (refuses d n) (e, a) = absurd (let z = ap toldOf a in omega arith)
 begun-is st c o κ s k (plansInsert j v f) (e, a) = absurd (let z = ap kindOf e in omega arith)
 begun-is st c o κ s k (plansDelete j f) (e, a) = absurd (let z = ap kindOf e in omega arith)
+begun-is st c o κ s k (plansList js us f) (e, a) = absurd (let z = ap kindOf e in omega arith)
 begun-is st c o κ s k (waits f) (e, a) = absurd (let z = ap kindOf e in omega arith)
 begun-is st c o κ s k (stores f g i) (e, a) = absurd (let z = ap kindOf e in omega arith)
 begun-is st c o κ s k (begins μ t j u f) (e, a) =
@@ -191,6 +198,9 @@ module _ (W : State → Plain → Linked → Type 0) (writer : Writer W) where
   read-before st x c o (refuses d n) h s u e = inl (e, not-told d (refused (firstOf (testsOf st d))) s (omega arith) (omega arith) (omega arith) (omega arith))
   read-before st x c o (plansInsert j v f) h s u e = inl (sym (write-reading st _ s) ∙ e, not-kind (inserting j v) ok s (omega arith) (omega arith))
   read-before st x c o (plansDelete j f) h s u e = inl (sym (write-reading st _ s) ∙ e, not-kind (deleting j) ok s (omega arith) (omega arith))
+  read-before st x c o (plansList ks vs f) h s u e =
+      let same : readerOf (grownTree st ks vs .after .register) s ≡ readerOf (st .register) s = ap (λ xs. getD xs s noReader) (taken-by st ks vs (h .safe) f .is-made .unfolded .fields .readers) in
+      inl (sym (ap (λ y. y .reading) same) ∙ sym (write-reading (grownTree st ks vs .after) _ s) ∙ e, not-kind (insertingList ks vs) ok s (omega arith) (omega arith))
   read-before st x c o (waits d) h s u e = inl (e, not-kind writing wait s (omega arith) (omega arith))
   read-before st x c o (stores a w f) h s u e =
       let z = writer .store st x (h .tree) (h .safe) (h .holds) a w f in

@@ -141,6 +141,7 @@ module _ (N : ℕ) (lo : leastNodes ≤ N) where
     proper = proper-leaf;
     linked = λ n. (λ e. (let a = word-low n standingWord (omega arith) in absurd (omega arith)), λ l. absurd (unreached n l));
     unretired = λ n e. (let a = word-low n standingWord (omega arith) in omega arith);
+    unapart = λ n e. (let a = word-low n standingWord (omega arith) in omega arith);
     free = exact-right (fresh N) (numbersFrom N 1) exact;
     told = λ k. refl;
     once = tt;

@@ -19,7 +19,7 @@ use Rattle.datatypes.specs.declared.Kind.{Kind}
 use Rattle.datatypes.specs.declared.Reader.{Reader}
 use Rattle.spec.specs.Numbers.{slots}
 use Rattle.spec.specs.Register.{State, readerOf}
-use Rattle.spec.specs.Calls.{Answer, Call, inserting, deleting, writing, beginning, turning, givingUp, call, firstOf, readerTests, comparedBy, namedOutOfRange, turnCount, writeInHand}
+use Rattle.spec.specs.Calls.{Answer, Call, inserting, deleting, writing, beginning, turning, givingUp, insertingList, call, firstOf, readerTests, comparedBy, namedOutOfRange, turnCount, writeInHand}
 use Rattle.spec.specs.PlainList.{Plain, Notice, turnedDown, waited, carriedOut, noticeOf}
 use Rattle.tree.specs.Linked.{Linked}
 use Rattle.promise.specs.Run.{Start, Reads, withNamed, thenCompared, perhapsCompared, thenPerhaps, callAt, after, indexAfter, plainAfter, Turns, Reading, comparedIn}
@@ -49,6 +49,7 @@ then-case seen s x carriedOut (deleting k) = inl refl
 then-case seen s x carriedOut writing = inl refl
 then-case seen s x carriedOut (beginning κ t k) = inl refl
 then-case seen s x carriedOut (givingUp t) = inl refl
+then-case seen s x carriedOut (insertingList ks vs) = inl refl
 
 perhaps-case : (seen : List ℕ) (s : ℕ) (st : State) (c : Option Call)
     → (perhapsCompared seen s st c ≡ seen) ⊎ (perhapsCompared seen s st c ≡ withNamed seen (readerOf (st .register) s))

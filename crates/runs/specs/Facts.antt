@@ -13,7 +13,7 @@ use native.Mathlib.Decide.{ℕ-discrete}
 use Rattle.base.specs.Lists.{_∈_, in-append}
 use Rattle.datatypes.specs.declared.Link.{Link}
 use Rattle.datatypes.specs.declared.Kind.{Kind}
-use Rattle.spec.specs.Numbers.{slots}
+use Rattle.spec.specs.Numbers.{slots, nodeWords}
 use Rattle.spec.specs.Pool.{word, keyWord, recordAt, standingWord, holdersWord, standingFree, standingLinked, standingRetired}
 use Rattle.spec.specs.Register.{State, hasSlot, dropSlot}
 use Rattle.spec.specs.Free.{endReading}
@@ -27,13 +27,16 @@ use Rattle.heap.specs.Rep.{Rep}
 use Rattle.promise.specs.Run.{Start, Reads, thenPerhaps, callAt, after, indexAfter, plainAfter, ticketsAfter, Begins, Reading}
 use Rattle.readers.specs.Words.{stands-node}
 use Rattle.readers.specs.Release.{end-released}
-use Rattle.readers.specs.Reach.{HasStanding, Kept, retired-end, NodeChange, comes, leaves, rests, goes}
+use Rattle.spec.specs.Bulk.{grownTree}
+use Rattle.spec.specs.Calls.{firstOf, listTests}
+use Rattle.readers.specs.Apart.{not-apart, same-words}
+use Rattle.readers.specs.Reach.{HasStanding, Kept, kept-use, retired-end, NodeChange, comes, leaves, rests, goes}
 use Rattle.readers.specs.Turns.{Turn}
 use Rattle.readers.specs.CallCase as CallCase
-use Rattle.readers.specs.CallCase.{CallCase, call-case, refuses, plansInsert, plansDelete, waits, stores, begins, loads, misses, meets, finds}
+use Rattle.readers.specs.CallCase.{CallCase, call-case, refuses, plansInsert, plansDelete, plansList, waits, stores, begins, loads, misses, meets, finds}
 use Rattle.readers.specs.Safe.{Safe}
 use Rattle.runs.specs.Writer.{Writer, firstMade, afterStore}
-use Rattle.runs.specs.Sound.{Sound, Starts}
+use Rattle.runs.specs.Sound.{Sound, Starts, taken-by}
 use Rattle.runs.specs.Follow.{BeginsBy}
 use Rattle.runs.specs.Answers.{slotOf, kindOf, toldOf}
 use Rattle.runs.specs.Theorem.{by-call, sound-at, shorter}
@@ -81,7 +84,7 @@ turn-was : (st after : State) (came gone : List ℕ) (l : Link) (v : ℕ) → Tu
 turn-was st after came gone l v t s m h = go (t .change m)
   where
     with-ticket : word (st .pool) m standingWord ≢ standingFree → Kept (st .pool) s m → Was (st .pool) (after .pool) s m
-    with-ticket d k = let out : ¬ (m ∈ came) = λ i. d (t .new m i) in record { kept = k; key = t .keys m out; value = t .records m out }
+    with-ticket d k = let out : ¬ (m ∈ came) = λ i. ⊎-elim d (λ a. ⊎-elim (λ b. absurd (omega arith)) (λ b. absurd (omega arith)) (kept-use (st .pool) s m k)) (t .new m i) in record { kept = k; key = t .keys m out; value = t .records m out }
 
     go : NodeChange (st .pool) (after .pool) (Reads st) m → Was (st .pool) (after .pool) s m
     go (comes a e) = absurd (let z = h .0 in omega arith)
@@ -89,11 +92,26 @@ turn-was st after came gone l v t s m h = go (t .change m)
     go (rests a e same links) = with-ticket (omega arith) (inr (a, subst (λ x. hasSlot x s ≡ true) same (h .1)))
     go (goes a e x) = absurd (let z = h .0 in omega arith)
 
+-- an accepted list
+list-was : (st : State) (ks vs : List ℕ) (s m : ℕ) → Safe st → firstOf (listTests st ks vs) ≡ 0 → Held (grownTree st ks vs .after .pool) s m → Was (st .pool) (grownTree st ks vs .after .pool) s m
+list-was st ks vs s m safe e h =
+    let g = grownTree st ks vs in
+    let t = taken-by st ks vs safe e in
+    let r = h .0 in
+    let z = not-apart ks vs st g safe t m (omega arith) in
+    let same : (f : ℕ) → f < nodeWords → word (g .after .pool) m f ≡ word (st .pool) m f = λ f l. same-words ks vs st g safe t m f z l in
+    record {
+      kept = inr (sym (same standingWord (omega arith)) ∙ r, subst (λ x. hasSlot x s ≡ true) (same holdersWord (omega arith)) (h .1));
+      key = same keyWord (omega arith);
+      value = record-kept (st .pool) (g .after .pool) m (λ f l. same f (omega arith));
+    }
+
 -- an accepted begin: no retired node has the slot's bit
 begun-none : (st : State) (c : Call) (o : Outcome) (κ : Kind) (s k m : ℕ) → CallCase st c o → Safe st → BeginsBy c (o .answer) κ s k → ¬ (Held (o .after .pool) s m)
 begun-none st c o κ s k m (refuses d n) safe (e, a) h = let z = ap toldOf a in omega arith
 begun-none st c o κ s k m (plansInsert j v f) safe (e, a) h = let z = ap kindOf e in omega arith
 begun-none st c o κ s k m (plansDelete j f) safe (e, a) h = let z = ap kindOf e in omega arith
+begun-none st c o κ s k m (plansList js us f) safe (e, a) h = let z = ap kindOf e in omega arith
 begun-none st c o κ s k m (waits f) safe (e, a) h = let z = ap kindOf e in omega arith
 begun-none st c o κ s k m (stores f g i) safe (e, a) h = let z = ap kindOf e in omega arith
 begun-none st c o κ s k m (begins μ t j u f) safe (e, a) h =
@@ -113,6 +131,7 @@ module _ (W : State → Plain → Linked → Type 0) (writer : Writer W) where
   held-before st x c o (refuses d n) h s m k = held-was _ s m k
   held-before st x c o (plansInsert j v e) h s m k = held-was _ s m k
   held-before st x c o (plansDelete j e) h s m k = held-was _ s m k
+  held-before st x c o (plansList ks vs e) h s m k = list-was st ks vs s m (h .safe) e k
   held-before st x c o (waits d) h s m k = held-was _ s m k
   held-before st x c o (stores a w f) h s m k =
       let z = writer .store st x (h .tree) (h .safe) (h .holds) a w f in

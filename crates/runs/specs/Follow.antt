@@ -9,7 +9,7 @@ use mathlib.Core.Logic.{_≢_, _⊎_, inl, inr}
 use native.Mathlib.Omega.{arith}
 use native.Mathlib.Decide.{ℕ-discrete}
 use lib.Dec.{eqb}
-use lib.ListN.{getD}
+use lib.ListN.{getD, length}
 use borrow.Author.Tests.{eq-eqb, ne-eqb}
 use Rattle.datatypes.specs.declared.Kind.{Kind}
 use Rattle.datatypes.specs.declared.Reader.{Reader}
@@ -26,10 +26,14 @@ use Rattle.tree.specs.Linked.{Linked}
 use Rattle.laws.specs.Reading.{reader-same, reader-other}
 use Rattle.readers.specs.Release.{ended, end-released}
 use Rattle.readers.specs.Reach.{Kept, kept-end, linked-end, kept-store}
-use Rattle.readers.specs.CallCase.{CallCase, refuses, plansInsert, plansDelete, waits, stores, begins, loads, misses, meets, finds, leaves, Loads}
+use Rattle.readers.specs.CallCase.{CallCase, refuses, plansInsert, plansDelete, plansList, waits, stores, begins, loads, misses, meets, finds, leaves, Loads}
 use Rattle.readers.specs.Safe.{Safe, end-reader}
 use Rattle.runs.specs.Writer.{Writer, firstMade, afterStore}
-use Rattle.runs.specs.Sound.{Sound, store-notice}
+use Rattle.spec.specs.Bulk.{grownTree}
+use Rattle.spec.specs.Calls.{firstOf, listTests, acceptedList}
+use Rattle.heap.specs.Rep.{Alike, rep-alike, upToLinks}
+use Rattle.readers.specs.Apart.{rep-list, linked-list, kept-list}
+use Rattle.runs.specs.Sound.{Sound, store-notice, taken-by}
 use Rattle.runs.specs.Slot.{Stand, StandAt, stand-more, stand-alike, stand-stored, stand-loads}
 
 -- The call c with the answer a begins a reading of slot s, of this kind, with the key k; is its turn and answers b; ends its reading: Begins, Turns and
@@ -73,10 +77,27 @@ stand-end st A κ s t k seen d h g =
     let e = ended-awaited st t in
     let root : endReading st t .register .root ≡ st .register .root = r .else .root ∙ e .1 in
     let bit : hasSlot (endReading st t .register .awaited) s ≡ hasSlot (st .register .awaited) s = ap (λ m. hasSlot m s) (r .else .awaited ∙ e .0) ∙ drop-other (st .register .awaited) t s d in
+    let alike : Alike upToLinks (st .pool) (endReading st t .pool) = record { size = r .size; words = λ n f v. r .words n f (omega arith) } in
     rw (root, end-reader st t s h d)
     (stand-alike (st .pool) (endReading st t .pool) (st .register .root) (st .register .awaited) (endReading st t .register .awaited) (readerOf (st .register) s) A κ s k seen
-    (record { size = r .size; words = λ n f v. r .words n f (omega arith) })
+    (λ _ T i. rep-alike alike T _ i) (λ T i. rep-alike alike T _ i)
     (linked-end st t q (h .whole) exact) (λ n. kept-end st t q (h .whole) exact s n d) bit g)
+
+-- A list is accepted.
+stand-list : (st : State) (ks vs : List ℕ) (A : ℕ → Option ℕ → Type 0) (κ : Kind) (s k : ℕ) (seen : List ℕ) → s < slots → Safe st → firstOf (listTests st ks vs) ≡ 0 → StandAt st A κ s k seen
+    → StandAt (acceptedList (grownTree st ks vs) (length ks) .after) A κ s k seen
+unfolding withWrite
+stand-list st ks vs A κ s k seen u safe e g =
+    let t = taken-by st ks vs safe e in
+    let o = grownTree st ks vs in
+    let f = t .is-made .unfolded .fields in
+    let x = readerOf (st .register) s in
+    let same : readerOf (o .after .register) s ≡ x = ap (λ xs. getD xs s noReader) (f .readers) in
+    rw (f .root, same)
+    (stand-alike (st .pool) (o .after .pool) (st .register .root) (st .register .awaited) (o .after .register .awaited) x A κ s k seen
+    (λ d T i. rep-list ks vs st o safe t s (x .node) T u (λ z. safe .at s u (g .reads) z) i)
+    (λ T i. rep-list ks vs st o safe t s (st .register .root) T u (λ z. inl (safe .root z)) i)
+    (λ n. linked-list ks vs st o safe t n .0) (λ n. kept-list ks vs st o safe t s n) (ap (λ m. hasSlot m s) (f .awaited)) g)
 
 module _ (W : State → Plain → Linked → Type 0) (writer : Writer W) where
   -- a load, its own or another slot's; N is far below where a count stops
@@ -102,6 +123,7 @@ module _ (W : State → Plain → Linked → Type 0) (writer : Writer W) where
   stand-next st x c o (refuses d n) h A A′ κ s k seen u more was now lasts fits g = stand-more _ _ _ _ A A′ κ s k seen more g
   stand-next st x c o (plansInsert j v e) h A A′ κ s k seen u more was now lasts fits g = stand-write st A′ κ s k seen _ (stand-more _ _ _ _ A A′ κ s k seen more g)
   stand-next st x c o (plansDelete j e) h A A′ κ s k seen u more was now lasts fits g = stand-write st A′ κ s k seen _ (stand-more _ _ _ _ A A′ κ s k seen more g)
+  stand-next st x c o (plansList ks vs e) h A A′ κ s k seen u more was now lasts fits g = stand-list st ks vs A′ κ s k seen u (h .safe) e (stand-more _ _ _ _ A A′ κ s k seen more g)
   stand-next st x c o (waits d) h A A′ κ s k seen u more was now lasts fits g = stand-more _ _ _ _ A A′ κ s k seen more g
   stand-next st x c o (stores a w f) h A A′ κ s k seen u more was now lasts fits g =
       let z = writer .store st x (h .tree) (h .safe) (h .holds) a w f in
@@ -126,6 +148,7 @@ module _ (W : State → Plain → Linked → Type 0) (writer : Writer W) where
   kept-next st x c o (refuses d n) h s m u r lasts k = k
   kept-next st x c o (plansInsert j v e) h s m u r lasts k = k
   kept-next st x c o (plansDelete j e) h s m u r lasts k = k
+  kept-next st x c o (plansList ks vs e) h s m u r lasts k = kept-list ks vs st (grownTree st ks vs) (h .safe) (taken-by st ks vs (h .safe) e) s m k
   kept-next st x c o (waits d) h s m u r lasts k = k
   kept-next st x c o (stores a w f) h s m u r lasts k =
       let z = writer .store st x (h .tree) (h .safe) (h .holds) a w f in

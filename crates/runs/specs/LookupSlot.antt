@@ -22,14 +22,14 @@ use Rattle.tree.specs.Graft.{All}
 use Rattle.heap.specs.Rep.{Rep, Alike, rep-alike, upToLinks}
 use Rattle.laws.specs.Slots.{no-bit}
 use Rattle.laws.specs.Reading.{reading-bit}
-use Rattle.readers.specs.Reach.{HasStanding, Kept, Closed, kept-stands, kept-store, not-again}
+use Rattle.readers.specs.Reach.{HasStanding, Kept, Closed, kept-use, kept-store, not-again}
 use Rattle.readers.specs.Lookups.{Unlinked, Finds, OnWay, store-finds, store-way, anew-finds, anew-way, root-way}
 use Rattle.readers.specs.Descends.{turn-finds, turn-way, turn-found, turn-absent}
 use Rattle.readers.specs.Once.{SeenOnce, seen-store, seen-anew}
 use Rattle.readers.specs.Turns.{Turn}
 use Rattle.runs.specs.Writer.{Stores, Writer, firstMade, afterStore}
 use Rattle.runs.specs.Sound.{Sound}
-use Rattle.runs.specs.Seen.{Seen, seen-nothing, seen-child, seen-alike, seen-through}
+use Rattle.runs.specs.Seen.{Seen, seen-nothing, seen-child, seen-carried, seen-through}
 use Rattle.runs.specs.Redirected.{NotFree, all-below, Redirected, anew, below-node, redirected}
 
 -- The slot has come to node n, 0 before its first turn; A: of its key the answers possible so far; it has seen the nodes `seen`. Before its
@@ -83,19 +83,20 @@ module _ (p : List ℕ) (root awaited : ℕ) (A : Option ℕ → Type 0) (s k : 
   pub lookupStand-empty : (T : Linked) → Rep p root T → root ≡ 0 → A (find T k) → A none
   lookupStand-empty T r e a = turn-absent p A k root e (record { tree = T; unfolds = r; answer = a })
 
--- Another slot ends: links, keys and records stay, the same nodes are linked, and what is kept for this slot stays kept.
-pub lookupStand-alike : (p q : List ℕ) (root awaited awaited′ n : ℕ) (A : Option ℕ → Type 0) (s k : ℕ) (seen : List ℕ) → Alike upToLinks p q
-    → ((m : ℕ) → HasStanding q m standingLinked → HasStanding p m standingLinked) → ((m : ℕ) → Kept p s m → Kept q s m) → hasSlot awaited′ s ≡ hasSlot awaited s
+-- Another slot ends, or a list is accepted: what its node and the root unfold to stays, the same nodes are linked, and what is kept for this
+-- slot stays kept.
+pub lookupStand-alike : (p q : List ℕ) (root awaited awaited′ n : ℕ) (A : Option ℕ → Type 0) (s k : ℕ) (seen : List ℕ) → (n ≢ 0 → (t : Linked) → Rep p n t → Rep q n t)
+    → ((t : Linked) → Rep p root t → Rep q root t) → ((m : ℕ) → HasStanding q m standingLinked → HasStanding p m standingLinked) → ((m : ℕ) → Kept p s m → Kept q s m) → hasSlot awaited′ s ≡ hasSlot awaited s
     → LookupStand p root awaited n A s k seen → LookupStand q root awaited′ n A s k seen
-lookupStand-alike p q root awaited awaited′ n A s k seen a linked kept e h = record {
-  finds = λ d. (let f = h .finds d in record { tree = f .tree; unfolds = rep-alike a (f .tree) n (f .unfolds); answer = f .answer });
-  has = seen-alike kind.Lookup p s n k seen (h .has) q a kept;
+lookupStand-alike p q root awaited awaited′ n A s k seen here top linked kept e h = record {
+  finds = λ d. (let f = h .finds d in record { tree = f .tree; unfolds = here d (f .tree) (f .unfolds); answer = f .answer });
+  has = seen-carried kind.Lookup p s n k seen (h .has) q kept (λ d. let f = h .finds d in (f .tree, f .unfolds, here d (f .tree) (f .unfolds)));
   way = λ d. ⊎-map (λ z. e ∙ z)
       (λ w. record {
         tree = w .tree;
         whole = w .whole;
-        unfolds = rep-alike a (w .tree) n (w .unfolds);
-        rooted = rep-alike a (w .whole) root (w .rooted);
+        unfolds = here d (w .tree) (w .unfolds);
+        rooted = top (w .whole) (w .rooted);
         follows = thin-weaken (λ m u z. u (linked m z)) (w .follows);
       })
       (h .way d);
@@ -119,7 +120,7 @@ module _ (st after : State) (came gone : List ℕ) (v : ℕ) (T T′ below : Lin
   Redirects = Redirected st after came gone v T T′ below before linked unfolds then
 
   usable : (m : ℕ) → m ∈ seen → U m
-  usable m i = kept-stands p s m (kept m i)
+  usable m i = kept-use p s m (kept m i)
 
   all : (t : Linked) → Rep p n t → All U t
   all = all-below p s n u closed here

@@ -3,6 +3,7 @@
 use Prim.Native.Nat.{ℕ, suc, _+_, _<_, _≤_}
 use mathlib.Core.Path.{_≡_, refl, sym, ap, _∙_, subst}
 use mathlib.Core.Bool.{Bool, true, false, cond, false≢true}
+use lib.ListN.{length, getD}
 use mathlib.Core.List.{List}
 use mathlib.Core.Option.{Option}
 use mathlib.Core.Logic.{_≢_, inl, inr}
@@ -16,7 +17,7 @@ use Rattle.datatypes.specs.declared.Reader.{Reader}
 use Rattle.datatypes.specs.declared.Write.{Write}
 use Rattle.spec.specs.Numbers.{slots, largestWord}
 use Rattle.spec.specs.Pool.{word, child, keyWord}
-use Rattle.spec.specs.Register.{State, state, readerOf, withReader, withWrite, begunReader, movedReader, countUp}
+use Rattle.spec.specs.Register.{State, state, noReader, readerOf, withReader, withWrite, begunReader, movedReader, countUp}
 use Rattle.spec.specs.Free.{endReading}
 use Rattle.spec.specs.Search.{towards}
 use Rattle.spec.specs.Calls.{Outcome, Call, turning, givingUp, childFor, comparedBy, writeInHand}
@@ -27,10 +28,13 @@ use Rattle.tree.specs.Linked.{Linked, nil, cell}
 use Rattle.tree.specs.Erase.{tall}
 use Rattle.heap.specs.Rep.{Rep, Alike, rep-alike, upToLinks, rep-unique}
 use Rattle.readers.specs.Release.{end-released}
-use Rattle.readers.specs.CallCase.{CallCase, refuses, plansInsert, plansDelete, waits, stores, begins, loads, misses, meets, finds, leaves, Loads, atRoot, lookingUp, searching}
+use Rattle.readers.specs.CallCase.{CallCase, refuses, plansInsert, plansDelete, plansList, waits, stores, begins, loads, misses, meets, finds, leaves, Loads, atRoot, lookingUp, searching}
 use Rattle.readers.specs.Safe.{Safe, end-reader}
 use Rattle.runs.specs.Writer.{Writer}
-use Rattle.runs.specs.Sound.{Sound}
+use Rattle.spec.specs.Bulk.{grownTree}
+use Rattle.spec.specs.Calls.{firstOf, listTests, acceptedList}
+use Rattle.readers.specs.Apart.{rep-list}
+use Rattle.runs.specs.Sound.{Sound, taken-by}
 use Rattle.runs.specs.Slot.{StandAt, load-count, stand-first}
 use Rattle.runs.specs.Follow.{EndsBy, ended-awaited}
 
@@ -106,6 +110,21 @@ low-end st s t d safe h =
       least = h .least;
     })
 
+low-list : (st : State) (ks vs : List ℕ) (s : ℕ) → s < slots → (safe : Safe st) → Reads st s → firstOf (listTests st ks vs) ≡ 0 → LowAt st s → LowAt (acceptedList (grownTree st ks vs) (length ks) .after) s
+unfolding withWrite
+low-list st ks vs s u safe r e h =
+    let t = taken-by st ks vs safe e in
+    let g = grownTree st ks vs in
+    let f = t .is-made .unfolded .fields in
+    let same : readerOf (g .after .register) s ≡ readerOf (st .register) s = ap (λ xs. getD xs s noReader) (f .readers) in
+    rw (f .root, same) (record {
+      tree = h .tree;
+      whole = h .whole;
+      unfolds = rep-list ks vs st g safe t s (readerOf (st .register) s .node) (h .tree) u (λ z. safe .at s u r z) (h .unfolds);
+      rooted = rep-list ks vs st g safe t s (st .register .root) (h .whole) u (λ z. inl (safe .root z)) (h .rooted);
+      least = h .least;
+    })
+
 module _ (W : State → Plain → Linked → Type 0) (writer : Writer W) (st : State) (x : Plain) (h : Sound W writer st x) (A : ℕ → Option ℕ → Type 0)
     (was : (q : ℕ) → A q (recordFor q (x .tickets))) (κ : Kind) (s k : ℕ) (u : s < slots) (seen : List ℕ) (g : StandAt st A κ s k seen) where
   abbrev y : Reader
@@ -137,6 +156,7 @@ module _ (W : State → Plain → Linked → Type 0) (writer : Writer W) (st : S
   low-next c o (refuses d n) idle lasts w = w
   low-next c o (plansInsert j v e) idle lasts w = low-write st s _ w
   low-next c o (plansDelete j e) idle lasts w = low-write st s _ w
+  low-next c o (plansList ks vs e) idle lasts w = low-list st ks vs s u (h .safe) (g .reads) e w
   low-next c o (waits d) idle lasts w = w
   low-next c o (stores a i f) idle lasts w = absurd (false≢true (sym idle ∙ i))
   low-next c o (begins μ t j v e) idle lasts w = low-other st s t _ (λ i. false≢true (sym e ∙ subst (λ m. Reads st m) (sym i) (g .reads))) w

@@ -18,10 +18,11 @@ use Rattle.spec.specs.PlainList.{Plain}
 use Rattle.promise.specs.Run.{Reads}
 use Rattle.tree.specs.Linked.{Linked}
 use Rattle.laws.specs.Reading.{reader-same, reader-other}
-use Rattle.readers.specs.CallCase.{CallCase, refuses, plansInsert, plansDelete, waits, stores, begins, loads, misses, meets, finds, leaves}
+use Rattle.readers.specs.CallCase.{CallCase, refuses, plansInsert, plansDelete, plansList, waits, stores, begins, loads, misses, meets, finds, leaves}
 use Rattle.readers.specs.Safe.{Safe, end-reader, end-own}
 use Rattle.runs.specs.Writer.{Writer}
-use Rattle.runs.specs.Sound.{Sound}
+use Rattle.spec.specs.Bulk.{grownTree}
+use Rattle.runs.specs.Sound.{Sound, taken-by}
 
 abbrev Most : ℕ → Reader → Type 0
 Most N x = (x .reading ≡ true) ⊎ (x .compared ≤ N)
@@ -61,6 +62,8 @@ module _ (W : State → Plain → Linked → Type 0) (writer : Writer W) where
   most-next N st x c o (refuses d n) h s m = m
   most-next N st x c o (plansInsert k v e) h s m = most-write N st s _ m
   most-next N st x c o (plansDelete k e) h s m = most-write N st s _ m
+  most-next N st x c o (plansList ks vs e) h s m =
+      most-write N (grownTree st ks vs .after) s _ (subst (λ xs. Most N (getD xs s noReader)) (sym (taken-by st ks vs (h .safe) e .is-made .unfolded .fields .readers)) m)
   most-next N st x c o (waits d) h s m = m
   most-next N st x c o (stores a w f) h s m =
       let z = writer .store st x (h .tree) (h .safe) (h .holds) a w f in

@@ -25,7 +25,7 @@ use Rattle.tree.specs.Steady.{Sure}
 use Rattle.heap.specs.Rep.{Rep, Alike, rep-alike, upToLinks}
 use Rattle.laws.specs.Slots.{no-bit}
 use Rattle.laws.specs.Reading.{reading-bit}
-use Rattle.readers.specs.Reach.{HasStanding, Kept, Closed, kept-stands, kept-store, not-again}
+use Rattle.readers.specs.Reach.{HasStanding, Kept, Closed, kept-use, kept-store, not-again}
 use Rattle.readers.specs.Lookups.{Unlinked}
 use Rattle.readers.specs.NextSearches.{Gap, gap-now, Held, held-now, Closes, closes-more, OnTrail, store-closes, store-trail, anew-closes, anew-trail, root-trail, root-closes}
 use Rattle.readers.specs.NextSearches.{Remembered, Nothing, keyIn, noting, RememberedHeld, remembered-more, turn-closes, turn-remembers, turn-trail, Answered, turn-answers}
@@ -33,7 +33,7 @@ use Rattle.readers.specs.Once.{SeenOnce, seen-store-next, seen-anew}
 use Rattle.readers.specs.Turns.{Turn}
 use Rattle.runs.specs.Writer.{Stores, Writer, firstMade, afterStore}
 use Rattle.runs.specs.Sound.{Sound}
-use Rattle.runs.specs.Seen.{Seen, seen-nothing, seen-child, seen-alike, seen-through}
+use Rattle.runs.specs.Seen.{Seen, seen-nothing, seen-child, seen-carried, seen-through}
 use Rattle.runs.specs.Redirected.{NotFree, all-below, Redirected, anew, below-node, redirected}
 
 -- The slot has come to node n, 0 before its first turn, and remembers r; A: of each key the answers possible so far. It has seen the nodes
@@ -111,14 +111,15 @@ nextStand-more p root awaited n r A A′ s g seen more h = record {
   trail = h .trail;
 }
 
--- Another slot ends: links, keys and records stay, the same nodes are linked, and what is kept for this slot stays kept.
-pub nextStand-alike : (p q : List ℕ) (root awaited awaited′ n : ℕ) (r : Remembered) (A : ℕ → Option ℕ → Type 0) (s g : ℕ) (seen : List ℕ) → Alike upToLinks p q
-    → ((i : ℕ) → HasStanding q i standingLinked → HasStanding p i standingLinked) → ((i : ℕ) → Kept p s i → Kept q s i) → hasSlot awaited′ s ≡ hasSlot awaited s
+-- Another slot ends, or a list is accepted: what its node and the root unfold to stays, the same nodes are linked, and what is kept for this
+-- slot stays kept.
+pub nextStand-alike : (p q : List ℕ) (root awaited awaited′ n : ℕ) (r : Remembered) (A : ℕ → Option ℕ → Type 0) (s g : ℕ) (seen : List ℕ) → (n ≢ 0 → (t : Linked) → Rep p n t → Rep q n t)
+    → ((t : Linked) → Rep p root t → Rep q root t) → ((i : ℕ) → HasStanding q i standingLinked → HasStanding p i standingLinked) → ((i : ℕ) → Kept p s i → Kept q s i) → hasSlot awaited′ s ≡ hasSlot awaited s
     → NextStand p root awaited n r A s g seen → NextStand q root awaited′ n r A s g seen
-nextStand-alike p q root awaited awaited′ n r A s g seen a linked kept e h = record {
-  closes = λ d. (let f = h .closes d in record { tree = f .tree; unfolds = rep-alike a (f .tree) n (f .unfolds); gap = f .gap; held = f .held });
+nextStand-alike p q root awaited awaited′ n r A s g seen here top linked kept e h = record {
+  closes = λ d. (let f = h .closes d in record { tree = f .tree; unfolds = here d (f .tree) (f .unfolds); gap = f .gap; held = f .held });
   remembers = h .remembers;
-  has = seen-alike kind.Next p s n g seen (h .has) q a kept;
+  has = seen-carried kind.Next p s n g seen (h .has) q kept (λ d. let f = h .closes d in (f .tree, f .unfolds, here d (f .tree) (f .unfolds)));
   blank = h .blank;
   marks = h .marks;
   marked = h .marked;
@@ -126,8 +127,8 @@ nextStand-alike p q root awaited awaited′ n r A s g seen a linked kept e h = r
       (λ w. record {
         tree = w .tree;
         whole = w .whole;
-        unfolds = rep-alike a (w .tree) n (w .unfolds);
-        rooted = rep-alike a (w .whole) root (w .rooted);
+        unfolds = here d (w .tree) (w .unfolds);
+        rooted = top (w .whole) (w .rooted);
         trails = thinM-weaken (λ i u z. u (linked i z)) (w .trails);
       })
       (h .trail d);
@@ -151,7 +152,7 @@ module _ (st after : State) (came gone : List ℕ) (v : ℕ) (T T′ below : Lin
   Redirects = Redirected st after came gone v T T′ below before linked unfolds then
 
   usable : (i : ℕ) → i ∈ nums seen → U i
-  usable i j = kept-stands p s i (kept i j)
+  usable i j = kept-use p s i (kept i j)
 
   all : (t : Linked) → Rep p n t → All U t
   all = all-below p s n u closed here

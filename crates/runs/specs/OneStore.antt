@@ -15,7 +15,7 @@ use Rattle.spec.specs.PlainList.{Plain}
 use Rattle.tree.specs.Linked.{Linked}
 use Rattle.promise.specs.Demands.{StoresOne}
 use Rattle.readers.specs.Turns.{turn-stores}
-use Rattle.readers.specs.CallCase.{CallCase, refuses, plansInsert, plansDelete, waits, stores, begins, loads, misses, meets, finds, leaves}
+use Rattle.readers.specs.CallCase.{CallCase, refuses, plansInsert, plansDelete, plansList, waits, stores, begins, loads, misses, meets, finds, leaves}
 use Rattle.runs.specs.Writer.{Writer, firstMade, afterStore}
 use Rattle.runs.specs.Sound.{Sound}
 use Rattle.runs.specs.Answers.{toldOf}
@@ -35,6 +35,7 @@ storing : (st : State) (c : Call) (o : Outcome) → CallCase st c o → TellsSto
 storing st c o (refuses d f) e = absurd (let z = e .1 in omega arith)
 storing st c o (plansInsert j v f) e = absurd (let z = e .0 in omega arith)
 storing st c o (plansDelete j f) e = absurd (let z = e .0 in omega arith)
+storing st c o (plansList ks vs f) e = absurd (let z = e .0 in omega arith)
 storing st c o (waits d) e = absurd (let z = e .0 in omega arith)
 storing st c o (stores a w f) e = record { unawaited = a; inHand = w; finds-all = f; is = refl }
 storing st c o (begins κ t j u f) e = absurd (let z = e .0 in omega arith)
@@ -103,7 +104,7 @@ store-one W writer st x c o l n k h e =
     let s = storing st c o k (t .0) in
     let m = firstMade st in
     let z = writer .store st x (h .tree) (h .safe) (h .holds) (s .unawaited) (s .inHand) (s .finds-all) in
-    let one = turn-stores st (afterStore st) (z .came) (z .gone) (m .link) (m .node) (z .turn) (z .owner) (z .moved) (z .new) in
+    let one = turn-stores st (afterStore st) (z .came) (z .gone) (m .link) (m .node) (z .turn) (z .owner) (z .moved) (z .new) (z .apart) in
     let link : m .link ≡ l = sym (stored-tells m .0) ∙ ap (λ y. linkIn (y .answer)) (sym (s .is)) ∙ t .1 in
     let node : m .node ≡ n = sym (stored-tells m .1) ∙ ap (λ y. nodeIn (y .answer)) (sym (s .is)) ∙ t .2 in
     subst (λ y. StoresOne st (y .after) l n) (sym (s .is)) (rw (link, node) at one)

@@ -3,7 +3,7 @@ use Prim.Native.Nat.{ℕ, _<_}
 use mathlib.Core.Path.{_≡_, refl, ap, _∙_, subst}
 use mathlib.Core.Bool.{cond}
 use mathlib.Core.List.{List}
-use mathlib.Core.Logic.{_≢_, inl, inr, _↔_}
+use mathlib.Core.Logic.{_≢_, inl, inr, _↔_, ⊎-elim}
 use native.Mathlib.Omega.{arith}
 use borrow.Author.Tests.{ne-eqb}
 use Rattle.datatypes.specs.declared.Side.{Side}
@@ -19,7 +19,7 @@ use Rattle.base.specs.Lists.{_∈_, in-append}
 use Rattle.tree.specs.Linked.{Linked, nil, cell, nodes}
 use Rattle.tree.specs.Graft.{All, all-map, hits}
 use Rattle.heap.specs.Rep.{Rep}
-use Rattle.readers.specs.Reach.{HasStanding, Kept, Closed, kept-stands, kept-child}
+use Rattle.readers.specs.Reach.{HasStanding, Kept, Closed, InUse, kept-use, kept-child}
 use Rattle.readers.specs.Graft.{Redirects}
 use Rattle.readers.specs.Lookups.{Store, Anew}
 use Rattle.promise.specs.Demands.{TreeLink}
@@ -35,7 +35,7 @@ all-kept p s u c (cell N l r) a h k =
     (kept-top, all-kept p s u c l _ (h .1) (λ z. kept-child p s (N .num) L u c kept-top z), all-kept p s u c r _ (h .2) (λ z. kept-child p s (N .num) R u c kept-top z))
 
 abbrev pub NotFree : List ℕ → ℕ → Type 0
-NotFree p n = word p n standingWord ≢ standingFree
+NotFree p n = InUse p n
 
 all-nodes : (U : ℕ → Type 0) (t : Linked) → ((n : ℕ) → n ∈ nodes t → U n) → All U t
 all-nodes U nil h = tt
@@ -44,7 +44,7 @@ all-nodes U (cell N l r) h =
 
 -- all of the tree that a slot's node unfolds to has left the free nodes
 pub all-below : (p : List ℕ) (s n : ℕ) → s < slots → Closed p → Kept p s n → (t : Linked) → Rep p n t → All (NotFree p) t
-all-below p s n u closed here t h = all-map (Kept p s) (NotFree p) (λ i. kept-stands p s i) t (all-kept p s u closed t n h (λ _. here))
+all-below p s n u closed here t h = all-map (Kept p s) (NotFree p) (λ i. kept-use p s i) t (all-kept p s u closed t n h (λ _. here))
 
 hits-at : (d : ℕ) (z : Side) (n : ℕ) (y : Side) → hitsLink (linkAt z d) n y ≡ hits d z n y
 hits-at d L n L = refl
@@ -54,7 +54,7 @@ hits-at d R n R = refl
 
 module _ (st after : State) (came gone : List ℕ) (v : ℕ) where
   not-came : (l : Link) → Turn st after came gone l v → (n : ℕ) → NotFree (st .pool) n → ¬ (n ∈ came)
-  not-came l t n u i = u (t .new n i)
+  not-came l t n u i = ⊎-elim (λ a. ⊎-elim (λ e. absurd (omega arith)) (λ e. absurd (omega arith)) u) (λ a. ⊎-elim (λ e. absurd (omega arith)) (λ e. absurd (omega arith)) u) (t .new n i)
 
   redirects-node : (d : ℕ) (z : Side) → Turn st after came gone (linkAt z d) v → Redirects (st .pool) (after .pool) (NotFree (st .pool)) d z v
   redirects-node d z t = record {
@@ -73,7 +73,7 @@ module _ (st after : State) (came gone : List ℕ) (v : ℕ) where
   }
     where
       none : (n : ℕ) (z : Side) → NotFree (st .pool) n → child (st .pool) z n ≡ cond (hits 0 L n z) 0 (child (st .pool) z n)
-      none n L u = rw (ne-eqb 0 n (λ e. u (subst (λ m. word (st .pool) m standingWord ≡ standingFree) e (word-none (st .pool) standingWord))))
+      none n L u = rw (ne-eqb 0 n (λ e. let z = subst (λ m. word (st .pool) m standingWord ≡ standingFree) e (word-none (st .pool) standingWord) in ⊎-elim (λ a. absurd (omega arith)) (λ a. absurd (omega arith)) u))
       none n R u = refl
 
 -- A store of the writer as one of the root link or of the link of a node of T.
@@ -101,7 +101,7 @@ module _ (st after : State) (came gone : List ℕ) (v : ℕ) (T T′ below : Lin
         unfolds = unfolds;
         before = before;
         after = rw e at then;
-        all = all-nodes U T (λ m i. let x = linked m .1 i in λ y. omega arith);
+        all = all-nodes U T (λ m i. inl (linked m .1 i));
       })
       (linked d .0 o) e
 

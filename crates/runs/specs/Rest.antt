@@ -1,6 +1,6 @@
 -- The other promises about runs: the free queue, waits, writes done within seven stores, the tree at rest, and that 1, 2 and 12 are never met.
 -- What of them is the writer's side alone is asked as `Completes`.
-use Prim.Native.Nat.{ℕ, _+_, _*_, _^_, _%_, _<_, _≤_}
+use Prim.Native.Nat.{ℕ, _+_, _-_, _*_, _^_, _%_, _<_, _≤_}
 use mathlib.Core.Path.{_≡_, refl, sym, ap, _∙_}
 use mathlib.Core.Bool.{Bool, true, false, cond, not, _&&_, false≢true}
 use mathlib.Core.List.{List, [], _∷_}
@@ -8,11 +8,16 @@ use mathlib.Core.Logic.{_≢_, _⊎_, inl, inr, ⊎-elim}
 use native.Mathlib.Omega.{arith}
 use lib.Dec.{eqb}
 use lib.ListN.{drop, length}
-use borrow.Author.Tests.{not-false, eqb-true, eqb-false, eq-eqb, le-leb, lt-leb}
+use borrow.Author.Tests.{not-false, eqb-true, eqb-false, eq-eqb, ne-eqb, le-leb, lt-leb, ltb-false}
 use Rattle.sequential.specs.Delete.{changedBy}
+use Rattle.sequential.specs.Balanced.{listRight}
+use Rattle.tree.specs.Balanced.{list-right}
+use Rattle.spec.specs.Calls.{insertingList, listTests, queueEnds}
+use Rattle.spec.specs.Bulk.{freeAfter}
+use Rattle.readers.specs.Apart.{free-after}
 use Rattle.spec.specs.FreeQueue.{Whole}
 use Rattle.spec.specs.Numbers.{nodeWords, leastNodes, mostNodes, slots, mostStores, freeForInsert, freeForDelete}
-use Rattle.spec.specs.Pool.{word, colourWord, nodes, lengthRight}
+use Rattle.spec.specs.Pool.{word, colourWord, standingWord, standingApart, nodes, lengthRight}
 use Rattle.spec.specs.Register.{State, storeOf, hasSlot, withWrite, lessFirst}
 use Rattle.spec.specs.Turn.{Made, stepFinds, stepMade}
 use Rattle.spec.specs.Calls.{Answer, ok, go, absent, wait, found, next, more, done, refused, Outcome, stored, Test, _gives_, firstOf, wrongLength}
@@ -25,9 +30,9 @@ use Rattle.laws.specs.Turns.{and-false}
 use Rattle.tree.specs.Linked.{Linked, nodes as treeNodes}
 use Rattle.tree.specs.Erase.{tall}
 use Rattle.promise.specs.Run.{Reads, after}
-use Rattle.promise.specs.Demands.{Stands}
+use Rattle.promise.specs.Demands.{Stands, ApartRight}
 use Rattle.spec.specs.Calls.{insertTests, deleteTests, writerTests, readerTests, giveUpTests, firstFinds, waiting}
-use Rattle.readers.specs.CallCase.{CallCase, refuses, plansInsert, plansDelete, waits, stores, begins, loads, misses, meets, finds, leaves, testsOf}
+use Rattle.readers.specs.CallCase.{CallCase, refuses, plansInsert, plansDelete, plansList, waits, stores, begins, loads, misses, meets, finds, leaves, testsOf}
 use Rattle.readers.specs.CallCase.{TestsPass}
 use Rattle.readers.specs.Safe.{Safe}
 use Rattle.runs.specs.Sound.{store-notice}
@@ -60,6 +65,7 @@ pub wait-right : (st : State) (c : Call) (o : Outcome) → CallCase st c o → S
 wait-right st c o (refuses d n) h e = absurd (let z = ap toldOf e in omega arith)
 wait-right st c o (plansInsert j v f) h e = absurd (let z = ap toldOf e in omega arith)
 wait-right st c o (plansDelete j f) h e = absurd (let z = ap toldOf e in omega arith)
+wait-right st c o (plansList ks vs f) h e = absurd (let z = ap toldOf e in omega arith)
 wait-right st c o (waits d) h e =
     let a = h .owned .awaited in
     let s = some-slot slots (st .register .awaited) (a .below) d in
@@ -110,6 +116,7 @@ pub refused-by : (st : State) (c : Call) (o : Outcome) (n : ℕ) → n ≢ 0 →
 refused-by st c o n z (refuses d x) e = ap numberOf e
 refused-by st c o n z (plansInsert j v f) e = absurd (z (sym (ap numberOf e)))
 refused-by st c o n z (plansDelete j f) e = absurd (z (sym (ap numberOf e)))
+refused-by st c o n z (plansList ks vs f) e = absurd (z (sym (ap numberOf e)))
 refused-by st c o n z (waits d) e = absurd (z (sym (ap numberOf e)))
 refused-by st c o n z (stores a w f) e = absurd (z (sym (sym (stored-number (stepMade st (storeOf (st .register) 0 .link) (storeOf (st .register) 0 .step))) ∙ ap numberOf e)))
 refused-by st c o n z (begins κ t j u f) e = absurd (z (sym (ap numberOf e)))
@@ -134,6 +141,7 @@ not-one st (deleting k) r = avoided 1 (deleteTests st k) (omega arith) (inr r, �
 not-one st writing r = avoided 1 (writerTests st) (omega arith) (inr r, λ _. others-avoid 1 (drop 1 (writerTests st)) (omega arith))
 not-one st (beginning κ s k) r = avoided 1 (beginTests st s) (omega arith) (inr r, λ _. others-avoid 1 (drop 1 (beginTests st s)) (omega arith))
 not-one st (turning s) r = avoided 1 (readerTests st s) (omega arith) (inr r, λ _. others-avoid 1 (drop 1 (readerTests st s)) (omega arith))
+not-one st (insertingList ks vs) r = avoided 1 (listTests st ks vs) (omega arith) (inr r, λ _. others-avoid 1 (drop 1 (listTests st ks vs)) (omega arith))
 not-one st (givingUp s) r = avoided 1 (giveUpTests st s) (omega arith) (inr r, λ _. others-avoid 1 (drop 1 (giveUpTests st s)) (omega arith))
 
 pub not-two : (st : State) (c : Call) → outOfRange st ≡ false → ((s : ℕ) → namedOutOfRange st s ≡ false) → firstOf (testsOf st c) ≢ 2
@@ -142,6 +150,7 @@ not-two st (deleting k) r m = avoided 2 (deleteTests st k) (omega arith) (inl (o
 not-two st writing r m = avoided 2 (writerTests st) (omega arith) (inl (omega arith), λ _. (inr r, λ _. others-avoid 2 (drop 2 (writerTests st)) (omega arith)))
 not-two st (beginning κ s k) r m = avoided 2 (beginTests st s) (omega arith) (inl (omega arith), λ _. (inr r, λ _. others-avoid 2 (drop 2 (beginTests st s)) (omega arith)))
 not-two st (turning s) r m = avoided 2 (readerTests st s) (omega arith) (inl (omega arith), λ _. (inr (m s), λ _. others-avoid 2 (drop 2 (readerTests st s)) (omega arith)))
+not-two st (insertingList ks vs) r m = avoided 2 (listTests st ks vs) (omega arith) (inl (omega arith), λ _. (inr r, λ _. others-avoid 2 (drop 2 (listTests st ks vs)) (omega arith)))
 not-two st (givingUp s) r m = avoided 2 (giveUpTests st s) (omega arith) (inl (omega arith), λ _. (inr r, λ _. others-avoid 2 (drop 2 (giveUpTests st s)) (omega arith)))
 
 -- 02, C-13: no cause has the number 8
@@ -151,6 +160,7 @@ not-eight st (deleting k) = avoided 8 (deleteTests st k) (omega arith) (others-a
 not-eight st writing = avoided 8 (writerTests st) (omega arith) (others-avoid 8 (writerTests st) (omega arith))
 not-eight st (beginning κ s k) = avoided 8 (beginTests st s) (omega arith) (others-avoid 8 (beginTests st s) (omega arith))
 not-eight st (turning s) = avoided 8 (readerTests st s) (omega arith) (others-avoid 8 (readerTests st s) (omega arith))
+not-eight st (insertingList ks vs) = avoided 8 (listTests st ks vs) (omega arith) (others-avoid 8 (listTests st ks vs) (omega arith))
 not-eight st (givingUp s) = avoided 8 (giveUpTests st s) (omega arith) (others-avoid 8 (giveUpTests st s) (omega arith))
 
 -- a pool of N nodes has the right length
@@ -167,6 +177,9 @@ pub record Completes (W : State → Plain → Linked → Type 0) : Type 0 where
   pub counts : (st : State) (x : Plain) (T : Linked) → W st x T → writeInHand st ≡ false → Distinct (treeNodes T) × (length (treeNodes T) ≡ st .register .held)
   -- and the tree is as high as a red-black tree of so many keys may be
   pub low : (st : State) (x : Plain) (T : Linked) → W st x T → writeInHand st ≡ false → 2 ^ tall T ≤ (st .register .held + 1) * (st .register .held + 1)
+  -- 02, C-24: the tree of a list in hand stands apart; at rest nothing does
+  pub apart : (st : State) (x : Plain) (T : Linked) → W st x T → ((n : ℕ) → word (st .pool) n colourWord ≤ 1) → ApartRight st x
+  pub unapart : (st : State) (x : Plain) (T : Linked) → W st x T → writeInHand st ≡ false → (n : ℕ) → word (st .pool) n standingWord ≢ standingApart
   pub few : (st : State) (x : Plain) (T : Linked) → W st x T → writeInHand st ≡ true → x .made + st .register .write .count ≤ mostStores
   pub insertGoes : (st : State) (x : Plain) (T : Linked) (k v : ℕ) → Safe st → W st x T → writeInHand st ≡ false
       → (tooDeep (placeOf st k) ≡ false) × (fewerFree st freeForInsert ≡ false → insertAt st k v (placeOf st k) .possible ≡ true)
@@ -213,6 +226,17 @@ not-twelve W w st x T h g writing =
     go : (b : Bool) → eqb (st .register .awaited) 0 ≡ b → writeInHand st ≡ true → (not (not b) && not (firstFinds st)) ≡ false
     go true e n = not-true (firstFinds st) (w .stepGoes st x T h g (eqb-true (st .register .awaited) 0 e) n)
     go false e n = refl
+not-twelve W w st x T h g (insertingList ks vs) =
+    avoided 12 (listTests st ks vs) (omega arith)
+    (inl (omega arith), λ _. (inl (omega arith), λ _. (inl (omega arith), λ _. (inl (omega arith), λ r. (inl (omega arith), λ _. (inl (omega arith), λ _. (inl (omega arith), λ f. (inr (ends r f), λ _. tt))))))))
+  where
+    ends : not (listRight ks vs) ≡ false → fewerFree st (length ks) ≡ false → queueEnds st (length ks) ≡ false
+    ends r f =
+        let some = list-right ks vs (not-false (listRight ks vs) r) .some in
+        let enough = ltb-false (st .register .free) (length ks) f in
+        let a = free-after st (length ks - 1) h (omega arith) in
+        let low = a .0 .low in
+        ne-eqb (freeAfter (st .pool) (st .register .first) (length ks - 1)) 0 (omega arith)
 not-twelve W w st x T h g (beginning κ s k) = avoided 12 (beginTests st s) (omega arith) (inl (omega arith), λ _. (inl (omega arith), λ _. (inl (omega arith), λ _. (inl (omega arith), λ _. tt))))
 not-twelve W w st x T h g (turning s) = avoided 12 (readerTests st s) (omega arith) (inl (omega arith), λ _. (inl (omega arith), λ _. (inl (omega arith), λ _. (inl (omega arith), λ _. tt))))
 not-twelve W w st x T h g (givingUp s) = avoided 12 (giveUpTests st s) (omega arith) (inl (omega arith), λ _. (inl (omega arith), λ _. (inl (omega arith), λ _. (inl (omega arith), λ _. tt))))
@@ -251,6 +275,7 @@ pub turn-goes : (st : State) (c : Call) (o : Outcome) → CallCase st c o → fi
 turn-goes st c o (refuses d x) e z = absurd (x e)
 turn-goes st c o (plansInsert j v f) e z = refl
 turn-goes st c o (plansDelete j f) e z = refl
+turn-goes st c o (plansList ks vs f) e z = refl
 turn-goes st c o (waits d) e z = absurd (d z)
 turn-goes st c o (stores a w f) e z = store-notice (stepMade st (storeOf (st .register) 0 .link) (storeOf (st .register) 0 .step))
 turn-goes st c o (begins κ t j u f) e z = refl

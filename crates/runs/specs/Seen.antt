@@ -13,7 +13,7 @@ use Rattle.spec.specs.Pool.{child, standingWord, nodes}
 use Rattle.spec.specs.Search.{towards}
 use Rattle.base.specs.Lists.{_∈_, in-append, Distinct, pigeonhole}
 use Rattle.tree.specs.Linked.{Linked}
-use Rattle.heap.specs.Rep.{Rep, Alike, rep-alike, upToLinks}
+use Rattle.heap.specs.Rep.{Rep, Alike, rep-alike, upToLinks, rep-unique}
 use Rattle.readers.specs.Words.{node-high, stands-node}
 use Rattle.readers.specs.Reach.{Kept, kept-stands}
 use Rattle.readers.specs.Once.{GoesOn, SeenOnce, seen-none, seen-here, seen-turn}
@@ -26,9 +26,6 @@ pub record Seen (κ : Kind) (p : List ℕ) (s n k : ℕ) (seen : List ℕ) : Typ
 
 pub seen-nothing : (κ : Kind) (p : List ℕ) (s n k : ℕ) → Seen κ p s n k []
 seen-nothing κ p s n k = record { kept = λ m i. absurd i; none = λ _. refl; once = seen-none κ p n k }
-
-alike-sym : {p q : List ℕ} → Alike upToLinks p q → Alike upToLinks q p
-alike-sym a = record { size = sym (a .size); words = λ n f h. sym (a .words n f h) }
 
 module _ (κ : Kind) (p : List ℕ) (s n k : ℕ) (seen : List ℕ) (h : Seen κ p s n k seen) where
   -- with its node
@@ -47,9 +44,9 @@ module _ (κ : Kind) (p : List ℕ) (s n k : ℕ) (seen : List ℕ) (h : Seen κ
     once = elim (ℕ-discrete n 0) [ yes e ↦ rw (h .none e) (seen-none κ q n k) | no d ↦ on d ];
   }
 
-  -- links, keys and records stay
-  pub seen-alike : (q : List ℕ) → Alike upToLinks p q → ((m : ℕ) → Kept p s m → Kept q s m) → Seen κ q s n k seen
-  seen-alike q a stays = seen-through q stays (λ _ t r. h .once t (rep-alike (alike-sym a) t n r))
+  -- what its node unfolds to stays
+  pub seen-carried : (q : List ℕ) → ((m : ℕ) → Kept p s m → Kept q s m) → (n ≢ 0 → (t : Linked) × Rep p n t × Rep q n t) → Seen κ q s n k seen
+  seen-carried q stays both = seen-through q stays (λ d t r. (let b = both d in h .once t (subst (λ u. Rep p n u) (rep-unique q (b .0) t n n refl (b .2) r) (b .1))))
 
 -- nodes kept for a slot, none twice, are at most N
 pub kept-few : (p : List ℕ) (s : ℕ) (xs : List ℕ) → Whole p → Distinct xs → ((m : ℕ) → m ∈ xs → Kept p s m) → length xs ≤ nodes p

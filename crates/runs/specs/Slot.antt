@@ -71,22 +71,22 @@ pub stand-begin : (p : List ℕ) (root awaited : ℕ) (A : ℕ → Option ℕ �
 stand-begin p root awaited A kind.Lookup s k = record { reads = refl; kind = refl; key = refl; count = refl; search = lookupStand-begin p root awaited (A k) s k }
 stand-begin p root awaited A kind.Next s k = record { reads = refl; kind = refl; key = refl; count = refl; search = nextStand-begin p root awaited A s k }
 
--- Another slot ends: links, keys and records stay, the same nodes are linked, and what is kept for this slot stays kept.
-search-alike : (κ : Kind) (p q : List ℕ) (root awaited awaited′ n : ℕ) (m : Remembered) (A : ℕ → Option ℕ → Type 0) (s k : ℕ) (seen : List ℕ) → Alike upToLinks p q
+-- Another slot ends, or a list is accepted: what its node and the root unfold to stays, the same nodes are linked, and what is kept for this slot stays kept.
+search-alike : (κ : Kind) (p q : List ℕ) (root awaited awaited′ n : ℕ) (m : Remembered) (A : ℕ → Option ℕ → Type 0) (s k : ℕ) (seen : List ℕ) → (n ≢ 0 → (t : Linked) → Rep p n t → Rep q n t) → ((t : Linked) → Rep p root t → Rep q root t)
     → ((i : ℕ) → HasStanding q i standingLinked → HasStanding p i standingLinked) → ((i : ℕ) → Kept p s i → Kept q s i) → hasSlot awaited′ s ≡ hasSlot awaited s
     → SearchStand κ p root awaited n m A s k seen → SearchStand κ q root awaited′ n m A s k seen
-search-alike kind.Lookup p q root awaited awaited′ n m A s k seen a linked kept e h = lookupStand-alike p q root awaited awaited′ n (A k) s k seen a linked kept e h
-search-alike kind.Next p q root awaited awaited′ n m A s k seen a linked kept e h = nextStand-alike p q root awaited awaited′ n m A s k seen a linked kept e h
+search-alike kind.Lookup p q root awaited awaited′ n m A s k seen here top linked kept e h = lookupStand-alike p q root awaited awaited′ n (A k) s k seen here top linked kept e h
+search-alike kind.Next p q root awaited awaited′ n m A s k seen here top linked kept e h = nextStand-alike p q root awaited awaited′ n m A s k seen here top linked kept e h
 
-pub stand-alike : (p q : List ℕ) (root awaited awaited′ : ℕ) (x : Reader) (A : ℕ → Option ℕ → Type 0) (κ : Kind) (s k : ℕ) (seen : List ℕ) → Alike upToLinks p q
+pub stand-alike : (p q : List ℕ) (root awaited awaited′ : ℕ) (x : Reader) (A : ℕ → Option ℕ → Type 0) (κ : Kind) (s k : ℕ) (seen : List ℕ) → (x .node ≢ 0 → (t : Linked) → Rep p (x .node) t → Rep q (x .node) t) → ((t : Linked) → Rep p root t → Rep q root t)
     → ((i : ℕ) → HasStanding q i standingLinked → HasStanding p i standingLinked) → ((i : ℕ) → Kept p s i → Kept q s i) → hasSlot awaited′ s ≡ hasSlot awaited s
     → Stand p root awaited x A κ s k seen → Stand q root awaited′ x A κ s k seen
-stand-alike p q root awaited awaited′ x A κ s k seen a linked kept e h = record {
+stand-alike p q root awaited awaited′ x A κ s k seen here top linked kept e h = record {
   reads = h .reads;
   kind = h .kind;
   key = h .key;
   count = h .count;
-  search = search-alike κ p q root awaited awaited′ (x .node) (rememberedBy x) A s k seen a linked kept e (h .search);
+  search = search-alike κ p q root awaited awaited′ (x .node) (rememberedBy x) A s k seen here top linked kept e (h .search);
 }
 
 abbrev pub StandAt : State → (ℕ → Option ℕ → Type 0) → Kind → ℕ → ℕ → List ℕ → Type 0

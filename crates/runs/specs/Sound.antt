@@ -5,7 +5,7 @@ use mathlib.Core.Bool.{Bool, true, false, cond}
 use mathlib.Core.List.{List}
 use mathlib.Core.Logic.{_≢_, inl, _↔_}
 use native.Mathlib.Omega.{arith}
-use lib.ListN.{length-append}
+use lib.ListN.{length, length-append}
 use lib.Dec.{eqb}
 use Rattle.datatypes.specs.declared.Reader.{Reader}
 use Rattle.spec.specs.Numbers.{leastNodes, mostNodes, slots}
@@ -20,8 +20,11 @@ use Rattle.base.specs.Lists.{_∈_}
 use Rattle.tree.specs.Linked.{Linked, nodes}
 use Rattle.heap.specs.Rep.{Rep, alike-refl, upToColour}
 use Rattle.readers.specs.Release.{ended, freedBelow, end-released}
-use Rattle.readers.specs.Reach.{HasStanding, Kept, LinkedClosed, leads-on, leads-in, in-leads, kept-child, end-linked, linked-end}
-use Rattle.readers.specs.CallCase.{CallCase, refuses, plansInsert, plansDelete, waits, stores, begins, loads, misses, meets, finds, leaves, Loads, atRoot, lookingUp, searching, Passed}
+use Rattle.readers.specs.Reach.{HasStanding, Kept, LinkedClosed, leads-on, leads-in, in-leads, kept-child, end-linked, linked-end, end-apart, apart-end}
+use Rattle.readers.specs.CallCase.{CallCase, refuses, plansInsert, plansDelete, plansList, waits, stores, begins, loads, misses, meets, finds, leaves, Loads, atRoot, lookingUp, searching, Passed}
+use Rattle.spec.specs.Bulk.{grownTree}
+use Rattle.spec.specs.Calls.{firstOf, listTests, acceptedList}
+use Rattle.readers.specs.Apart.{Taken, list-taken, list-passes, safe-list}
 use Rattle.readers.specs.Safe.{Safe, safe-write, safe-reader, safe-end, safe-turn}
 use Rattle.promise.specs.Run.{Start, outset, Reads}
 use Rattle.promise.specs.Demands.{arrived}
@@ -39,7 +42,7 @@ module _ (p : List ℕ) (root : ℕ) (T : Linked) (h : Rep p root T) (l : (n : �
 -- What the calls of readers leave alone.
 leavesTree-reader : (st : State) (s : ℕ) (x : Reader) → LeavesTree st (state (st .pool) (withReader (st .register) s x))
 unfolding withReader
-leavesTree-reader st s x = record { words = alike-refl upToColour (st .pool); linked = λ n. (λ e. e, λ e. e); root = refl; held = refl; write = refl; free = omega arith }
+leavesTree-reader st s x = record { words = alike-refl upToColour (st .pool); linked = λ n. (λ e. e, λ e. e); apart = λ n. (λ e. e, λ e. e); root = refl; held = refl; write = refl; free = omega arith }
 
 ended-fields : (st : State) (s : ℕ) → (ended st s .register .root ≡ st .register .root) × (ended st s .register .held ≡ st .register .held) × (ended st s .register .write ≡ st .register .write)
 unfolding withReader withAwaited
@@ -57,6 +60,7 @@ leavesTree-end st s u h =
     record {
       words = record { size = d .size; words = λ n g v. d .words n g (omega arith) };
       linked = λ n. (linked-end st s q (h .whole) exact n, end-linked st s q (h .whole) exact n);
+      apart = λ n. (apart-end st s q (h .whole) exact n, end-apart st s q (h .whole) exact n);
       root = d .else .root ∙ f .0;
       held = d .else .held ∙ f .1;
       write = d .else .write ∙ f .2;
@@ -71,6 +75,13 @@ store-notice m = go (eqb (lessFirst (m .after .register .write) .count) 0)
     go : (b : Bool) → noticeOf (cond b (done (m .link) (m .node)) (more (m .link) (m .node))) ≡ carriedOut
     go true = refl
     go false = refl
+
+-- an accepted list
+pub taken-by : (st : State) (ks vs : List ℕ) → Safe st → firstOf (listTests st ks vs) ≡ 0 → Taken ks vs st (grownTree st ks vs)
+taken-by st ks vs safe e = let p = list-passes st ks vs safe e in list-taken ks vs st safe (p .few) (p .enough)
+
+pub safe-accepted : (st : State) (ks vs : List ℕ) → Safe st → firstOf (listTests st ks vs) ≡ 0 → Safe (acceptedList (grownTree st ks vs) (length ks) .after)
+safe-accepted st ks vs safe e = safe-list ks vs st (grownTree st ks vs) safe (taken-by st ks vs safe e) _
 
 module _ (W : State → Plain → Linked → Type 0) (writer : Writer W) where
   pub record Sound (st : State) (x : Plain) : Type 0 where
@@ -116,6 +127,7 @@ module _ (W : State → Plain → Linked → Type 0) (writer : Writer W) where
   sound-next st x c o (refuses d n) h = h
   sound-next st x c o (plansInsert k v e) h = record { safe = safe-write st _ (h .safe); tree = h .tree; holds = writer .insert st x (h .tree) k v (h .safe) (h .holds) e }
   sound-next st x c o (plansDelete k e) h = record { safe = safe-write st _ (h .safe); tree = h .tree; holds = writer .delete st x (h .tree) k (h .safe) (h .holds) e }
+  sound-next st x c o (plansList ks vs e) h = record { safe = safe-accepted st ks vs (h .safe) e; tree = h .tree; holds = writer .list st x (h .tree) ks vs (h .safe) (h .holds) e }
   sound-next st x c o (waits d) h = h
   sound-next st x c o (stores a w f) h =
       let s = writer .store st x (h .tree) (h .safe) (h .holds) a w f in

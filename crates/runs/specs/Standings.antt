@@ -9,7 +9,7 @@ use native.Mathlib.Omega.{arith}
 use lib.ListN.{length, length-append}
 use Rattle.base.specs.Lists.{_∈_, in-append, Distinct, length-within, numbersFrom, numbers-length, numbers-in, numbers-distinct, pigeonhole}
 use Rattle.spec.specs.Numbers.{slots}
-use Rattle.spec.specs.Pool.{word, nodes, standingWord, holdersWord, standingFree, standingLinked, standingRetired}
+use Rattle.spec.specs.Pool.{word, nodes, standingWord, holdersWord, standingFree, standingLinked, standingRetired, standingApart}
 use Rattle.spec.specs.Register.{State, hasSlot}
 use Rattle.spec.specs.Calls.{reading}
 use Rattle.spec.specs.FreeQueue.{InPool}
@@ -17,14 +17,15 @@ use Rattle.tree.specs.Linked.{Linked, nodes as treeNodes}
 use Rattle.promise.specs.Run.{Reads}
 use Rattle.promise.specs.Demands.{standingAt}
 use Rattle.readers.specs.Words.{node-in, node-high, stands-node}
-use Rattle.readers.specs.NodeChanges.{ranked, three}
+use Rattle.readers.specs.NodeChanges.{ranked}
+use Rattle.readers.specs.Apart.{four}
 use Rattle.readers.specs.Once.{distinct-append}
 use Rattle.readers.specs.Safe.{Safe}
 use Rattle.laws.specs.Slots.{some-slot}
 
 module _ (st : State) (h : Safe st) where
-  pub stands-one : (n : ℕ) → (standingAt st n ≡ standingLinked) ⊎ ((standingAt st n ≡ standingFree) ⊎ (standingAt st n ≡ standingRetired))
-  stands-one n = three (standingAt st n) (ranked st (h .queue) (h .whole) (h .owned) n) (λ e. inr (inl e)) inl (λ e. inr (inr e))
+  pub stands-one : (n : ℕ) → (standingAt st n ≡ standingLinked) ⊎ ((standingAt st n ≡ standingFree) ⊎ ((standingAt st n ≡ standingRetired) ⊎ (standingAt st n ≡ standingApart)))
+  stands-one n = four (standingAt st n) (ranked st (h .queue) (h .whole) (h .owned) n) (λ e. inr (inl e)) inl (λ e. inr (inr (inl e))) (λ e. inr (inr (inr e)))
 
   pub retired-held : (n : ℕ) → standingAt st n ≡ standingRetired
       → (s : ℕ) × (s < slots) × (hasSlot (word (st .pool) n holdersWord) s ≡ true) × Reads st s
@@ -33,7 +34,7 @@ module _ (st : State) (h : Safe st) where
       let s = some-slot slots (word (st .pool) n holdersWord) (g .held e .below) (g .holder e) in
       (s .0, s .1, s .2, g .held e .reads (s .0) (s .1) (s .2))
 
-  module _ (quiet : (s : ℕ) → s < slots → reading st s ≡ false) where
+  module _ (quiet : (s : ℕ) → s < slots → reading st s ≡ false) (unapart : (n : ℕ) → standingAt st n ≢ standingApart) where
     pub none-retired : (n : ℕ) → standingAt st n ≢ standingRetired
     none-retired n e = let s = retired-held n e in false≢true (sym (quiet (s .0) (s .1)) ∙ s .3)
 
@@ -56,7 +57,7 @@ module _ (st : State) (h : Safe st) where
           let a = numbers-in (nodes (st .pool)) 1 n .0 i in
           let node : InPool (st .pool) n = node-in (st .pool) n (a .0) (let b = a .1 in omega arith) in
           in-append n (h .queue) (treeNodes T) .1
-          (⊎-elim (λ e. inr (linked n .0 e)) (⊎-elim (λ e. inl (h .owned .exact .standing n .1 (node, e))) (λ e. absurd (none-retired n e))) (stands-one n))
+          (⊎-elim (λ e. inr (linked n .0 e)) (⊎-elim (λ e. inl (h .owned .exact .standing n .1 (node, e))) (⊎-elim (λ e. absurd (none-retired n e)) (λ e. absurd (unapart n e)))) (stands-one n))
 
       pub all-counted : st .register .free + length (treeNodes T) ≡ nodes (st .pool)
       all-counted =

@@ -14,7 +14,7 @@ use Rattle.spec.specs.Numbers.{slots, mostStores}
 use Rattle.spec.specs.Pool.{standingLinked}
 use Rattle.spec.specs.Register.{State, hasSlot}
 use Rattle.spec.specs.Calls.{more, done}
-use Rattle.spec.specs.Calls.{wrongLength, reading, writeInHand, Call, inserting, deleting, writing, beginning, turning, givingUp, call, readerTurn}
+use Rattle.spec.specs.Calls.{wrongLength, reading, writeInHand, Call, inserting, deleting, writing, beginning, turning, givingUp, insertingList, call, readerTurn}
 use Rattle.spec.specs.PlainList.{Plain, Notice, turnedDown, waited, carriedOut, noticeOf, acceptedWrites, storeMade, feed}
 use Rattle.base.specs.Lists.{_∈_}
 use Rattle.tree.specs.Linked.{Linked, nodes as treeNodes}
@@ -47,6 +47,7 @@ started-feed x writing carriedOut = started-store x (x .inHand)
 started-feed x (beginning κ s k) carriedOut = refl
 started-feed x (turning s) carriedOut = refl
 started-feed x (givingUp s) carriedOut = refl
+started-feed x (insertingList ks vs) carriedOut = refl
 
 started-perhaps : (m : Moment) (c : Option Call) → thenPerhaps m c .plain .started ≡ m .plain .started
 started-perhaps m none = refl
@@ -109,7 +110,7 @@ module _ (W : State → Plain → Linked → Type 0) (writer : Writer W) (comple
   nothingLost j e quiet =
       let h = sound j in
       let c = completes .counts (at j) (plainAfter S cs j) (h .tree) (h .holds) e in
-      let a = all-counted (at j) (h .safe) quiet (h .tree) (linked-nodes j) (c .0) in
+      let a = all-counted (at j) (h .safe) quiet (completes .unapart (at j) (plainAfter S cs j) (h .tree) (h .holds) e) (h .tree) (linked-nodes j) (c .0) in
       let b = c .1 in
       let size = ranged j .within .size in
       omega arith
@@ -129,6 +130,7 @@ module _ (W : State → Plain → Linked → Type 0) (writer : Writer W) (comple
     linked = linked;
     free = λ j. (let h = sound j .safe in exact-right (at j) (h .queue) (h .owned .exact));
     standing = λ j n _ _. stands-one (at j) (sound j .safe) n;
+    apart = λ j. (let h = sound j in completes .apart (at j) (plainAfter S cs j) (h .tree) (h .holds) (λ n. colour-fits (S .size) (at j .pool) n (ranged j .within .fits)));
     retiredHeld = λ j. retired-held (at j) (sound j .safe);
     nothingLost = nothingLost;
     oneStore = oneStore;

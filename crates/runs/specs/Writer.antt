@@ -7,8 +7,9 @@ use mathlib.Core.Bool.{true}
 use mathlib.Core.List.{List}
 use lib.ListN.{length}
 use Rattle.datatypes.specs.declared.Store.{Store}
-use Rattle.sequential.specs.Delete.{insertion, deletion}
-use Rattle.spec.specs.Pool.{standingLinked}
+use Rattle.sequential.specs.Delete.{insertion, deletion, listInsertion}
+use Rattle.spec.specs.Pool.{standingLinked, standingApart}
+use Rattle.spec.specs.Bulk.{grownTree}
 use Rattle.spec.specs.Register.{State, state, storeOf, linkNode, withWrite, writeOf, readingSlots}
 use Rattle.spec.specs.Turn.{Made, stepFinds, stepMade}
 use Rattle.spec.specs.Calls.{firstOf, writeInHand, placeOf, insertAt, deleteAt, stored}
@@ -24,7 +25,7 @@ use Rattle.promise.specs.Demands.{TreeLink}
 use Rattle.readers.specs.Reach.{HasStanding}
 use Rattle.readers.specs.Lookups.{Unlinked}
 use Rattle.readers.specs.Turns.{Turn}
-use Rattle.spec.specs.Calls.{insertTests, deleteTests}
+use Rattle.spec.specs.Calls.{insertTests, deleteTests, listTests, acceptedList}
 use Rattle.readers.specs.Safe.{Safe}
 
 -- What a reader's call leaves alone: keys, records, links, colours, which nodes are linked, and of the register root, keys held and the write
@@ -32,6 +33,7 @@ use Rattle.readers.specs.Safe.{Safe}
 pub record LeavesTree (st after : State) : Type 0 where
   pub words : Alike upToColour (st .pool) (after .pool)
   pub linked : (n : ℕ) → HasStanding (after .pool) n standingLinked ↔ HasStanding (st .pool) n standingLinked
+  pub apart : (n : ℕ) → HasStanding (after .pool) n standingApart ↔ HasStanding (st .pool) n standingApart
   pub root : after .register .root ≡ st .register .root
   pub held : after .register .held ≡ st .register .held
   pub write : after .register .write ≡ st .register .write
@@ -46,9 +48,10 @@ pub record Stores (st : State) (m : Made) (T : Linked) (W : Linked → Type 0) :
   pub gone : List ℕ
   pub turn : Turn st (stored m .after) came gone (m .link) (m .node)
   pub owner : TreeLink (st .pool) (m .link)
-  -- the link changes, and a node that comes is its new node
+  -- the link changes, and a node that comes is its new node, or it was made apart (02, C-24); all those come
   pub moved : linkNode st (m .link) ≢ m .node
-  pub new : (n : ℕ) → n ∈ came → n ≡ m .node
+  pub new : (n : ℕ) → n ∈ came → (n ≡ m .node) ⊎ HasStanding (st .pool) n standingApart
+  pub apart : (n : ℕ) → HasStanding (st .pool) n standingApart → (n ∈ came) × (¬ (n ∈ gone))
   pub below : Linked
   pub unfolds : Rep (stored m .after .pool) (m .node) below
   pub ways : (Thins (Unlinked (stored m .after .pool)) T tree × Trims (Unlinked (stored m .after .pool)) T tree) ⊎ (stored m .after .register .awaited ≡ readingSlots (st .register))
@@ -76,5 +79,7 @@ pub record Writer (W : State → Plain → Linked → Type 0) : Type 0 where
       → W (planned st (insertAt st k v (placeOf st k) .stores)) (begun x (insertion k v)) T
   pub delete : (st : State) (x : Plain) (T : Linked) (k : ℕ) → Safe st → W st x T → firstOf (deleteTests st k) ≡ 0
       → W (planned st (deleteAt st (placeOf st k) .stores)) (begun x (deletion k)) T
+  pub list : (st : State) (x : Plain) (T : Linked) (ks vs : List ℕ) → Safe st → W st x T → firstOf (listTests st ks vs) ≡ 0
+      → W (acceptedList (grownTree st ks vs) (length ks) .after) (begun x (listInsertion ks vs)) T
   pub store : (st : State) (x : Plain) (T : Linked) → Safe st → W st x T → st .register .awaited ≡ 0 → writeInHand st ≡ true
       → stepFinds st (storeOf (st .register) 0 .link) (storeOf (st .register) 0 .step) ≡ true → Stores st (firstMade st) T (λ t. W (afterStore st) (storeMade x (x .inHand)) t)

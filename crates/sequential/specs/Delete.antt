@@ -1,11 +1,13 @@
 -- Sequential delete after Cormen, Leiserson, Rivest and Stein (third edition), with the successor moved up; and a list of writes.
 use Prim.Native.Nat.{ℕ}
+use mathlib.Core.Bool.{Bool, true, false, cond, _&&_}
 use mathlib.Core.List.{List, [], _∷_}
 use Rattle.datatypes.specs.declared.Side.{Side}
 use Rattle.datatypes.specs.declared.Side.the-variants.{L, R}
 use Rattle.datatypes.specs.Side.{other}
 use Rattle.sequential.specs.Tree.{Colour, red, black, Tree, leaf, node, ifRed, mk, child, keyOf, recordOf, colourOf, paint, redChild, Frame, frame, plug, descend, diag, zig}
 use Rattle.sequential.specs.Insert.{insert}
+use Rattle.sequential.specs.Balanced.{balancedTree, listRight}
 
 -- w with its child on the side z black
 abbrev pub blackOuter : Side → Tree → Tree
@@ -67,14 +69,21 @@ remove fs (node c k v (node d j w a b) (node e i u x y)) =
 abbrev pub delete : Tree → ℕ → Tree
 delete t q = let x = descend t q [] in remove (x .way) (x .at)
 
--- The writes of an index: insert of a key with its record, delete of a key.
+-- The writes of an index: insert of a key with its record, delete of a key; (02, C-24) a list of keys and their records on an empty index.
 pub data Change : Type 0 where
   insertion : (k v : ℕ) → Change
   deletion : (k : ℕ) → Change
+  listInsertion : (ks vs : List ℕ) → Change
+
+abbrev pub isLeaf : Tree → Bool
+isLeaf leaf = true
+isLeaf (node c k v l r) = false
 
 abbrev pub changed : Tree → Change → Tree
 changed t (insertion k v) = insert t k v
 changed t (deletion k) = delete t k
+-- an index accepts no other list, and no list where it holds a key: then nothing is changed
+changed t (listInsertion ks vs) = cond (isLeaf t && listRight ks vs) (balancedTree ks vs) t
 
 -- the sequential tree of a list of writes, in order, from a given tree; an index begins with the empty one
 abbrev pub changedBy : Tree → List Change → Tree

@@ -1,4 +1,5 @@
 pub mod Tree
+pub mod Balanced
 pub mod Insert
 pub mod Delete
 pub mod Proper

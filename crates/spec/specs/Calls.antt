@@ -1,10 +1,11 @@
 -- 01, 'Calls' and 'When a call is turned down': each call as its tests in order, with the number of each cause, and then what it does. 02, C-11:
 -- a slot may search for the next ticket. C-12: a reader's turn tests the register and one node. C-13: insert of a held key replaces its record, and
--- no cause has the number 8. C-17: a reader's turn counts the nodes compared.
+-- no cause has the number 8. C-17: a reader's turn counts the nodes compared. C-24: a list of keys with their records on an empty index.
 use Prim.Native.Nat.{ℕ, _-_}
 use mathlib.Core.Bool.{Bool, true, false, cond, not, _&&_}
 use mathlib.Core.List.{List, [], _∷_}
 use lib.Dec.{eqb, leb, ltb}
+use lib.ListN.{length}
 use Rattle.datatypes.specs.declared.Link.{Link}
 use Rattle.datatypes.specs.declared.Link.the-variants.{Root}
 use Rattle.datatypes.specs.declared.Place.{Place}
@@ -21,9 +22,12 @@ use Rattle.datatypes.specs.declared.ReaderAnswer.the-variants as reader
 use Rattle.spec.specs.Numbers.{slots, pathBound, reserve, freeForInsert, freeForDelete}
 use Rattle.spec.specs.Pool.{word, child, recordAt, keyWord, nodes, nodeInRange, poolInRange, lengthRight}
 use Rattle.spec.specs.Register.{State, state, fresh, begunReader, movedReader, remembering, counting, withReader, withWrite, readerOf, storeOf, registerInRange, writeOf, lessFirst}
+use Rattle.datatypes.specs.declared.Step.the-variants.{LinkAll}
+use Rattle.sequential.specs.Balanced.{listRight}
+use Rattle.spec.specs.Bulk.{Grown, freeAfter, grownTree}
 use Rattle.spec.specs.Free.{endReading}
 use Rattle.spec.specs.Search.{towards, seek}
-use Rattle.spec.specs.Plan.{Plan, insertPlan, replacePlan, deletePlan}
+use Rattle.spec.specs.Plan.{Plan, insertPlan, replacePlan, deletePlan, store}
 use Rattle.spec.specs.Turn.{Made, stepFinds, stepMade}
 
 -- What a call answers, in 01's words: ok, go, found with the record, absent, more and done with the link stored and its new node, wait,
@@ -166,6 +170,35 @@ deleteTests st k =
 unfoldable pub delete : State → ℕ → Outcome
 delete st k = unless (deleteTests st k) st (acceptedPlan st (deleteAt st (placeOf st k)))
 
+-- 02, C-24: a list of keys and their records, on an empty index. An accepted one takes and fills its nodes at once, and is the write in hand with
+-- one store to come. 10 means more keys than N − 4, 11 fewer free nodes than keys, 12 that the queue ends before the last of them.
+abbrev pub rooted : State → Bool
+rooted st = not (eqb (st .register .root) 0)
+
+abbrev pub tooMany : State → ℕ → Bool
+tooMany st m = ltb (nodes (st .pool) - reserve) m
+
+abbrev pub queueEnds : State → ℕ → Bool
+queueEnds st m = eqb (freeAfter (st .pool) (st .register .first) (m - 1)) 0
+
+abbrev pub listTests : State → List ℕ → List ℕ → List Test
+listTests st ks vs =
+    wrongLength st gives 1
+    ∷ outOfRange st gives 2
+    ∷ writeInHand st gives 6
+    ∷ not (listRight ks vs) gives 18
+    ∷ rooted st gives 19
+    ∷ tooMany st (length ks) gives 10
+    ∷ fewerFree st (length ks) gives 11
+    ∷ queueEnds st (length ks) gives 12
+    ∷ []
+
+abbrev pub acceptedList : Grown → ℕ → Outcome
+acceptedList g m = outcome ok (state (g .after .pool) (withWrite (g .after .register) (writeOf (store Root (LinkAll m (g .top)) ∷ []))))
+
+unfoldable pub insertList : State → List ℕ → List ℕ → Outcome
+insertList st ks vs = unless (listTests st ks vs) st (acceptedList (grownTree st ks vs) (length ks))
+
 -- A writer's turn makes the first store still to come. It answers done if no store is left after it, more otherwise.
 abbrev pub storeAnswer : ℕ → Link → ℕ → Answer
 storeAnswer count l n = cond (eqb count 0) (done l n) (more l n)
@@ -285,6 +318,7 @@ pub data Call : Type 0 where
   beginning : (κ : Kind) (s k : ℕ) → Call
   turning : (s : ℕ) → Call
   givingUp : (s : ℕ) → Call
+  insertingList : (ks vs : List ℕ) → Call
 
 abbrev pub call : State → Call → Outcome
 call st (inserting k v) = insert st k v
@@ -293,3 +327,4 @@ call st writing = writerTurn st
 call st (beginning κ s k) = begin κ st s k
 call st (turning s) = readerTurn st s
 call st (givingUp s) = giveUp st s
+call st (insertingList ks vs) = insertList st ks vs

@@ -20,19 +20,26 @@ takeFree st =
     let next = word (st .pool) (r .first) nextWord in
     state (st .pool) (withQueue r next (cond (eqb next 0) 0 (r .last)) (countDown (r .free)))
 
--- A taken node stands linked, with holders and next free 0. Its link on the side s is x, on the other side y.
-unfoldable pub fillNode : List ℕ → ℕ → ℕ → ℕ → Side → ℕ → ℕ → ℕ → List ℕ
-fillNode p n k v s x y colour =
+-- A taken node has its standing, with holders and next free 0. Its link on the side s is x, on the other side y.
+unfoldable pub fillAs : ℕ → List ℕ → ℕ → ℕ → ℕ → Side → ℕ → ℕ → ℕ → List ℕ
+fillAs standing p n k v s x y colour =
     let a = setTicket p n k v in
     let b = setWord (setWord a n (linkWord s) x) n (linkWord (other s)) y in
-    let c = setWord (setWord b n colourWord colour) n standingWord standingLinked in
+    let c = setWord (setWord b n colourWord colour) n standingWord standing in
     setWord (setWord c n holdersWord 0) n nextWord 0
 
+-- it stands linked
+abbrev pub fillNode : List ℕ → ℕ → ℕ → ℕ → Side → ℕ → ℕ → ℕ → List ℕ
+fillNode p n k v s x y colour = fillAs standingLinked p n k v s x y colour
+
 -- the first free node is taken and filled
-unfoldable pub takeNode : State → ℕ → ℕ → Side → ℕ → ℕ → ℕ → State
-takeNode st k v s x y colour =
+unfoldable pub takeAs : ℕ → State → ℕ → ℕ → Side → ℕ → ℕ → ℕ → State
+takeAs standing st k v s x y colour =
     let after = takeFree st in
-    state (fillNode (after .pool) (st .register .first) k v s x y colour) (after .register)
+    state (fillAs standing (after .pool) (st .register .first) k v s x y colour) (after .register)
+
+abbrev pub takeNode : State → ℕ → ℕ → Side → ℕ → ℕ → ℕ → State
+takeNode st k v s x y colour = takeAs standingLinked st k v s x y colour
 
 -- A node is freed to the queue's end. It keeps its words but standing, holders (0) and next free (0 for the last).
 unfoldable pub freeNode : State → ℕ → State

@@ -3,6 +3,7 @@ pub mod Pool
 pub mod Register
 pub mod FreeQueue
 pub mod Free
+pub mod Bulk
 pub mod Search
 pub mod Plan
 pub mod Turn

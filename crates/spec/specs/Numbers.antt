@@ -33,6 +33,10 @@ recordLimit = wordLimit * wordLimit
 abbrev pub largestWord : ℕ
 largestWord = wordLimit - 1
 
+-- 02, C-24: the levels of a tree made of a list; 1,023 keys fill ten.
+abbrev pub mostLevels : ℕ
+mostLevels = 10
+
 -- 'Calls' and 'When a call is turned down': a path from the root has at most 64 nodes.
 abbrev pub pathBound : ℕ
 pathBound = 64

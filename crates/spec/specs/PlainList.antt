@@ -7,8 +7,8 @@ use mathlib.Core.List.{List, [], _∷_, _++_}
 use mathlib.Core.Option.{Option, none, some}
 use lib.Dec.{eqb}
 use Rattle.sequential.specs.Tree.{Tree, leaf, node, descend}
-use Rattle.sequential.specs.Delete.{Change, insertion, deletion, changedBy}
-use Rattle.spec.specs.Calls.{Answer, ok, go, absent, wait, found, next, more, done, refused, Call, inserting, deleting, writing, beginning, turning, givingUp}
+use Rattle.sequential.specs.Delete.{Change, insertion, deletion, listInsertion, changedBy}
+use Rattle.spec.specs.Calls.{Answer, ok, go, absent, wait, found, next, more, done, refused, Call, inserting, deleting, writing, beginning, turning, givingUp, insertingList}
 
 -- a ticket: a key with its record
 pub record Ticket : Type 0 where
@@ -29,10 +29,18 @@ abbrev pub Unique : List Ticket → Type 0
 Unique [] = Unit {0}
 Unique (t ∷ ts) = (recordFor (t .key) ts ≡ none) × Unique ts
 
--- At its list store an insert puts in its key with its record, in place of any there, and a delete takes its key out.
+-- the tickets of a list of keys and their records
+abbrev pub ticketsOf : List ℕ → List ℕ → List Ticket
+ticketsOf [] vs = []
+ticketsOf (k ∷ ks) [] = []
+ticketsOf (k ∷ ks) (v ∷ vs) = record { key = k; value = v } ∷ ticketsOf ks vs
+
+-- At its list store an insert puts in its key with its record, in place of any there, and a delete takes its key out; a list (02, C-24) puts in all
+-- its tickets, where there is none.
 abbrev pub updated : Change → List Ticket → List Ticket
 updated (insertion k v) ts = record { key = k; value = v } ∷ without k ts
 updated (deletion k) ts = without k ts
+updated (listInsertion ks vs) ts = ticketsOf ks vs ++ ts
 
 -- The list store is the first store; the second in a delete of a key with two children whose right child has no left child.
 abbrev pub adopts : Tree → Bool
@@ -45,6 +53,7 @@ adopts (node c k v (node d j w a b) (node e i u (node f h q x z) y)) = false
 abbrev pub listStore : Tree → Change → ℕ
 listStore t (insertion k v) = 1
 listStore t (deletion k) = cond (adopts (descend t k [] .at)) 2 1
+listStore t (listInsertion ks vs) = 1
 
 -- It keeps tickets, the writes accepted so far (the last of them may be in hand), the one in hand and how many stores that has made; and the
 -- tree that it started with, on which the sequential tree goes on.
@@ -83,7 +92,7 @@ noticeOf (more l n) = carriedOut
 noticeOf (done l n) = carriedOut
 noticeOf (refused n) = turnedDown
 
--- An accepted insert or delete becomes the write in hand, no store made.
+-- An accepted insert, delete or list becomes the write in hand, no store made.
 abbrev pub begun : Plain → Change → Plain
 begun x c = record { started = x .started; tickets = x .tickets; before = acceptedWrites x; inHand = some c; made = 0 }
 
@@ -101,6 +110,7 @@ feed x c turnedDown = x
 feed x c waited = x
 feed x (inserting k v) carriedOut = begun x (insertion k v)
 feed x (deleting k) carriedOut = begun x (deletion k)
+feed x (insertingList ks vs) carriedOut = begun x (listInsertion ks vs)
 feed x writing carriedOut = storeMade x (x .inHand)
 feed x (beginning κ s k) carriedOut = x
 feed x (turning s) carriedOut = x

@@ -51,7 +51,7 @@ blackColour = 0
 abbrev pub redColour : ℕ
 redColour = 1
 
--- Standing (01's term for what a node is used for): 0 free, 1 linked, 2 retired.
+-- Standing (01's term for what a node is used for): 0 free, 1 linked, 2 retired; 3 made apart (02, C-24).
 abbrev pub standingFree : ℕ
 standingFree = 0
 
@@ -60,6 +60,9 @@ standingLinked = 1
 
 abbrev pub standingRetired : ℕ
 standingRetired = 2
+
+abbrev pub standingApart : ℕ
+standingApart = 3
 
 -- N, the pool's nodes
 abbrev pub nodes : List ℕ → ℕ
@@ -100,12 +103,12 @@ abbrev pub paint : List ℕ → ℕ → ℕ → List ℕ
 paint p n colour = setWord p n colourWord colour
 
 -- Key and the record's two words are any 32-bit numbers, and so is holders: with 32 slots (02, C-15) each of its bits is a slot's. A pool is
--- lent as 32-bit words, so a test of these four could not fail, and none is made. Links are 0 to N; colour 0 or 1; standing 0 to 2; next free
+-- lent as 32-bit words, so a test of these four could not fail, and none is made. Links are 0 to N; colour 0 or 1; standing 0 to 3; next free
 -- a link.
 unfoldable pub nodeInRange : List ℕ → ℕ → ℕ → Bool
 nodeInRange p capacity n =
     leb (word p n leftWord) capacity && leb (word p n rightWord) capacity
-    && (leb (word p n colourWord) redColour && leb (word p n standingWord) standingRetired)
+    && (leb (word p n colourWord) redColour && leb (word p n standingWord) standingApart)
     && leb (word p n nextWord) capacity
 
 unfoldable pub poolInRange : List ℕ → Bool

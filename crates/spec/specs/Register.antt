@@ -8,7 +8,7 @@ use Rattle.base.specs.Walk.{allIn, foldIn}
 use Rattle.datatypes.specs.declared.Link.{Link}
 use Rattle.datatypes.specs.declared.Link.the-variants.{Root, Left, Right}
 use Rattle.datatypes.specs.declared.Step.{Step}
-use Rattle.datatypes.specs.declared.Step.the-variants.{Vacant, Insert, Replace, DiagLower, DiagRaise, ZigLowerA, ZigLowerC, ZigRaise, Unlink, Adopt, Promote, Publish, Detach}
+use Rattle.datatypes.specs.declared.Step.the-variants.{Vacant, Insert, Replace, DiagLower, DiagRaise, ZigLowerA, ZigLowerC, ZigRaise, Unlink, Adopt, Promote, Publish, Detach, LinkAll}
 use Rattle.datatypes.specs.declared.Store.{Store}
 use Rattle.datatypes.specs.declared.Write.{Write}
 use Rattle.datatypes.specs.declared.Kind.{Kind}
@@ -128,7 +128,7 @@ addReading r m s = cond (readerOf r s .reading) (putSlot m s) m
 unfoldable pub readingSlots : Register → ℕ
 readingSlots r = foldIn (addReading r) 0 slots 0
 
--- The ranges. A node number of the register is 0 to N; a store to come names nodes from 1 to N.
+-- The ranges. A node number of the register is 0 to N; a store to come names nodes from 1 to N, but for the top of a tree made apart, 0 to N.
 abbrev pub nodeNumber : ℕ → ℕ → Bool
 nodeNumber capacity n = leb 1 n && leb n capacity
 
@@ -152,6 +152,7 @@ stepInRange capacity Adopt = true
 stepInRange capacity Promote = true
 stepInRange capacity (Publish n) = nodeNumber capacity n
 stepInRange capacity (Detach k) = true
+stepInRange capacity (LinkAll m n) = leb m capacity && leb n capacity
 
 abbrev pub isRoot : Link → Bool
 isRoot Root = true
@@ -172,6 +173,7 @@ isVacant Adopt = false
 isVacant Promote = false
 isVacant (Publish n) = false
 isVacant (Detach k) = false
+isVacant (LinkAll m n) = false
 
 -- the i-th store of a write: to come if i is below the count, else vacant
 unfoldable pub storeInRange : ℕ → Write → ℕ → Bool

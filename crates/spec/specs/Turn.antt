@@ -1,9 +1,9 @@
 -- 01, 'The writer's stores': what each planned store does in its turn. A turn makes one store of a link, then all colour work up to
 -- the next store. A copy is taken and filled in the turn that makes it reachable.
-use Prim.Native.Nat.{ℕ}
+use Prim.Native.Nat.{ℕ, _+_}
 use mathlib.Core.Bool.{Bool, true, false, cond, not, _&&_}
 use mathlib.Core.List.{List, [], _∷_, map}
-use lib.Dec.{eqb}
+use lib.Dec.{eqb, leb}
 use Rattle.datatypes.specs.declared.Side.{Side}
 use Rattle.datatypes.specs.declared.Side.the-variants.{L, R}
 use Rattle.datatypes.specs.declared.Link.{Link}
@@ -14,13 +14,14 @@ use Rattle.datatypes.specs.declared.Ending.{Ending}
 use Rattle.datatypes.specs.declared.Ending.the-variants.{Balanced, Blacken, Rotate, RotateTwice, Missing}
 use Rattle.datatypes.specs.declared.Fixup.{Fixup}
 use Rattle.datatypes.specs.declared.Step.{Step}
-use Rattle.datatypes.specs.declared.Step.the-variants.{Vacant, Insert, Replace, DiagLower, DiagRaise, ZigLowerA, ZigLowerC, ZigRaise, Unlink, Adopt, Promote, Publish, Detach}
+use Rattle.datatypes.specs.declared.Step.the-variants.{Vacant, Insert, Replace, DiagLower, DiagRaise, ZigLowerA, ZigLowerC, ZigRaise, Unlink, Adopt, Promote, Publish, Detach, LinkAll}
 use Rattle.datatypes.specs.declared.Store.{Store}
 use Rattle.datatypes.specs.declared.Write.{Write}
 use Rattle.datatypes.specs.Side.{other, linkAt}
 use Rattle.spec.specs.Pool.{word, child, paint, recordAt, keyWord, colourWord, blackColour, redColour, nodes}
-use Rattle.spec.specs.Register.{State, state, withHeld, withAwaited, withWrite, countUp, countDown, linkNode, setLink, readingSlots}
+use Rattle.spec.specs.Register.{State, state, withRoot, withHeld, withAwaited, withWrite, countUp, countDown, linkNode, setLink, readingSlots}
 use Rattle.spec.specs.Free.{queueEmpty, takeNode, retire, retireTwo}
+use Rattle.spec.specs.Bulk.{linkAllApart}
 use Rattle.spec.specs.Search.{pathTo}
 use Rattle.spec.specs.Plan.{fixupAfterInsert, paintInsertFixup, fixupAfterRemoval, paintDeleteFixup, missing, redChild, onlyChild, belowRight, successorPath, nearest, store}
 
@@ -241,6 +242,16 @@ detachStore st l k =
     let x = child (st .pool) R c in
     made (retire (paintDeleteFixup (setLink st above x) (detachFixup st l k) x path) c) above x
 
+-- 02, C-24. The root := the top of the tree made apart (list store); every node standing 3 stands linked; m is added to keys held, which goes no
+-- further than its range.
+abbrev pub heldMore : ℕ → ℕ → ℕ → ℕ
+heldMore capacity m h = cond (leb (h + m) capacity) (h + m) capacity
+
+unfoldable pub linkAllStore : State → ℕ → ℕ → Made
+linkAllStore st m n =
+    let r = st .register in
+    made (state (linkAllApart (st .pool)) (withHeld (withRoot r n) (heldMore (nodes (st .pool)) m (r .held)))) Root n
+
 -- Whether a turn's own step finds every node that it names, its planned link where it goes by the path to it, and a free node if it takes one.
 -- Of no node each word is 0, so a node that is there has the nodes above it there as well.
 abbrev pub isNode : ℕ → Bool
@@ -280,6 +291,7 @@ stepFinds st l Adopt = isNode (child (st .pool) R (linkNode st l))
 stepFinds st l Promote = isNode (child (st .pool) R (linkNode st l)) && nodesFound (promoteFixup st l)
 stepFinds st l (Publish c) = isNode (linkNode st l) && not (queueEmpty st)
 stepFinds st l (Detach k) = reached (detachPath st l k) && isNode (detachNode st l k) && nodesFound (detachFixup st l k)
+stepFinds st l (LinkAll m n) = isNode n
 
 unfoldable pub stepMade : State → Link → Step → Made
 stepMade st l Vacant = made st l 0
@@ -295,11 +307,13 @@ stepMade st l Adopt = adoptStore st l
 stepMade st l Promote = promoteStore st l
 stepMade st l (Publish c) = publishStore st l c
 stepMade st l (Detach k) = detachStore st l k
+stepMade st l (LinkAll m n) = linkAllStore st m n
 
 -- What a step does besides storing a link. For statements, contracts and proofs; no call goes by it, stepMade does it. Whether it is its write's
 -- list store, and whether a key comes, goes, or stays with its new record:
 pub data Listing : Type 0 where
   unlisted keyComes keyStays keyGoes : Listing
+  keysCome : (m : ℕ) → Listing
 
 pub record Profile : Type 0 where
   -- it takes the first free node, as a new node or a copy
@@ -328,12 +342,14 @@ profile Adopt = profiled false unlisted false false
 profile Promote = profiled false keyGoes false false
 profile (Publish c) = profiled true keyGoes true true
 profile (Detach k) = profiled false unlisted false false
+profile (LinkAll m n) = profiled false (keysCome m) false false
 
 abbrev pub isListed : Listing → Bool
 isListed unlisted = false
 isListed keyComes = true
 isListed keyStays = true
 isListed keyGoes = true
+isListed (keysCome m) = true
 
 -- keys held after it, of a pool of so many nodes
 abbrev pub countedBy : Listing → ℕ → ℕ → ℕ
@@ -341,3 +357,4 @@ countedBy unlisted capacity h = h
 countedBy keyComes capacity h = countUp capacity h
 countedBy keyStays capacity h = h
 countedBy keyGoes capacity h = countDown h
+countedBy (keysCome m) capacity h = heldMore capacity m h

@@ -14,7 +14,7 @@ use Rattle.datatypes.specs.declared.Purpose.{Purpose}
 use Rattle.datatypes.specs.declared.Purpose.the-variants.{ForInsert, RedSibling, BlackSibling}
 use Rattle.datatypes.specs.declared.Step.{Step}
 use Rattle.datatypes.specs.declared.Step.the-variants.{Vacant, Insert, Replace, DiagLower, DiagRaise, ZigLowerA, ZigLowerC, ZigRaise, Unlink, Adopt}
-use Rattle.datatypes.specs.declared.Step.the-variants.{Promote, Publish, Detach}
+use Rattle.datatypes.specs.declared.Step.the-variants.{Promote, Publish, Detach, LinkAll}
 use Rattle.datatypes.specs.declared.Store.{Store}
 use Rattle.datatypes.specs.declared.Kind.{Kind}
 use Rattle.datatypes.specs.declared.Kind.the-variants as kind
@@ -23,7 +23,7 @@ use Rattle.datatypes.specs.declared.Register.{Register}
 use Rattle.spec.specs.Register.{State}
 use Rattle.spec.specs.Turn.{Profile, profile, countedBy}
 use Rattle.spec.specs.Calls.{Answer, ok, go, absent, wait, found, next, more, done, refused, Outcome, Call, inserting, deleting, writing}
-use Rattle.spec.specs.Calls.{beginning, turning, givingUp, call, setUp, turnCount}
+use Rattle.spec.specs.Calls.{beginning, turning, givingUp, insertingList, call, setUp, turnCount}
 use Rattle.table.specs.Picture.{Row, Picture, Change, nodeWords, rowWords, wordsBefore, nodeIn, drawn, none, _on_, left, right, standing, _but_}
 
 -- The calls by the letters of trace: P set up, I insert, D delete, W writer's turn, B begin, S begin a search for the next ticket, R reader's
@@ -126,6 +126,7 @@ stepNumbers Promote = 9 ∷ 0 ∷ 0 ∷ []
 stepNumbers (Publish n) = 10 ∷ n ∷ 0 ∷ []
 stepNumbers (Detach k) = 11 ∷ k ∷ 0 ∷ []
 stepNumbers (Replace v) = 12 ∷ v ∷ 0 ∷ []
+stepNumbers (LinkAll m n) = 13 ∷ m ∷ n ∷ []
 
 abbrev storesNumbers : List Store → List ℕ
 storesNumbers [] = []
@@ -237,6 +238,7 @@ saysCount st (calls (deleting k)) h = false
 saysCount st (calls writing) h = false
 saysCount st (calls (beginning κ s k)) h = false
 saysCount st (calls (givingUp s)) h = false
+saysCount st (calls (insertingList ks vs)) h = false
 
 -- every line holds of the state st that stands before it; lent is where the entry began
 abbrev pub holdsFrom : State → State → List Line → Bool

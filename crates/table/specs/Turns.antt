@@ -97,7 +97,7 @@ turns =
     elsewhere "turn: left of another node, the last, one past its range" left 8 9
     ∷ elsewhere "turn: right of another node, the last, one past its range" right 8 9
     ∷ elsewhere "turn: colour of another node, the last, one past its range" colour 8 2
-    ∷ elsewhere "turn: standing of another node, the last, one past its range" standing 8 3
+    ∷ elsewhere "turn: standing of another node, the last, one past its range" standing 8 4
     ∷ goesOn "turn: holders of another node, the last, 256" (holders of 8 := 256 ∷ [])
     ∷ goesOn "turn: holders of other nodes, linked and retired, any word" (holders of 1 := 4294967295 ∷ standing of 8 := 2 ∷ holders of 8 := 2147483648 ∷ [])
     ∷ elsewhere "turn: next of another node, the last, one past its range" nextFree 8 9
@@ -107,7 +107,7 @@ turns =
     ∷ named "turn: 2, left of the node named one past its range" left 2 9
     ∷ named "turn: 2, right of the node named one past its range" right 2 9
     ∷ named "turn: 2, colour of the node named one past its range" colour 2 2
-    ∷ named "turn: 2, standing of the node named one past its range" standing 2 3
+    ∷ named "turn: 2, standing of the node named one past its range" standing 2 4
     ∷ goesOn "turn: holders of the node named 256" (holders of 2 := 256 ∷ [])
     ∷ named "turn: 2, next of the node named one past its range" nextFree 2 9
     ∷ named "turn: 2, right of the first node, named, one past its range" right 1 9

@@ -30,7 +30,8 @@ use Rattle.runs.specs.Whole as Whole
 use Rattle.theorem.specs.WriterSide.{seqOf, WriterSide}
 use Rattle.theorem.specs.Rests.{resting}
 use Rattle.theorem.specs.Starts.{none-in-hand}
-use Rattle.theorem.specs.Theorem.{writer, completes, starts-sound, promise-from}
+use Rattle.theorem.specs.Lists.{HandSide}
+use Rattle.theorem.specs.Theorem.{writer, completes, rest-side, starts-sound, promise-from}
 
 no-write : (st : State) (x : Plain) (T : Linked) → WriterSide st x T → writeInHand st ≡ false → st .register .write ≡ noWrite
 no-write st x T h e = go (h .stores) (h .hand)
@@ -49,12 +50,12 @@ module _ (S : Start) (h : SoundStart S) (cs : List Call) (j : ℕ) where
   sound-cut idle quiet =
       let st = indexAfter S cs j in
       let x = plainAfter S cs j in
-      let sound = sound-at WriterSide writer S (starts-sound S h) cs j in
-      let ranged = Whole.ranged WriterSide writer completes S (starts-sound S h) cs j in
+      let sound = sound-at HandSide writer S (starts-sound S h) cs j in
+      let ranged = Whole.ranged HandSide writer completes S (starts-sound S h) cs j in
       let safe = sound .safe in
       let T = sound .tree in
-      let k = sound .holds in
-      let same : seqOf x ≡ changedBy (S .tree) (acceptedWrites x) = ap (λ t. changedBy t (acceptedWrites x)) (Whole.started WriterSide writer completes S (starts-sound S h) cs j) in
+      let k = rest-side st x T (sound .holds) idle in
+      let same : seqOf x ≡ changedBy (S .tree) (acceptedWrites x) = ap (λ t. changedBy t (acceptedWrites x)) (Whole.started HandSide writer completes S (starts-sound S h) cs j) in
       let all = promise-from S h cs .demand2 in
       record {
         least = h .least;
@@ -68,7 +69,8 @@ module _ (S : Start) (h : SoundStart S) (cs : List Call) (j : ℕ) where
         stands = all .atRest j idle;
         proper = changedBy-proper (S .tree) (acceptedWrites x) (h .proper);
         linked = all .linked j;
-        unretired = none-retired st safe quiet;
+        unretired = none-retired st safe quiet (k .unapart);
+        unapart = k .unapart;
         free = all .free j;
         told = λ q. sym (k .finds q) ∙ sym (erase-find (colours (st .pool)) T q) ∙ ap (λ t. Seq.find t q) (resting st x T k idle .tree ∙ same);
         once = k .unique;

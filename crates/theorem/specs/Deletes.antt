@@ -52,7 +52,7 @@ use Rattle.runs.specs.Writer.{planned}
 use Rattle.theorem.specs.Tickets.{without-same, without-other, unique-without, without-some}
 use Rattle.theorem.specs.Laters.{takesAll}
 use Rattle.theorem.specs.WriterSide.{seqOf, indexOf, Pending, Timing, now, soon, WriterSide}
-use Rattle.theorem.specs.Rests.{resting, changed-end, few-turn, some-of, with-held, with-free}
+use Rattle.theorem.specs.Rests.{not-list, resting, changed-end, few-turn, some-of, with-held, with-free}
 
 -- a removal's fix-up takes three nodes at most
 abbrev Few : Fixup → Type 0
@@ -197,6 +197,8 @@ writerSide-delete st x T k safe h e =
       unique = h .unique;
       takes = tk;
       timing = tm;
+      unapart = h .unapart;
+      listed = λ ks vs i. absurd (not-list (deletion k) ks vs tt i);
       few = let a = ih .room in omega arith;
       started = h .started;
     }

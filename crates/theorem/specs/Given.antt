@@ -9,7 +9,8 @@ use Prim.Native.Nat.{ℕ, zero, suc, _+_, _<_, _≤_}
 use mathlib.Core.Path.{_≡_, refl, sym, ap, _∙_, subst}
 use mathlib.Core.Logic.{_≢_}
 use mathlib.Core.Bool.{Bool, true, false, cond}
-use mathlib.Core.List.{List, [], _∷_}
+use mathlib.Core.List.{List, [], _∷_, _++_}
+use lib.ListN.{length, getD}
 use mathlib.Core.Option.{Option, none, some, Option·some-injective}
 use native.Mathlib.Omega.{arith}
 use lib.Dec.{eqb}
@@ -17,30 +18,30 @@ use Rattle.base.specs.Lists.{getD-same}
 use Rattle.base.specs.Walk.{cond-both}
 use Rattle.datatypes.specs.declared.Kind.{Kind}
 use Rattle.datatypes.specs.declared.Kind.the-variants as kind
-use Rattle.sequential.specs.Delete.{Change, insertion, deletion, changedBy}
+use Rattle.sequential.specs.Delete.{Change, insertion, deletion, listInsertion, changedBy}
 use Rattle.spec.specs.Numbers.{wordLimit, recordLimit, leastNodes, mostNodes, mostStores, slots}
 use Rattle.spec.specs.Pool.{word, recordAt, recordLowWord, recordHighWord, standingLinked}
 use Rattle.spec.specs.Register.{State, noReader, vacant, fresh, freshRegister}
-use Rattle.spec.specs.Calls.{Answer, found, next, Outcome, Call, inserting, deleting, writing, beginning, turning, givingUp, call}
-use Rattle.spec.specs.PlainList.{Ticket, without, recordFor, updated, listStore, Plain, Notice, turnedDown, waited, carriedOut, storeMade, feed, noticeOf}
+use Rattle.spec.specs.Calls.{Answer, found, next, Outcome, Call, inserting, deleting, writing, beginning, turning, givingUp, insertingList, call}
+use Rattle.spec.specs.PlainList.{Ticket, without, recordFor, ticketsOf, updated, listStore, Plain, Notice, turnedDown, waited, carriedOut, storeMade, feed, noticeOf}
 use Rattle.laws.specs.Records.{narrow-high, narrow-read}
 use Rattle.promise.specs.Run.{Start, justSetUp, thenPerhaps, callAt, after, indexAfter, plainAfter, ticketsAfter, Turns, Reading}
 use Rattle.promise.specs.Demands.{AtOneMoment, Demand3, standingAt}
 use Rattle.promise.specs.Starts.{SoundStart}
 use Rattle.readers.specs.CallCase.{CallCase, Passed, call-case, refuses, loads, misses, meets, finds}
-use Rattle.ranges.specs.Records.{AllRecords, all-kept}
+use Rattle.ranges.specs.Records.{AllRecords, GivenBy, all-kept}
 use Rattle.runs.specs.Answers.{toldOf}
 use Rattle.runs.specs.Begin.{word-low, sound-fresh}
 use Rattle.theorem.specs.Tickets.{none-some}
 use Rattle.theorem.specs.Theorem.{promise-from, linked-ticket}
 
--- P holds of the record of every ticket, and of every insert in a list of calls
+-- P holds of the record of every ticket, and of every record that a list of calls gives, by an insert or in a list
 abbrev pub EveryTicket : (ℕ → Type 0) → List Ticket → Type 0
 EveryTicket P [] = Unit {0}
 EveryTicket P (t ∷ ts) = P (t .value) × EveryTicket P ts
 
 abbrev pub EveryInsert : (ℕ → Type 0) → List Call → Type 0
-EveryInsert P cs = (j k v : ℕ) → callAt cs j ≡ some (inserting k v) → P v
+EveryInsert P cs = (j : ℕ) (c : Call) → callAt cs j ≡ some c → GivenBy P c
 
 -- P holds of every record in a run
 pub record EveryRecord (P : ℕ → Type 0) (S : Start) (cs : List Call) : Type 0 where
@@ -69,13 +70,20 @@ module _ (P : ℕ → Type 0) where
   OfChange none = Unit {0}
   OfChange (some (insertion k v)) = P v
   OfChange (some (deletion k)) = Unit {0}
+  OfChange (some (listInsertion ks vs)) = (i : ℕ) → i < length vs → P (getD vs i 0)
 
   abbrev OfPlain : Plain → Type 0
   OfPlain x = EveryTicket P (x .tickets) × OfChange (x .inHand)
 
+  list-keeps : (ks vs : List ℕ) (ts : List Ticket) → ((i : ℕ) → i < length vs → P (getD vs i 0)) → EveryTicket P ts → EveryTicket P (ticketsOf ks vs ++ ts)
+  list-keeps [] vs ts i h = h
+  list-keeps (k ∷ ks) [] ts i h = h
+  list-keeps (k ∷ ks) (v ∷ vs) ts i h = (i 0 (omega arith), list-keeps ks vs ts (λ j u. i (suc j) (omega arith)) h)
+
   updated-keeps : (c : Change) (ts : List Ticket) → OfChange (some c) → EveryTicket P ts → EveryTicket P (updated c ts)
   updated-keeps (insertion k v) ts i h = (i, without-keeps k ts h)
   updated-keeps (deletion k) ts i h = without-keeps k ts h
+  updated-keeps (listInsertion ks vs) ts i h = list-keeps ks vs ts i h
 
   made-keeps : (x : Plain) (o : Option Change) → o ≡ x .inHand → EveryTicket P (x .tickets) → OfChange o → OfPlain (storeMade x o)
   made-keeps x none e h i = (h, subst OfChange e i)
@@ -83,15 +91,16 @@ module _ (P : ℕ → Type 0) where
       let atList = eqb (x .made + 1) (listStore (changedBy (x .started) (x .before)) c) in
       (cond-both (EveryTicket P) atList {x = updated c (x .tickets)} {y = x .tickets} (updated-keeps c (x .tickets) i h) h, i)
 
-  feed-keeps : (x : Plain) (c : Call) (n : Notice) → ((k v : ℕ) → c ≡ inserting k v → P v) → OfPlain x → OfPlain (feed x c n)
+  feed-keeps : (x : Plain) (c : Call) (n : Notice) → GivenBy P c → OfPlain x → OfPlain (feed x c n)
   feed-keeps x c turnedDown f h = h
   feed-keeps x c waited f h = h
-  feed-keeps x (inserting k v) carriedOut f h = (h .0, f k v refl)
+  feed-keeps x (inserting k v) carriedOut f h = (h .0, f)
   feed-keeps x (deleting k) carriedOut f h = (h .0, tt)
   feed-keeps x writing carriedOut f h = made-keeps x (x .inHand) refl (h .0) (h .1)
   feed-keeps x (beginning κ s k) carriedOut f h = h
   feed-keeps x (turning s) carriedOut f h = h
   feed-keeps x (givingUp s) carriedOut f h = h
+  feed-keeps x (insertingList ks vs) carriedOut f h = (h .0, f)
 
 -- a turn that isn't refused is of a slot that reads
 turn-passed : (st : State) (s : ℕ) (o : Outcome) → CallCase st (turning s) o → toldOf (o .answer) ≢ 7 → Passed st s
@@ -110,7 +119,7 @@ module _ (P : ℕ → Type 0) (S : Start) (sound : SoundStart S) (cs : List Call
     where
       go : (o : Option Call) → callAt cs j ≡ o → OfPlain P (plainAfter S cs j) → OfPlain P (thenPerhaps (after S cs j) o .plain)
       go none e h = h
-      go (some c) e h = feed-keeps P (plainAfter S cs j) c (noticeOf (call (indexAfter S cs j) c .answer)) (λ k v i. inserts j k v (e ∙ ap some i)) h
+      go (some c) e h = feed-keeps P (plainAfter S cs j) c (noticeOf (call (indexAfter S cs j) c .answer)) (inserts j c e) h
 
   at-moment : (k i j v : ℕ) → AtOneMoment S cs k i j (some v) → P v
   at-moment k i j v m = record-of P k v (ticketsAfter S cs (m .0)) (plain-has (m .0) .0) (m .3)
@@ -151,11 +160,32 @@ pub wide-run : (S : Start) → SoundStart S → (cs : List Call) → EveryTicket
     → EveryRecord (LessThan recordLimit) S cs
 wide-run S sound cs = every-record (LessThan recordLimit) S sound cs
 
+-- a call gives the record v, by an insert or in a list
+abbrev pub GivesRecord : Call → ℕ → Type 0
+GivesRecord (inserting k w) v = w ≡ v
+GivesRecord (deleting k) v = ⊥
+GivesRecord writing v = ⊥
+GivesRecord (beginning κ s k) v = ⊥
+GivesRecord (turning s) v = ⊥
+GivesRecord (givingUp s) v = ⊥
+GivesRecord (insertingList ks vs) v = (i : ℕ) × (i < length vs) × (getD vs i 0 ≡ v)
+
+given-all : (P : ℕ → Type 0) (c : Call) → ((v : ℕ) → GivesRecord c v → P v) → GivenBy P c
+given-all P (inserting k v) f = f v refl
+given-all P (deleting k) f = tt
+given-all P writing f = tt
+given-all P (beginning κ s k) f = tt
+given-all P (turning s) f = tt
+given-all P (givingUp s) f = tt
+given-all P (insertingList ks vs) f = λ i u. f (getD vs i 0) (i, u, refl)
+
 -- On a pool of N nodes just set up, as 01's runs start, there is no ticket (the premise on them is `tt`): every record was given by an insert of
--- the list. With which key, and at which moment, demand 3 says.
-pub records-given : (N : ℕ) → leastNodes ≤ N → N ≤ mostNodes → (cs : List Call)
-    → EveryRecord (λ v. (j : ℕ) × (k : ℕ) × (callAt cs j ≡ some (inserting k v))) (justSetUp N) cs
-records-given N lo hi cs = every-record _ (justSetUp N) (sound-fresh N lo hi) cs tt (λ j k v e. (j, k, e))
+-- the list, or in a list. With which key, and at which moment, demand 3 says.
+abbrev pub GivenIn : List Call → ℕ → Type 0
+GivenIn cs v = (j : ℕ) × (c : Call) × (callAt cs j ≡ some c) × GivesRecord c v
+
+pub records-given : (N : ℕ) → leastNodes ≤ N → N ≤ mostNodes → (cs : List Call) → EveryRecord (GivenIn cs) (justSetUp N) cs
+records-given N lo hi cs = every-record (GivenIn cs) (justSetUp N) (sound-fresh N lo hi) cs tt (λ j c e. given-all (GivenIn cs) c (λ v g. (j, c, e, g)))
 
 -- Every record kept, at every moment: from any start whose records are so, sound or not,
 pub all-records-from : (P : ℕ → Type 0) (S : Start) (cs : List Call) → AllRecords P (S .index) → EveryInsert P cs → (j : ℕ) → AllRecords P (indexAfter S cs j)
@@ -165,7 +195,7 @@ all-records-from P S cs start inserts (suc j) = go (callAt cs j) refl (all-recor
   where
     go : (o : Option Call) → callAt cs j ≡ o → AllRecords P (indexAfter S cs j) → AllRecords P (thenPerhaps (after S cs j) o .index)
     go none e h = h
-    go (some c) e h = all-kept P (indexAfter S cs j) c (λ k v i. inserts j k v (e ∙ ap some i)) h
+    go (some c) e h = all-kept P (indexAfter S cs j) c (inserts j c e) h
 
 fresh-records : (P : ℕ → Type 0) → P 0 → (N : ℕ) → leastNodes ≤ N → AllRecords P (fresh N)
 unfolding recordAt fresh freshRegister

@@ -7,10 +7,10 @@ use lib.ListN.{length}
 use Rattle.base.specs.Walk.{cond-both}
 use Rattle.datatypes.specs.declared.Link.{Link}
 use Rattle.datatypes.specs.declared.Step.{Step}
-use Rattle.datatypes.specs.declared.Step.the-variants.{Vacant, Insert, Replace, DiagLower, DiagRaise, ZigLowerA, ZigLowerC, ZigRaise, Unlink, Adopt, Promote, Publish, Detach}
+use Rattle.datatypes.specs.declared.Step.the-variants.{Vacant, Insert, Replace, DiagLower, DiagRaise, ZigLowerA, ZigLowerC, ZigRaise, Unlink, Adopt, Promote, Publish, Detach, LinkAll}
 use Rattle.datatypes.specs.declared.Store.{Store}
 use Rattle.spec.specs.Register.{State, linkNode}
-use Rattle.spec.specs.Turn.{movedStore, Listing, unlisted, keyComes, keyStays, keyGoes, profile, isListed, countedBy}
+use Rattle.spec.specs.Turn.{movedStore, Listing, unlisted, keyComes, keyStays, keyGoes, keysCome, profile, isListed, countedBy}
 use Rattle.heap.specs.Shift.{isListStore, takenIf, takenBy, heldAfter, later}
 
 -- how many nodes the stores to come take
@@ -33,6 +33,7 @@ plain-keeps Adopt e = refl
 plain-keeps Promote e = refl
 plain-keeps (Publish c) e = absurd (false≢true (sym e))
 plain-keeps (Detach k) e = refl
+plain-keeps (LinkAll m n) e = refl
 
 pub later-plain : (st : State) (l : Link) (x : Step) (w : List Store) → isListStore x ≡ false → later st l x w ≡ w
 later-plain st l x w e = rw (plain-keeps x e)
@@ -43,6 +44,7 @@ unlisted-count unlisted capacity h e = refl
 unlisted-count keyComes capacity h e = absurd (false≢true (sym e))
 unlisted-count keyStays capacity h e = refl
 unlisted-count keyGoes capacity h e = absurd (false≢true (sym e))
+unlisted-count (keysCome m) capacity h e = absurd (false≢true (sym e))
 
 pub held-plain : (x : Step) (capacity h : ℕ) → isListStore x ≡ false → heldAfter x capacity h ≡ h
 held-plain x capacity h e = unlisted-count (profile x .listing) capacity h e

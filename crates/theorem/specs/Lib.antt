@@ -7,6 +7,7 @@ pub mod Laters
 pub mod WriterSide
 pub mod Rests
 pub mod Deletes
+pub mod Lists
 pub mod Truth
 pub mod Starts
 pub mod Theorem

@@ -30,7 +30,7 @@ use Rattle.sequential.specs.Tree as Seq
 use Rattle.sequential.specs.Proper.{Ordered}
 use Rattle.sequential.specs.Tree.{Tree}
 use Rattle.sequential.specs.Insert as SeqInsert
-use Rattle.sequential.specs.Delete.{Change, insertion, changed, changedBy}
+use Rattle.sequential.specs.Delete.{Change, insertion, deletion, listInsertion, changed, changedBy}
 use Rattle.spec.specs.Numbers.{nodeWords}
 use Rattle.spec.specs.Pool.{child, isRed, nodes as poolNodes}
 use Rattle.spec.specs.Register.{State, withWrite, writeOf}
@@ -38,7 +38,7 @@ use Rattle.spec.specs.Search.{pathTo}
 use Rattle.spec.specs.Plan.{fixupResult, insertFixup, fixupAfterInsert, store, turnStores, endingStores, insertPlan}
 use Rattle.spec.specs.Calls.{firstOf, writeInHand, placeOf, isHeld, tooDeep, full, insertAt}
 use Rattle.spec.specs.PlainList.{Ticket, Plain, recordFor, Unique, updated, acceptedWrites, begun}
-use Rattle.tree.specs.Changes.{changedBy-proper, find-insert, find-insert-other}
+use Rattle.tree.specs.Changes.{Single, changedBy-proper, find-insert, find-insert-other}
 use Rattle.tree.specs.Linked.{Linked, find}
 use Rattle.tree.specs.Erase.{erase, erase-find}
 use Rattle.heap.specs.Colours.{colours}
@@ -52,6 +52,18 @@ use Rattle.runs.specs.Writer.{LeavesTree, planned}
 use Rattle.theorem.specs.Tickets.{without-same, without-other, unique-without, without-none, without-some}
 use Rattle.theorem.specs.Laters.{takesAll}
 use Rattle.theorem.specs.WriterSide.{seqOf, Pending, Timing, over, now, soon, WriterSide}
+
+-- a change of one key is no list
+abbrev changeNumber : Option Change → ℕ
+changeNumber none = 0
+changeNumber (some (insertion k v)) = 1
+changeNumber (some (deletion k)) = 2
+changeNumber (some (listInsertion ks vs)) = 3
+
+pub not-list : (c : Change) (ks vs : List ℕ) → Single c → ¬ (some c ≡ some (listInsertion ks vs))
+not-list (insertion k v) ks vs u e = let z = ap changeNumber e in omega arith
+not-list (deletion k) ks vs u e = let z = ap changeNumber e in omega arith
+not-list (listInsertion js us) ks vs u e = u
 
 -- Readers' calls.
 module _ (st after : State) (x : Plain) (s : LeavesTree st after) where
@@ -80,6 +92,8 @@ module _ (st after : State) (x : Plain) (s : LeavesTree st after) where
     unique = h .unique;
     takes = let a = h .takes in let b = s .free in omega arith;
     timing = leavesTree-timing (h .stores) (h .timing);
+    unapart = λ n e. h .unapart n (s .apart n .0 e);
+    listed = h .listed;
     few = h .few;
     started = h .started;
   }
@@ -205,6 +219,8 @@ writerSide-insert st x T k v safe h e =
             tells = λ q. tells-insert S k v (x .tickets) ord seq q ∙ ap (λ t. Seq.find t q) (sym (changed-end (x .started) (acceptedWrites x) (insertion k v)));
             unique = (without-same k (x .tickets), unique-without k (x .tickets) (h .unique));
           }) refl);
+      unapart = h .unapart;
+      listed = λ ks vs i. absurd (not-list (insertion k v) ks vs tt i);
       few = let a = ih .room in omega arith;
       started = h .started;
     }

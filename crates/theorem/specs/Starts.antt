@@ -4,6 +4,8 @@ use Prim.Native.Nat.{ℕ, _<_}
 use mathlib.Core.Path.{_≡_, refl, sym, ap, _∙_}
 use mathlib.Core.Logic.{inl, inr, ⊎-elim}
 use mathlib.Core.List.{List, []}
+use mathlib.Core.Option.{Option, none, some}
+use Rattle.sequential.specs.Delete.{Change, listInsertion}
 use native.Mathlib.Omega.{arith}
 use native.Mathlib.Decide.{decLe}
 use Rattle.base.specs.Lists.{_∈_, in-append}
@@ -60,7 +62,7 @@ key-below p s k (cell N x y) a n h b (inl e) = rw (e, h .0 .key-is) (b .0)
 key-below p s k (cell N x y) a n h b (inr i) =
     ⊎-elim (λ j. key-below p s k x _ n (h .1) (b .1) j) (λ j. key-below p s k y _ n (h .2) (b .2) j) (in-append n (nodes x) (nodes y) .0 i)
 
-once-ordered : (p : List ℕ) (T : Linked) (a : ℕ) → Rep p a T → Ordered (erase (colours p) T) → Once T
+pub once-ordered : (p : List ℕ) (T : Linked) (a : ℕ) → Rep p a T → Ordered (erase (colours p) T) → Once T
 once-ordered p nil a h o n = omega arith
 once-ordered p (cell N x y) a h o n =
     let split = occ-append n (nodes x) (nodes y) in
@@ -81,6 +83,9 @@ once-ordered p (cell N x y) a h o n =
 pub none-in-hand : writeOf [] ≡ noWrite
 unfolding writeOf
 none-in-hand = refl
+
+none-change : (c : Change) → ¬ (_≡_ {A = Option Change} none (some c))
+none-change c e = let z : _≡_ {A = ℕ} 0 1 = cc in absurd (omega arith)
 
 pub writerSide-start : (S : Start) → SoundStart S → (T : Linked) × WriterSide (S .index) (outset S .plain) T
 writerSide-start S h =
@@ -105,6 +110,8 @@ writerSide-start S h =
         unique = h .once;
         takes = omega arith;
         timing = over [] tt tt;
+        unapart = h .unapart;
+        listed = λ ks vs e. absurd (none-change (listInsertion ks vs) e);
         few = omega arith;
         started = h .proper;
       },

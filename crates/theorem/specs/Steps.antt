@@ -10,7 +10,7 @@ use Rattle.datatypes.specs.declared.Link.{Link}
 use Rattle.datatypes.specs.declared.Register.{Register}
 use Rattle.datatypes.specs.Side.{owner}
 use Rattle.spec.specs.Numbers.{slots}
-use Rattle.spec.specs.Pool.{standingLinked}
+use Rattle.spec.specs.Pool.{word, standingWord, standingLinked, standingApart}
 use Rattle.spec.specs.Register.{State, state, setLink}
 use Rattle.spec.specs.Turn.{Made}
 use Rattle.laws.specs.Reading.{ReadingOnly}
@@ -65,8 +65,8 @@ all-awaited mid (a ∷ c ∷ l) = retireTwo-quiet mid a c .fields .awaited
 
 pub parts-turn : (st : State) (T T′ : Linked) (m : Made) (came gone : List ℕ) (b w : Bool) → Safe st → Rep (st .pool) (st .register .root) T
     → ((n : ℕ) → 0 < occ n (nodes T) → HasStanding (st .pool) n standingLinked) → Shift T T′ (m .link) (m .node) came gone b w → Parts st m came gone → QueueHas st came
-    → ReadingOnly slots (st .register .readers) (m .after .register .awaited) → Turn st (m .after) came gone (m .link) (m .node)
-parts-turn st T T′ m came gone b w safe rep lk sh ps q aw = rw (ps .retired) (go gone (shift-few sh) sh (ps .retired))
+    → ReadingOnly slots (st .register .readers) (m .after .register .awaited) → ((n : ℕ) → word (st .pool) n standingWord ≢ standingApart) → Turn st (m .after) came gone (m .link) (m .node)
+parts-turn st T T′ m came gone b w safe rep lk sh ps q aw none = rw (ps .retired) (go gone (shift-few sh) sh (ps .retired))
   where
     k : Link
     k = m .link
@@ -94,10 +94,10 @@ parts-turn st T T′ m came gone b w safe rep lk sh ps q aw = rw (ps .retired) (
     goes g s i j = let a = shift-gone (st .pool) (st .register .root) s rep i j in (lk i (a .0), a .1)
 
     go : (g : List ℕ) → length g ≤ 2 → Shift T T′ (m .link) (m .node) came g b w → m .after ≡ retireAll (ps .mid) gone → Turn st (retireAll (ps .mid) g) came g (m .link) (m .node)
-    go [] u s e = turn-none st (ps .mid) (safe .queue) came (m .link) (m .node) (safe .whole) own (safe .owned) mid
-    go (c ∷ []) u s e = let x = goes (c ∷ []) s c (inl refl) in turn-one st (ps .mid) (safe .queue) came (m .link) (m .node) (safe .whole) own (safe .owned) mid c (x .0) (x .1)
+    go [] u s e = turn-none st (ps .mid) (safe .queue) came (m .link) (m .node) (safe .whole) own (safe .owned) none mid
+    go (c ∷ []) u s e = let x = goes (c ∷ []) s c (inl refl) in turn-one st (ps .mid) (safe .queue) came (m .link) (m .node) (safe .whole) own (safe .owned) none mid c (x .0) (x .1)
     go (a ∷ c ∷ []) u s e =
         let x = goes (a ∷ c ∷ []) s a (inl refl) in
         let y = goes (a ∷ c ∷ []) s c (inr (inl refl)) in
-        turn-two st (ps .mid) (safe .queue) came (m .link) (m .node) (safe .whole) own (safe .owned) mid a c (shift-two (st .pool) (st .register .root) s rep) (x .0) (y .0) (x .1) (y .1)
+        turn-two st (ps .mid) (safe .queue) came (m .link) (m .node) (safe .whole) own (safe .owned) none mid a c (shift-two (st .pool) (st .register .root) s rep) (x .0) (y .0) (x .1) (y .1)
     go (a ∷ c ∷ d ∷ l) u s e = absurd (omega arith)

@@ -18,7 +18,7 @@ use Rattle.datatypes.specs.declared.Store.{Store}
 use Rattle.datatypes.specs.declared.Register.{Register}
 use Rattle.datatypes.specs.Side.{owner}
 use Rattle.spec.specs.Numbers.{slots}
-use Rattle.spec.specs.Pool.{child, standingLinked}
+use Rattle.spec.specs.Pool.{word, child, standingWord, standingLinked, standingApart}
 use Rattle.spec.specs.Register.{State, state, nodeAt, linkNode, withWrite, readingSlots, lessFirst}
 use Rattle.spec.specs.Turn.{Made, stepMade, profile}
 use Rattle.spec.specs.Calls.{stored}
@@ -37,7 +37,8 @@ use Rattle.heap.specs.Writes.{InHand, turn}
 use Rattle.heap.specs.Writes as Writes
 use Rattle.promise.specs.Demands.{TreeLink}
 use Rattle.laws.specs.Reading.{ReadingOnly, only-reading}
-use Rattle.readers.specs.Reach.{HasStanding}
+use Rattle.promise.specs.Run.{Reads}
+use Rattle.readers.specs.Reach.{HasStanding, NodeChange, comes, leaves, rests, goes}
 use Rattle.readers.specs.Lookups.{Unlinked}
 use Rattle.readers.specs.Stored.{hitsLink, rootAfter}
 use Rattle.readers.specs.Turns.{Turn, turn-write}
@@ -93,7 +94,7 @@ tree-still : (st after : State) (came gone : List ℕ) (k : Link) (v : ℕ) (T T
 tree-still st after came gone k v T T′ t h h′ lk e =
     let p = st .pool in
     let root = st .register .root in
-    let old : (n : ℕ) → n ∈ nodes T → ¬ (n ∈ came) = λ n j i. let a = t .new n i in let b = lk n j in absurd (omega arith) in
+    let old : (n : ℕ) → n ∈ nodes T → ¬ (n ∈ came) = λ n j i. let b = lk n j in ⊎-elim (λ a. absurd (omega arith)) (λ a. absurd (omega arith)) (t .new n i) in
     rep-unique (after .pool) T T′ root (after .register .root) (root-still p root k v e ∙ sym (t .root))
     (rep-agree p (after .pool) (t .size) T root (λ n u. agree n (old n (occ-in n (nodes T) u))) h) h′
   where
@@ -114,7 +115,8 @@ unfolding stored
 after-is m = refl
 
 module _ (st : State) (G : Tree) (T : Linked) (x : Store) (l : List Store) (safe : Safe st) (hand : InHand st G T (x ∷ l)) (lk : (n : ℕ) → HasStanding (st .pool) n standingLinked ↔ (n ∈ nodes T))
-    (ready : Ready st T (takenBy (x .step) (st .register .first))) (exactOf : QueueHas st (takenBy (x .step) (st .register .first))) where
+    (ready : Ready st T (takenBy (x .step) (st .register .first))) (exactOf : QueueHas st (takenBy (x .step) (st .register .first)))
+    (unapart : (n : ℕ) → word (st .pool) n standingWord ≢ standingApart) where
   abbrev pub made : Made
   made = stepMade st (x .link) (x .step)
 
@@ -132,7 +134,7 @@ module _ (st : State) (G : Tree) (T : Linked) (x : Store) (l : List Store) (safe
 
   store-met : Turn st (made .after) (takenBy (x .step) (st .register .first)) (next .gone) (made .link) (made .node)
   store-met = parts-turn st T (next .tree) made _ (next .gone) _ _ safe rep (λ n u. lk n .1 (occ-in n (nodes T) u)) (next .shift) (next .parts) exactOf
-      (rw (next .fields .awaited) (await-slots (x .step) (st .register) (safe .owned .awaited)))
+      (rw (next .fields .awaited) (await-slots (x .step) (st .register) (safe .owned .awaited))) unapart
 
   pub facts-turn : Turn st (stored made .after) (takenBy (x .step) (st .register .first)) (next .gone) (made .link) (made .node)
   facts-turn = rw (after-is made) (turn-write st (made .after) _ _ (made .link) (made .node) _ store-met)
@@ -153,8 +155,18 @@ module _ (st : State) (G : Tree) (T : Linked) (x : Store) (l : List Store) (safe
   stays : (n : ℕ) → HasStanding (st .pool) n standingLinked → owner (made .link) ≡ n → (n ∈ nodes (next .tree)) × (¬ (n ∈ takenBy (x .step) (st .register .first)))
   stays n e o = (
     moves n .1 (inl (lk n .0 e), λ j. shift-gone (st .pool) (st .register .root) (next .shift) rep n j .1 o),
-    λ j. (let a = facts-turn .new n j in absurd (omega arith)),
+    λ j. ⊎-elim (λ a. absurd (omega arith)) (λ a. absurd (omega arith)) (facts-turn .new n j),
   )
+
+  -- after a store nothing stands apart
+  pub facts-unapart : (n : ℕ) → word (stored made .after .pool) n standingWord ≢ standingApart
+  facts-unapart n e = go (facts-turn .change n)
+    where
+      go : NodeChange (st .pool) (stored made .after .pool) (Reads st) n → ⊥
+      go (comes a b) = omega arith
+      go (leaves a b bits same) = omega arith
+      go (rests a b hold same) = omega arith
+      go (goes a b none) = omega arith
 
   -- linked no longer
   abbrev Gone : ℕ → Type 0
@@ -189,9 +201,8 @@ module _ (st : State) (G : Tree) (T : Linked) (x : Store) (l : List Store) (safe
 
       came : (n : ℕ) → ¬ (n ∈ takenBy (x .step) (st .register .first))
       came n i =
-          let a = facts-turn .new n i in
           let b = lk n .1 (subst (λ t. n ∈ nodes t) (sym same) (moves n .1 (inr i, gone n))) in
-          absurd (omega arith)
+          ⊎-elim (λ a. absurd (omega arith)) (λ a. absurd (omega arith)) (facts-turn .new n i)
 
   pub facts-stores : (W : Linked → Type 0) → W (next .tree) → Stores st made T W
   facts-stores W w =
@@ -203,7 +214,8 @@ module _ (st : State) (G : Tree) (T : Linked) (x : Store) (l : List Store) (safe
         turn = facts-turn;
         owner = own;
         moved = moved;
-        new = shift-new (next .shift);
+        new = λ n i. inl (shift-new (next .shift) n i);
+        apart = λ n e. absurd (unapart n e);
         below = u .0;
         unfolds = u .1;
         ways = ways;

@@ -13,9 +13,9 @@ use Rattle.datatypes.specs.declared.Store.{Store}
 use Rattle.sequential.specs.Tree as Seq
 use Rattle.sequential.specs.Proper.{Proper}
 use Rattle.sequential.specs.Tree.{Tree}
-use Rattle.sequential.specs.Delete.{Change, changedBy}
+use Rattle.sequential.specs.Delete.{Change, listInsertion, changedBy}
 use Rattle.spec.specs.Numbers.{nodeWords, mostStores}
-use Rattle.spec.specs.Pool.{standingLinked, nodes as poolNodes}
+use Rattle.spec.specs.Pool.{word, standingWord, standingLinked, standingApart, nodes as poolNodes}
 use Rattle.spec.specs.Register.{State, storeOf, withWrite}
 use Rattle.spec.specs.Turn.{Made, stepFinds, stepMade}
 use Rattle.spec.specs.Calls.{stored, writeInHand}
@@ -35,7 +35,7 @@ use Rattle.readers.specs.Safe.{Safe}
 use Rattle.runs.specs.Writer.{Stores, firstMade, afterStore}
 use Rattle.theorem.specs.Laters.{takesAll, later-plain, held-plain, later-takes, taken-length}
 use Rattle.theorem.specs.Steps.{QueueHas}
-use Rattle.theorem.specs.StoreFacts.{turn-made, facts-turn, facts-linked, facts-stores}
+use Rattle.theorem.specs.StoreFacts.{turn-made, facts-turn, facts-linked, facts-unapart, facts-stores}
 
 abbrev pub seqOf : Plain → Tree
 seqOf x = changedBy (x .started) (acceptedWrites x)
@@ -71,6 +71,9 @@ pub record WriterSide (st : State) (x : Plain) (T : Linked) : Type 0 where
   pub unique : Unique (x .tickets)
   pub takes : takesAll stores ≤ st .register .free
   pub timing : Timing st x stores
+  pub unapart : (n : ℕ) → word (st .pool) n standingWord ≢ standingApart
+  -- a list that the plain list has as the last write has made its store
+  pub listed : (ks vs : List ℕ) → x .inHand ≡ some (listInsertion ks vs) → 1 ≤ x .made
   pub few : x .made + length stores ≤ mostStores
   pub started : Proper (x .started)
 
@@ -94,7 +97,7 @@ module _ (st : State) (x : Plain) (T : Linked) (safe : Safe st) (was : WriterSid
   ready = queue-ready st T (takenBy (s .step) (st .register .first)) safe (was .linked) (let a = taken-length (s .step) (st .register .first) 0 in omega arith)
 
   abbrev t : Writes.TurnMade st (seqOf x) T s l
-  t = turn-made st (seqOf x) T s l safe hand (was .linked) (ready .0) (ready .1)
+  t = turn-made st (seqOf x) T s l safe hand (was .linked) (ready .0) (ready .1) (was .unapart)
 
   abbrev m : Made
   m = stepMade st (s .link) (s .step)
@@ -111,7 +114,7 @@ module _ (st : State) (x : Plain) (T : Linked) (safe : Safe st) (was : WriterSid
 
   takes-after : takesAll rest ≤ after .register .free
   takes-after =
-      let a = facts-turn st (seqOf x) T s l safe hand (was .linked) (ready .0) (ready .1) .free in
+      let a = facts-turn st (seqOf x) T s l safe hand (was .linked) (ready .0) (ready .1) (was .unapart) .free in
       let b = later-takes st (s .link) (s .step) l in
       let c = taken-length (s .step) (st .register .first) 0 in
       omega arith
@@ -129,12 +132,14 @@ module _ (st : State) (x : Plain) (T : Linked) (safe : Safe st) (was : WriterSid
     side-after ts e f h u w = record {
       stores = rest;
       hand = subst (λ g. InHand after g (t .next .tree) rest) same-seq (t .in-hand);
-      linked = facts-linked st (seqOf x) T s l safe hand (was .linked) (ready .0) (ready .1);
+      linked = facts-linked st (seqOf x) T s l safe hand (was .linked) (ready .0) (ready .1) (was .unapart);
       finds = λ k. f k ∙ ap (recordFor k) (sym e);
       held = h ∙ ap length (sym e);
       unique = subst Unique (sym e) u;
       takes = takes-after;
       timing = w;
+      unapart = facts-unapart st (seqOf x) T s l safe hand (was .linked) (ready .0) (ready .1) (was .unapart);
+      listed = λ ks vs e. omega arith;
       few = let a = later-length st (s .link) (s .step) l in omega arith;
       started = was .started;
     }
@@ -160,7 +165,7 @@ module _ (st : State) (x : Plain) (T : Linked) (safe : Safe st) (was : WriterSid
     pub next-pending : (b : Store) (p : Pending st x b) → p .change ≡ c → isListStore (s .step) ≡ false → x .made + 1 ≢ indexOf x c → Pending after x′ b
     next-pending b p i e d =
         let same : x′ .tickets ≡ x .tickets = rw (ne-eqb (x .made + 1) (indexOf x c) d) in
-        let big : poolNodes (after .pool) ≡ poolNodes (st .pool) = ap (λ n. n / nodeWords) (facts-turn st (seqOf x) T s l safe hand (was .linked) (ready .0) (ready .1) .size) in
+        let big : poolNodes (after .pool) ≡ poolNodes (st .pool) = ap (λ n. n / nodeWords) (facts-turn st (seqOf x) T s l safe hand (was .linked) (ready .0) (ready .1) (was .unapart) .size) in
         let lists : updated (p .change) (x .tickets) ≡ updated c (x′ .tickets) = ap (λ z. updated z (x .tickets)) i ∙ ap (updated c) (sym same) in
         record {
           change = c;
@@ -192,7 +197,7 @@ module _ (st : State) (x : Plain) (T : Linked) (safe : Safe st) (h : WriterSide 
       → Stores st (stepMade st (s .link) (s .step)) T (λ z. WriterSide (stored (stepMade st (s .link) (s .step)) .after) (storeMade x (x .inHand)) z)
   turn-on s l hand tks fw w =
       let r = ready st x T safe h s l hand tks fw in
-      facts-stores st (seqOf x) T s l safe hand (h .linked) (r .0) (r .1) (λ z. WriterSide (stored (stepMade st (s .link) (s .step)) .after) (storeMade x (x .inHand)) z) (go (due-of st x s l w))
+      facts-stores st (seqOf x) T s l safe hand (h .linked) (r .0) (r .1) (h .unapart) (λ z. WriterSide (stored (stepMade st (s .link) (s .step)) .after) (storeMade x (x .inHand)) z) (go (due-of st x s l w))
     where
       kept : (c : Change) → x .inHand ≡ some c → WriterSide (stored (stepMade st (s .link) (s .step)) .after) (storeMade x (some c)) (t st x T safe h s l hand tks fw .next .tree)
           → WriterSide (stored (stepMade st (s .link) (s .step)) .after) (storeMade x (x .inHand)) (t st x T safe h s l hand tks fw .next .tree)

@@ -7,6 +7,7 @@ pub mod Writes
 pub mod Insert
 pub mod DeleteShape
 pub mod Delete
+pub mod Balanced
 pub mod Changes
 pub mod Height
 pub mod Linked

@@ -10,7 +10,7 @@ use Rattle.datatypes.specs.declared.StepResult.{StepResult}
 use Rattle.datatypes.specs.declared.Write.{Write}
 use Rattle.datatypes.specs.declared.Step.{Step}
 use Rattle.datatypes.specs.declared.Step.the-variants.{Vacant, Insert, Replace, DiagLower, DiagRaise, ZigLowerA, ZigLowerC, ZigRaise, Unlink, Adopt}
-use Rattle.datatypes.specs.declared.Step.the-variants.{Promote, Publish, Detach}
+use Rattle.datatypes.specs.declared.Step.the-variants.{Promote, Publish, Detach, LinkAll}
 use Rattle.spec.specs.Register.{State, state, storeOf, nodeAt, readingSlots, withWrite}
 use Rattle.spec.specs.Turn.{movedWrite, profile}
 use Rattle.spec.specs.Calls.{Answer, Outcome, stored}
@@ -38,6 +38,7 @@ asksReading Adopt = false
 asksReading Promote = true
 asksReading (Publish n) = true
 asksReading (Detach k) = true
+asksReading (LinkAll m n) = false
 
 -- a step tried, of any kind; m is the mask of the reading slots if the step asks for it
 abbrev pub TriesAny : ℕ → Link → Step → List ℕ → Head → List ℕ → StepResult → Type 0

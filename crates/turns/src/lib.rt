@@ -40,6 +40,7 @@ fn try_step(pool: &mut [u32], h: Head, reading: u32, l: Link, x: Step) -> StepRe
         Step::Promote => removals::promote(pool, h, reading, l),
         Step::Publish(c) => copies::publish(pool, h, reading, l, c),
         Step::Detach(k) => removals::detach(pool, h, reading, l, k),
+        Step::LinkAll(m, n) => bulk::link_all(pool, h, m, n),
     }
 }
 
@@ -77,6 +78,7 @@ fn renames(x: Step) -> bool
         Step::Promote => false,
         Step::Publish(_) => true,
         Step::Detach(_) => false,
+        Step::LinkAll(_, _) => false,
     }
 }
 
@@ -120,6 +122,7 @@ fn asks_reading(x: Step) -> bool
         Step::Promote => true,
         Step::Publish(_) => true,
         Step::Detach(_) => true,
+        Step::LinkAll(_, _) => false,
     }
 }
 

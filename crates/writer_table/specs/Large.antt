@@ -13,7 +13,7 @@ use Rattle.base.specs.Walk.{allFrom, allIn}
 use Rattle.datatypes.specs.declared.Kind.the-variants as kind
 use Rattle.datatypes.specs.declared.Register.{Register}
 use Rattle.spec.specs.Numbers.{nodeWords}
-use Rattle.spec.specs.Pool.{word, nodes, nodeInRange, poolInRange, lengthRight, redColour, standingRetired}
+use Rattle.spec.specs.Pool.{word, nodes, nodeInRange, poolInRange, lengthRight, redColour, standingApart}
 use Rattle.spec.specs.Pool.{leftWord, rightWord, colourWord, standingWord, nextWord}
 use Rattle.spec.specs.Register.{state, registerInRange, storeInRange}
 use Rattle.spec.specs.Search.{seek}
@@ -26,7 +26,7 @@ use Rattle.table.specs.Picture.{reads, idle, none}
 abbrev headInRange : ℕ → List ℕ → Bool
 headInRange capacity p =
     leb (getD p leftWord 0) capacity && leb (getD p rightWord 0) capacity
-    && (leb (getD p colourWord 0) redColour && leb (getD p standingWord 0) standingRetired)
+    && (leb (getD p colourWord 0) redColour && leb (getD p standingWord 0) standingApart)
     && leb (getD p nextWord 0) capacity
 
 -- and so do the k nodes that it begins with
@@ -57,7 +57,7 @@ pool-right p =
 
 -- 1,023 nodes with every word at its largest, but that the next free of the last node is as given
 abbrev node : ℕ → List ℕ
-node next = 4294967295 ∷ 4294967295 ∷ 4294967295 ∷ 1023 ∷ 1023 ∷ 1 ∷ 2 ∷ 4294967295 ∷ next ∷ []
+node next = 4294967295 ∷ 4294967295 ∷ 4294967295 ∷ 1023 ∷ 1023 ∷ 1 ∷ 3 ∷ 4294967295 ∷ next ∷ []
 
 abbrev nodesBefore : ℕ → List ℕ → List ℕ
 nodesBefore zero p = p

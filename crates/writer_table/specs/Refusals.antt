@@ -86,7 +86,7 @@ refusals =
     ∷ gives2 "2: left one past its range, last node" three (left of 8 := 9 ∷ [])
     ∷ gives2 "2: right one past its range, last node" three (right of 8 := 9 ∷ [])
     ∷ gives2 "2: colour one past its range, last node" three (colour of 8 := 2 ∷ [])
-    ∷ gives2 "2: standing one past its range, last node" three (standing of 8 := 3 ∷ [])
+    ∷ gives2 "2: standing one past its range, last node" three (standing of 8 := 4 ∷ [])
     ∷ carriedOut "holders any word, of linked nodes" (holders of 1 := 256 ∷ holders of 2 := 4294967295 ∷ holders of 3 := 2147483648 ∷ [])
     ∷ carriedOut "holders any word, of free nodes" (holders of 5 := 256 ∷ holders of 6 := 4294967295 ∷ holders of 8 := 2147483648 ∷ [])
     ∷ carriedOut "holders any word, of retired nodes" (standing of 7 := 2 ∷ holders of 7 := 256 ∷ standing of 8 := 2 ∷ holders of 8 := 4294967292 ∷ [])

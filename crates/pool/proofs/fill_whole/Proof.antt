@@ -4,7 +4,7 @@ use borrow.Author.Tests.{ne-eqb}
 use native.Mathlib.Omega.{arith}
 use Rattle.spec.specs.Numbers.{nodeWords}
 use Rattle.spec.specs.Pool.{place, setWord}
-use Rattle.spec.specs.Free.{fillNode}
+use Rattle.spec.specs.Free.{fillAs, fillAs}
 use lib.ListN.{length-set}
 use borrow.Author.Needs.{needs}
 use Rattle.pool.proofs.fill_whole.Statement.{statement}
@@ -119,7 +119,7 @@ same-length : tie.Need-same-length
 same-length c = simp length-set
 
 returns : tie.Need-returns
-unfolding fillNode setWord
+unfolding fillAs setWord
 returns c =
     let c2 = c .before .before in
     let c4 = c2 .before .before in

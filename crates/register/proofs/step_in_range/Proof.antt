@@ -47,6 +47,9 @@ node-number-requires c κs = search needs
 enum-told-12 : tie.Need-enum-told-12
 enum-told-12 c = search needs
 
+enum-known-s-2 : tie.Need-enum-known-s-2
+enum-known-s-2 c = search needs
+
 returns : tie.Need-returns
 returns c = search needs
 
@@ -86,6 +89,9 @@ returns-12 c = rw (c .before .before .s .given .1) (c .node-number .ensures)
 returns-13 : tie.Need-returns-13
 returns-13 c = search needs
 
+returns-14 : tie.Need-returns-14
+returns-14 c = rw (c .before .s2 .given .1)
+
 pub step-in-range-spec : {M : Type 1} → statement M
 step-in-range-spec =
     tie.close
@@ -104,6 +110,7 @@ step-in-range-spec =
     enum-known-s
     node-number-requires
     enum-told-12
+    enum-known-s-2
     returns
     returns-2
     returns-3
@@ -116,4 +123,5 @@ step-in-range-spec =
     returns-10
     returns-11
     returns-12
-    returns-13)
+    returns-13
+    returns-14)

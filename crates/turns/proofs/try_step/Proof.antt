@@ -21,6 +21,7 @@ use Rattle.stores.proofs.adopt.Reads as adopt-reads
 use Rattle.stores.proofs.insert.Reads as insert-reads
 use Rattle.copies.proofs.publish.Reads as publish-reads
 use Rattle.copies.proofs.replace.Reads as replace-reads
+use Rattle.bulk.proofs.link_all.Reads as link-all-reads
 
 enum-told : tie.Need-enum-told
 enum-told c = search needs
@@ -99,6 +100,12 @@ enum-known-x-9 c = search needs
 
 detach-requires : tie.Need-detach-requires
 detach-requires c κs = search needs
+
+enum-known-x-10 : tie.Need-enum-known-x-10
+enum-known-x-10 c = search needs
+
+link-all-requires : tie.Need-link-all-requires
+link-all-requires c κs = search needs
 
 returns : tie.Need-returns
 unfolding stepFinds withWrite
@@ -190,6 +197,15 @@ returns-13 : tie.Need-returns-13
 unfolding withWrite
 returns-13 c = rw (c .before .before .before .before .before .x9 .given .1) (λ q r. c .before .before .detach .ensures q (r refl))
 
+same-length-13 : tie.Need-same-length-13
+same-length-13 c = search needs
+
+returns-14 : tie.Need-returns-14
+unfolding withWrite
+returns-14 c =
+    let a = c .before .before .before .before .before .before .before .before .args in
+    rw (c .before .before .before .before .before .x10 .given .1) (λ q r. c .before .before .link-all .ensures (a .l) q)
+
 pub try-step-spec : {M : Type 1} → statement M
 try-step-spec =
     tie.close
@@ -220,6 +236,8 @@ try-step-spec =
     publish-requires
     enum-known-x-9
     detach-requires
+    enum-known-x-10
+    link-all-requires
     returns
     same-length
     returns-2
@@ -244,4 +262,6 @@ try-step-spec =
     same-length-11
     returns-12
     same-length-12
-    returns-13)
+    returns-13
+    same-length-13
+    returns-14)
