@@ -74,7 +74,7 @@ pub fn delete_at(pool: &[u32], reg: Register, k: u32, l: Link, n: u32) -> Reply
 }
 
 // Tests a list (document 02, C-24), after the tests of what is lent and of a write in hand: 18 the list is empty, its keys don't rise or its records
-// are not as many; 19 the index is not empty; 10 more keys than N − 4; 11 fewer free nodes than keys; 12 the queue ends before the last of them.
+// are not as many; 19 the index is not empty; 10 more keys than N − 4; 11 fewer free nodes than keys; 12 a node taken from an empty queue.
 pub fn list_refusal(pool: &[u32], reg: Register, keys: &[u32], records: &[u64]) -> u32
     requires { ⌜ lentNumber (state (now pool) reg) ≡ 0 ⌝ }
     ensures { λ r. ⌜ r ≡ listNumber (state (now (pool .entry)) reg) (now (keys .entry)) (now (records .entry)) ⌝ }
@@ -93,7 +93,7 @@ pub fn list_refusal(pool: &[u32], reg: Register, keys: &[u32], records: &[u64]) 
     if (reg.free as usize) < m {
         return 11;
     }
-    if bulk::free_after(pool, reg.first, m - 1) == 0 {
+    if bulk::runs_out(pool, reg.first, m) {
         return 12;
     }
     0

@@ -10,5 +10,6 @@ pub mod Fresh
 pub mod Inserts
 pub mod Turns
 pub mod Deletes
+pub mod Takings
 pub mod Lists
 pub mod Writers

@@ -31,7 +31,7 @@ use Rattle.spec.specs.Calls.{Answer, go, absent, found, next, more, done, wait,
 use Rattle.spec.specs.Calls.{_gives_, wrongLength, outOfRange, slotTooHigh, readerStep, readerTurn, turnCount}
 use Rattle.spec.specs.PlainList.{Ticket, Plain, carriedOut, noticeOf, recordFor, acceptedWrites}
 use Rattle.spec.specs.FreeQueue.{Queue}
-use Rattle.spec.specs.Bulk.{freeAfter}
+use Rattle.spec.specs.Bulk.{nextFree, freeAfter}
 use Rattle.promise.specs.Run.{Start, justSetUp, Reads, callAt, indexAfter, plainAfter, ticketsAfter, Gives, Turns, Reading, Lookup, NextSearch, comparedIn}
 
 -- 'Lookup': found means that at one of the lookup's moments the plain list has the wanted key with just this record, absent that at one of
@@ -120,7 +120,7 @@ pub record TakesMany (st : State) (c : Call) (m : ℕ) : Type 0 where
   pub makes : noticeOf (call st c .answer) ≡ carriedOut
   pub place : ℕ
   pub below : place < length keys
-  pub node : freeAfter (st .pool) (st .register .first) place ≡ m
+  pub node : freeAfter (nextFree (st .pool)) (st .register .first) place ≡ m
 
 abbrev pub Takes : State → Call → ℕ → Type 0
 Takes st c m = TakesOne st c m ⊎ TakesMany st c m

@@ -1,6 +1,6 @@
 -- No call leaves the ranges: refusal 2 is never met once they hold.
-use Prim.Native.Nat.{ℕ, _+_, _-_, _%_, _<_, _≤_}
-use mathlib.Core.Path.{_≡_, refl}
+use Prim.Native.Nat.{ℕ, suc, _+_, _-_, _/_, _%_, _^_, _<_, _≤_}
+use mathlib.Core.Path.{_≡_, refl, sym, ap, subst}
 use mathlib.Core.Bool.{Bool, true, false, cond, not, _&&_, false≢true}
 use mathlib.Core.List.{List, [], _∷_}
 use native.Mathlib.Omega.{arith}
@@ -29,9 +29,13 @@ use Rattle.spec.specs.Turn.{stepFinds, stepMade}
 use Rattle.spec.specs.Calls.{Outcome, outOfRange, namedNode, namedOutOfRange, placeOf, insertAt, deleteAt, stored, Call, childFor}
 use Rattle.readers.specs.CallCase.{CallCase, tests-pass, refuses, plansInsert, plansDelete, plansList, waits, stores, begins, loads, misses, meets, finds, leaves, Loads, atRoot, lookingUp, searching}
 use Rattle.spec.specs.Calls.{listTests, acceptedList}
-use Rattle.spec.specs.Bulk.{grownTree}
-use Rattle.sequential.specs.Balanced.{all, blackLevels}
-use Rattle.heap.specs.Grows.{grow-each}
+use Rattle.spec.specs.FreeQueue.{InPool}
+use Rattle.spec.specs.Bulk.{grownIn, grownTree}
+use Rattle.sequential.specs.Balanced.{Range, all, lower, blackLevels, listRight}
+use Rattle.tree.specs.Balanced.{list-right}
+use Rattle.laws.specs.Takings.{runs-first}
+use Rattle.heap.specs.Grown.{grown-sides}
+use Rattle.heap.specs.Grows.{Lasts, grow-each, lasts-taken, lasts-joined}
 use Rattle.laws.specs.Tests.{and-right}
 use Rattle.ranges.specs.Fits.{PoolOk, child-fits, Within, within-reader, within-end, within-write, within-take-as, within-link}
 use Rattle.ranges.specs.Stores.{step-within}
@@ -66,7 +70,7 @@ step-true capacity Adopt h = refl
 step-true capacity Promote h = refl
 step-true capacity (Publish n) h = number-true capacity n h
 step-true capacity (Detach k) h = refl
-step-true capacity (LinkAll m n) h = rw (le-leb m capacity (h .0), le-leb n capacity (h .1))
+step-true capacity (LinkAll m n) h = rw (le-leb m capacity (h .0), number-true capacity n (h .1))
 
 store-true : (capacity : ℕ) (w : Write) (i : ℕ) → WriteOk capacity w → storeInRange capacity w i ≡ true
 unfolding storeInRange
@@ -130,26 +134,50 @@ ranged-plan : (capacity : ℕ) (st : State) (w : Plan) → Within capacity st �
 unfolding withWrite
 ranged-plan capacity st w h o = record { within = within-write capacity st (writeOf (w .stores)) h; write = write-of capacity (w .stores) (o .stores) (o .few) }
 
--- An accepted list: what each node taken and each link set keeps.
-list-within : (capacity : ℕ) (ks vs : List ℕ) (st : State) → length ks ≤ 1023 → Within capacity st
-    → Within capacity (grownTree st ks vs .after) × (grownTree st ks vs .top ≤ capacity)
-unfolding grownTree
-list-within capacity ks vs st few h =
-    grow-each ks vs (blackLevels (length ks)) (λ k x. Within capacity x) (λ n. n ≤ capacity) (omega arith) (λ k x w. w .first)
-    (λ k x i level n u w. within-take-as standingApart capacity x _ _ L n 0 _ (omega arith) u (omega arith) (colour-low (leb level (blackLevels (length ks)))) w)
-    (λ k x n v a u w. within-link capacity x (Right n) v u w)
-    mostLevels 0 (all (length ks)) st (omega arith) h
-  where
-    colour-low : (b : Bool) → cond b blackColour redColour ≤ 1
-    colour-low true = omega arith
-    colour-low false = omega arith
+-- An accepted list: what each node taken and each link set keeps. Its queue lasts, so each node taken is one.
+abbrev Growing : ℕ → ℕ → State → Type 0
+Growing capacity k x = Within capacity x × Lasts k x
 
-ranged-list : (capacity : ℕ) (st : State) (ks vs : List ℕ) → Ranged capacity st → length ks ≤ 1023 → length ks ≤ capacity → Ranged capacity (acceptedList (grownTree st ks vs) (length ks) .after)
-unfolding withWrite
-ranged-list capacity st ks vs h few low =
-    let g = list-within capacity ks vs st few (h .within) in
-    let stores = store Root (LinkAll (length ks) (grownTree st ks vs .top)) ∷ [] in
-    record { within = within-write capacity (grownTree st ks vs .after) (writeOf stores) (g .0); write = write-of capacity stores ((tt, (low, g .1)), tt) (omega arith) }
+first-node : (capacity k : ℕ) (x : State) → Growing capacity (suc k) x → Number capacity (x .register .first)
+first-node capacity k x g = let d = runs-first _ (x .register .first) k (g .1) in let u = g .0 .first in omega arith
+
+in-pool : (capacity n : ℕ) (x : State) → Within capacity x → Number capacity n → InPool (x .pool) n
+in-pool capacity n x w u = let e = w .size in omega arith
+
+colour-low : (b : Bool) → cond b blackColour redColour ≤ 1
+colour-low true = omega arith
+colour-low false = omega arith
+
+module _ (capacity : ℕ) (ks vs : List ℕ) where
+  abbrev low-levels : ℕ
+  low-levels = blackLevels (length ks)
+
+  growing : (f k : ℕ) (r : Range) (st : State) → r .size < 2 ^ f → Growing capacity (r .size + k) st
+      → Growing capacity k (grownIn ks vs low-levels f r st .after) × (grownIn ks vs low-levels f r st .top ≤ capacity)
+  growing = grow-each ks vs low-levels (Growing capacity) (λ n. n ≤ capacity) (omega arith) (λ k x g. g .0 .first)
+      (λ k x i level n u g. (
+        within-take-as standingApart capacity x _ _ L n 0 _ (omega arith) u (omega arith) (colour-low (leb level low-levels)) (g .0),
+        lasts-taken standingApart x _ _ n 0 _ k (in-pool capacity (x .register .first) x (g .0) (first-node capacity k x g)) (g .1)))
+      (λ k x n v a u g. (within-link capacity x (Right n) v u (g .0), lasts-joined x n v k (g .1)))
+
+  list-within : (st : State) → 1 ≤ length ks → length ks ≤ mostNodes → Growing capacity (length ks) st
+      → Within capacity (grownTree st ks vs .after) × Number capacity (grownTree st ks vs .top)
+  unfolding grownTree
+  list-within st some few g =
+      let r = all (length ks) in
+      let e : length ks ≡ length ks + 0 = omega arith in
+      let h : length ks ≡ length ks / 2 + suc (length ks - length ks / 2 - 1) = omega arith in
+      let low = growing 9 (suc (length ks - length ks / 2 - 1)) (lower r) st (omega arith) (subst (λ n. Growing capacity n st) h g) in
+      (growing mostLevels 0 r st (omega arith) (subst (λ n. Growing capacity n st) e g) .0 .0,
+      subst (Number capacity) (sym (ap (λ x. x .top) (grown-sides ks vs low-levels 9 r st (omega arith)))) (first-node capacity _ _ (low .0)))
+
+  ranged-list : (st : State) → Ranged capacity st → 1 ≤ length ks → length ks ≤ mostNodes → length ks ≤ capacity → Lasts (length ks) st
+      → Ranged capacity (acceptedList (grownTree st ks vs) (length ks) .after)
+  unfolding withWrite
+  ranged-list st h some few low lasts =
+      let g = list-within st some few (h .within, lasts) in
+      let stores = store Root (LinkAll (length ks) (grownTree st ks vs .top)) ∷ [] in
+      record { within = within-write capacity (grownTree st ks vs .after) (writeOf stores) (g .0); write = write-of capacity stores ((tt, (low, g .1)), tt) (omega arith) }
 
 ranged-store : (capacity : ℕ) (st : State) (l : Link) (x : Step) → Ranged capacity st → StepOk capacity x → stepFinds st l x ≡ true → Ranged capacity (stored (stepMade st l x) .after)
 unfolding stored withWrite
@@ -193,7 +221,8 @@ ranged-next capacity st c o (plansList ks vs e) h =
     let few = ltb-false (nodes (st .pool) - reserve) (length ks) (t .1 .1 .1 .1 .1 .0) in
     let size = h .within .size in
     let most = length-most (st .pool) (not-false (lengthRight (st .pool)) (t .0)) in
-    ranged-list capacity st ks vs h (omega arith) (omega arith)
+    let some = list-right ks vs (not-false (listRight ks vs) (t .1 .1 .1 .0)) .some in
+    ranged-list capacity ks vs st h some (omega arith) (omega arith) (t .1 .1 .1 .1 .1 .1 .1 .0)
 ranged-next capacity st c o (waits d) h = h
 ranged-next capacity st c o (stores a w f) h =
     ranged-store capacity st (storeOf (st .register) 0 .link) (storeOf (st .register) 0 .step) h (h .write .come 0 (in-hand (st .register .write .count) w) .1) f

@@ -237,7 +237,7 @@ module _ (capacity : ℕ) (st : State) (h : Within capacity st) where
 
   pub step-within : (l : Link) (x : Step) → StepOk capacity x → Within capacity (stepMade st l x .after)
   unfolding stepMade
-  step-within l (LinkAll m n) ok = link-all-within m n (ok .1)
+  step-within l (LinkAll m n) ok = link-all-within m n (ok .1 .high)
   step-within l Vacant ok = h
   step-within l (Insert k v) ok = insert-within l k v
   step-within l (Replace v) ok = replace-within l v

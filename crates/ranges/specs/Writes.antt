@@ -43,7 +43,7 @@ StepOk capacity Adopt = Unit {0}
 StepOk capacity Promote = Unit {0}
 StepOk capacity (Publish n) = Number capacity n
 StepOk capacity (Detach k) = Unit {0}
-StepOk capacity (LinkAll m n) = (m ≤ capacity) × (n ≤ capacity)
+StepOk capacity (LinkAll m n) = (m ≤ capacity) × Number capacity n
 
 abbrev pub StoreOk : ℕ → Store → Type 0
 StoreOk capacity x = LinkOk capacity (x .link) × StepOk capacity (x .step)

@@ -167,7 +167,7 @@ fn step_in_range(s: Step, capacity: u32) -> bool
         Step::Promote => true,
         Step::Publish(n) => node_number(n, capacity),
         Step::Detach(_) => true,
-        Step::LinkAll(m, n) => (m <= capacity) & (n <= capacity),
+        Step::LinkAll(m, n) => (m <= capacity) & node_number(n, capacity),
     }
 }
 

@@ -13,8 +13,7 @@ use Rattle.sequential.specs.Delete.{changedBy}
 use Rattle.sequential.specs.Balanced.{listRight}
 use Rattle.tree.specs.Balanced.{list-right}
 use Rattle.spec.specs.Calls.{insertingList, listTests, queueEnds}
-use Rattle.spec.specs.Bulk.{freeAfter}
-use Rattle.readers.specs.Apart.{free-after}
+use Rattle.readers.specs.Apart.{free-lasts}
 use Rattle.spec.specs.FreeQueue.{Whole}
 use Rattle.spec.specs.Numbers.{nodeWords, leastNodes, mostNodes, slots, mostStores, freeForInsert, freeForDelete}
 use Rattle.spec.specs.Pool.{word, colourWord, standingWord, standingApart, nodes, lengthRight}
@@ -234,9 +233,7 @@ not-twelve W w st x T h g (insertingList ks vs) =
     ends r f =
         let some = list-right ks vs (not-false (listRight ks vs) r) .some in
         let enough = ltb-false (st .register .free) (length ks) f in
-        let a = free-after st (length ks - 1) h (omega arith) in
-        let low = a .0 .low in
-        ne-eqb (freeAfter (st .pool) (st .register .first) (length ks - 1)) 0 (omega arith)
+        free-lasts st (length ks) h some enough
 not-twelve W w st x T h g (beginning κ s k) = avoided 12 (beginTests st s) (omega arith) (inl (omega arith), λ _. (inl (omega arith), λ _. (inl (omega arith), λ _. (inl (omega arith), λ _. tt))))
 not-twelve W w st x T h g (turning s) = avoided 12 (readerTests st s) (omega arith) (inl (omega arith), λ _. (inl (omega arith), λ _. (inl (omega arith), λ _. (inl (omega arith), λ _. tt))))
 not-twelve W w st x T h g (givingUp s) = avoided 12 (giveUpTests st s) (omega arith) (inl (omega arith), λ _. (inl (omega arith), λ _. (inl (omega arith), λ _. (inl (omega arith), λ _. tt))))

@@ -13,7 +13,7 @@ use Rattle.datatypes.specs.declared.Kind.the-variants as kind
 use Rattle.spec.specs.Numbers.{slots, largestWord}
 use lib.ListN.{length}
 use Rattle.spec.specs.Pool.{nodes, standingWord, standingFree}
-use Rattle.spec.specs.Bulk.{freeAfter}
+use Rattle.spec.specs.Bulk.{nextFree, freeAfter}
 use Rattle.spec.specs.Register.{State, begunReader}
 use Rattle.spec.specs.Calls.{Answer, ok, absent, found, next, Call, beginning, turning, givingUp, inserting, deleting, writing, insertingList, Outcome, call, wrongLength}
 use Rattle.spec.specs.PlainList.{Plain, Notice, turnedDown, waited, carriedOut, noticeOf, recordFor}
@@ -301,7 +301,7 @@ module _ (W : State → Plain → Linked → Type 0) (writer : Writer W) (S : St
 
   -- nor is a node that an accepted list takes
   list-free : (st : State) (c : Call) (o : Outcome) (s m : ℕ) → Safe st → CallCase st c o → noticeOf (o .answer) ≡ carriedOut → (ks vs : List ℕ) → c ≡ insertingList ks vs
-      → (i : ℕ) → i < length ks → freeAfter (st .pool) (st .register .first) i ≡ m → ¬ (Kept (st .pool) s m)
+      → (i : ℕ) → i < length ks → freeAfter (nextFree (st .pool)) (st .register .first) i ≡ m → ¬ (Kept (st .pool) s m)
   list-free st c o s m h (refuses d n) w ks vs e i u f k = absurd (let z = ap noticeNumber w in omega arith)
   list-free st c o s m h (plansInsert j v g) w ks vs e i u f k = let z = ap kindOf e in omega arith
   list-free st c o s m h (plansDelete j g) w ks vs e i u f k = let z = ap kindOf e in omega arith

@@ -24,7 +24,7 @@ use Rattle.spec.specs.Pool.{word, child, recordAt, keyWord, nodes, nodeI
 use Rattle.spec.specs.Register.{State, state, fresh, begunReader, movedReader, remembering, counting, withReader, withWrite, readerOf, storeOf, registerInRange, writeOf, lessFirst}
 use Rattle.datatypes.specs.declared.Step.the-variants.{LinkAll}
 use Rattle.sequential.specs.Balanced.{listRight}
-use Rattle.spec.specs.Bulk.{Grown, freeAfter, grownTree}
+use Rattle.spec.specs.Bulk.{Grown, nextFree, runsOut, grownTree}
 use Rattle.spec.specs.Free.{endReading}
 use Rattle.spec.specs.Search.{towards, seek}
 use Rattle.spec.specs.Plan.{Plan, insertPlan, replacePlan, deletePlan, store}
@@ -179,7 +179,7 @@ abbrev pub tooMany : State → ℕ → Bool
 tooMany st m = ltb (nodes (st .pool) - reserve) m
 
 abbrev pub queueEnds : State → ℕ → Bool
-queueEnds st m = eqb (freeAfter (st .pool) (st .register .first) (m - 1)) 0
+queueEnds st m = runsOut (nextFree (st .pool)) (st .register .first) m
 
 abbrev pub listTests : State → List ℕ → List ℕ → List Test
 listTests st ks vs =

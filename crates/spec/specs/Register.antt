@@ -128,7 +128,7 @@ addReading r m s = cond (readerOf r s .reading) (putSlot m s) m
 unfoldable pub readingSlots : Register → ℕ
 readingSlots r = foldIn (addReading r) 0 slots 0
 
--- The ranges. A node number of the register is 0 to N; a store to come names nodes from 1 to N, but for the top of a tree made apart, 0 to N.
+-- The ranges. A node number of the register is 0 to N; a store to come names nodes from 1 to N.
 abbrev pub nodeNumber : ℕ → ℕ → Bool
 nodeNumber capacity n = leb 1 n && leb n capacity
 
@@ -152,7 +152,7 @@ stepInRange capacity Adopt = true
 stepInRange capacity Promote = true
 stepInRange capacity (Publish n) = nodeNumber capacity n
 stepInRange capacity (Detach k) = true
-stepInRange capacity (LinkAll m n) = leb m capacity && leb n capacity
+stepInRange capacity (LinkAll m n) = leb m capacity && nodeNumber capacity n
 
 abbrev pub isRoot : Link → Bool
 isRoot Root = true

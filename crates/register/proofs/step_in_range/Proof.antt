@@ -50,6 +50,9 @@ enum-told-12 c = search needs
 enum-known-s-2 : tie.Need-enum-known-s-2
 enum-known-s-2 c = search needs
 
+node-number-requires-2 : tie.Need-node-number-requires-2
+node-number-requires-2 c κs = search needs
+
 returns : tie.Need-returns
 returns c = search needs
 
@@ -90,7 +93,7 @@ returns-13 : tie.Need-returns-13
 returns-13 c = search needs
 
 returns-14 : tie.Need-returns-14
-returns-14 c = rw (c .before .s2 .given .1)
+returns-14 c = rw (c .before .before .s2 .given .1, c .node-number2 .ensures)
 
 pub step-in-range-spec : {M : Type 1} → statement M
 step-in-range-spec =
@@ -111,6 +114,7 @@ step-in-range-spec =
     node-number-requires
     enum-told-12
     enum-known-s-2
+    node-number-requires-2
     returns
     returns-2
     returns-3
