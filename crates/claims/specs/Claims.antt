@@ -63,7 +63,7 @@ one-linked = promised rotation .demand2 .linked 5 1 .1 (rw (computed .root) (arr
 
 -- no list is in hand, so that no node is made apart
 none-apart : (cs : List Call) (j m : ℕ) → listHeld (plainAfter start cs j .inHand) ≡ false → standingAt (indexAfter start cs j) m ≢ standingApart
-none-apart cs j m e a = let r = promised cs .demand2 .apart j .none m a in false≢true (sym e ∙ ap listHeld (r .2 .0))
+none-apart cs j m e a = let r = promised cs .demand2 .apart j .otherwise m a in false≢true (sym e ∙ ap listHeld (r .2 .0))
 
 module _ (after : State) (l : Link) (n : ℕ) (linked : (m : ℕ) → (standingAt after m ≡ standingLinked) ↔ Leads (after .pool) (after .register .root) m)
     (tree : Stands (after .pool) (after .register .root) threeKeys) (one : StoresOne before after l n) where

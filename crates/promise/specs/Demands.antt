@@ -187,15 +187,22 @@ pub record StoresOne (before after : State) (l : Link) (n : ℕ) : Type 0 where
   pub comes : (m : ℕ) → standingAt before m ≢ standingLinked → standingAt after m ≡ standingLinked → (m ≡ n) ⊎ (standingAt before m ≡ standingApart)
   pub apart : (m : ℕ) → standingAt before m ≡ standingApart → standingAt after m ≡ standingLinked
 
--- 02, C-24: the list in hand that has not made its store, and the tree made of it
-abbrev pub ListInHand : Plain → List ℕ → List ℕ → Type 0
-ListInHand x ks vs = (x .inHand ≡ some (listInsertion ks vs)) × (x .made ≡ 0)
+-- 02, C-24: an accepted list that has not made its store. It is the write in hand; its tree stands apart, from the top that its store names; and the
+-- nodes made apart are just that tree's.
+abbrev pub ListWaits : Plain → List ℕ → List ℕ → Type 0
+ListWaits x ks vs = (x .inHand ≡ some (listInsertion ks vs)) × (x .made ≡ 0)
 
+pub record StandsApart (st : State) (ks vs : List ℕ) : Type 0 where
+  pub inHand : writeInHand st ≡ true
+  pub top : ℕ
+  pub store : storeOf (st .register) 0 .step ≡ LinkAll (length ks) top
+  pub tree : Stands (st .pool) top (balancedTree ks vs)
+  pub nodes : (n : ℕ) → (standingAt st n ≡ standingApart) ↔ Leads (st .pool) top n
+
+-- at all other times no node is made apart
 pub record ApartRight (st : State) (x : Plain) : Type 0 where
-  pub planned : (ks vs : List ℕ) → ListInHand x ks vs
-      → (top : ℕ) × (storeOf (st .register) 0 .step ≡ LinkAll (length ks) top) × Stands (st .pool) top (balancedTree ks vs)
-      × ((n : ℕ) → (standingAt st n ≡ standingApart) ↔ Leads (st .pool) top n)
-  pub none : (n : ℕ) → standingAt st n ≡ standingApart → (ks : List ℕ) × (vs : List ℕ) × ListInHand x ks vs
+  pub waiting : (ks vs : List ℕ) → ListWaits x ks vs → StandsApart st ks vs
+  pub otherwise : (n : ℕ) → standingAt st n ≡ standingApart → (ks : List ℕ) × (vs : List ℕ) × ListWaits x ks vs
 
 pub record Demand2 (S : Start) (cs : List Call) : Type 0 where
   -- whenever no write is in hand the tree is the sequential tree of the writes accepted, in order, on the start's (`leaf` when just set up)
@@ -209,9 +216,10 @@ pub record Demand2 (S : Start) (cs : List Call) : Type 0 where
       → (standingAt (indexAfter S cs j) n ≡ standingLinked)
       ⊎ ((standingAt (indexAfter S cs j) n ≡ standingFree)
       ⊎ ((standingAt (indexAfter S cs j) n ≡ standingRetired) ⊎ (standingAt (indexAfter S cs j) n ≡ standingApart)))
-  -- 02, C-24: while an accepted list has not made its store, its tree stands apart: the nodes made apart are just those that links lead to from its
-  -- top, which the planned store names. At all other times no node is made apart.
+  -- 02, C-24: the nodes made apart are those of an accepted list that has not made its store. No slot reaches one, and no call takes one.
   pub apart : (j : ℕ) → ApartRight (indexAfter S cs j) (plainAfter S cs j)
+  pub unreached : (j n s : ℕ) → standingAt (indexAfter S cs j) n ≡ standingApart → ¬ (Reaches (indexAfter S cs j) s n)
+  pub untaken : (j n : ℕ) (c : Call) → standingAt (indexAfter S cs j) n ≡ standingApart → ¬ (Takes (indexAfter S cs j) c n)
   -- 'Retire' and 'Reader's turn': a node that stands retired has a holder that is reading
   pub retiredHeld : (j n : ℕ) → standingAt (indexAfter S cs j) n ≡ standingRetired
       → (s : ℕ) × (s < slots) × (hasSlot (word (indexAfter S cs j .pool) n holdersWord) s ≡ true) × Reads (indexAfter S cs j) s

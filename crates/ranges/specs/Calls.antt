@@ -157,7 +157,8 @@ module _ (capacity : ℕ) (ks vs : List ℕ) where
   growing = grow-each ks vs low-levels (Growing capacity) (λ n. n ≤ capacity) (omega arith) (λ k x g. g .0 .first)
       (λ k x i level n u g. (
         within-take-as standingApart capacity x _ _ L n 0 _ (omega arith) u (omega arith) (colour-low (leb level low-levels)) (g .0),
-        lasts-taken standingApart x _ _ n 0 _ k (in-pool capacity (x .register .first) x (g .0) (first-node capacity k x g)) (g .1)))
+        lasts-taken standingApart x _ _ n 0 _ k (in-pool capacity (x .register .first) x (g .0) (first-node capacity k x g)) (g .1),
+      ))
       (λ k x n v a u g. (within-link capacity x (Right n) v u (g .0), lasts-joined x n v k (g .1)))
 
   list-within : (st : State) → 1 ≤ length ks → length ks ≤ mostNodes → Growing capacity (length ks) st
@@ -167,9 +168,10 @@ module _ (capacity : ℕ) (ks vs : List ℕ) where
       let r = all (length ks) in
       let e : length ks ≡ length ks + 0 = omega arith in
       let h : length ks ≡ length ks / 2 + suc (length ks - length ks / 2 - 1) = omega arith in
-      let low = growing 9 (suc (length ks - length ks / 2 - 1)) (lower r) st (omega arith) (subst (λ n. Growing capacity n st) h g) in
-      (growing mostLevels 0 r st (omega arith) (subst (λ n. Growing capacity n st) e g) .0 .0,
-      subst (Number capacity) (sym (ap (λ x. x .top) (grown-sides ks vs low-levels 9 r st (omega arith)))) (first-node capacity _ _ (low .0)))
+      let low = growing 9 (suc (length ks - length ks / 2 - 1)) (lower r) st (omega arith) (subst (λ n. Growing capacity n st) h g) in (
+        growing mostLevels 0 r st (omega arith) (subst (λ n. Growing capacity n st) e g) .0 .0,
+        subst (Number capacity) (sym (ap (λ x. x .top) (grown-sides ks vs low-levels 9 r st (omega arith)))) (first-node capacity _ _ (low .0)),
+      )
 
   ranged-list : (st : State) → Ranged capacity st → 1 ≤ length ks → length ks ≤ mostNodes → length ks ≤ capacity → Lasts (length ks) st
       → Ranged capacity (acceptedList (grownTree st ks vs) (length ks) .after)

@@ -51,6 +51,10 @@ pub kept-stands : (p : List ℕ) (s m : ℕ) → Kept p s m → word p m standin
 kept-stands p s m (inl e) z = omega arith
 kept-stands p s m (inr e) z = let a = e .0 in omega arith
 
+pub kept-not-apart : (p : List ℕ) (s m : ℕ) → Kept p s m → word p m standingWord ≢ standingApart
+kept-not-apart p s m (inl e) z = omega arith
+kept-not-apart p s m (inr e) z = let a = e .0 in omega arith
+
 pub kept-child : (p : List ℕ) (s n : ℕ) (z : Side) → s < slots → Closed p → Kept p s n → child p z n ≢ 0 → Kept p s (child p z n)
 kept-child p s n z u c (inl e) d = inl (c .linked n z e d)
 kept-child p s n z u c (inr e) d = c .retired n z (e .0) d s u (e .1)

@@ -11,6 +11,7 @@ pub mod Most
 pub mod Starts
 pub mod Begin
 pub mod Answers
+pub mod Takes
 pub mod Theorem
 pub mod Facts
 pub mod Rest

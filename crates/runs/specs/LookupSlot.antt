@@ -19,7 +19,7 @@ use Rattle.base.specs.Lists.{_∈_}
 use Rattle.tree.specs.Thin.{Thin, thin-weaken}
 use Rattle.tree.specs.Linked.{Linked, find, path, nodes}
 use Rattle.tree.specs.Graft.{All}
-use Rattle.heap.specs.Rep.{Rep, Alike, rep-alike, upToLinks}
+use Rattle.heap.specs.Rep.{Rep}
 use Rattle.laws.specs.Slots.{no-bit}
 use Rattle.laws.specs.Reading.{reading-bit}
 use Rattle.readers.specs.Reach.{HasStanding, Kept, Closed, kept-use, kept-store, not-again}

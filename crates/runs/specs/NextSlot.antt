@@ -22,7 +22,7 @@ use Rattle.tree.specs.Tickets.{True}
 use Rattle.tree.specs.Marked.{Mark, met, nums, nums-append, ThinM, thinM-weaken}
 use Rattle.tree.specs.NextWay.{way, above}
 use Rattle.tree.specs.Steady.{Sure}
-use Rattle.heap.specs.Rep.{Rep, Alike, rep-alike, upToLinks}
+use Rattle.heap.specs.Rep.{Rep}
 use Rattle.laws.specs.Slots.{no-bit}
 use Rattle.laws.specs.Reading.{reading-bit}
 use Rattle.readers.specs.Reach.{HasStanding, Kept, Closed, kept-use, kept-store, not-again}

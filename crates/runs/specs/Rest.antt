@@ -8,7 +8,7 @@ use mathlib.Core.Logic.{_≢_, _⊎_, inl, inr, ⊎-elim}
 use native.Mathlib.Omega.{arith}
 use lib.Dec.{eqb}
 use lib.ListN.{drop, length}
-use borrow.Author.Tests.{not-false, eqb-true, eqb-false, eq-eqb, ne-eqb, le-leb, lt-leb, ltb-false}
+use borrow.Author.Tests.{not-false, eqb-true, eqb-false, eq-eqb, le-leb, lt-leb, ltb-false}
 use Rattle.sequential.specs.Delete.{changedBy}
 use Rattle.sequential.specs.Balanced.{listRight}
 use Rattle.tree.specs.Balanced.{list-right}

@@ -13,7 +13,7 @@ use Rattle.spec.specs.Pool.{child, standingWord, nodes}
 use Rattle.spec.specs.Search.{towards}
 use Rattle.base.specs.Lists.{_∈_, in-append, Distinct, pigeonhole}
 use Rattle.tree.specs.Linked.{Linked}
-use Rattle.heap.specs.Rep.{Rep, Alike, rep-alike, upToLinks, rep-unique}
+use Rattle.heap.specs.Rep.{Rep, rep-unique}
 use Rattle.readers.specs.Words.{node-high, stands-node}
 use Rattle.readers.specs.Reach.{Kept, kept-stands}
 use Rattle.readers.specs.Once.{GoesOn, SeenOnce, seen-none, seen-here, seen-turn}

@@ -22,7 +22,7 @@ use Rattle.spec.specs.PlainList.{Plain, recordFor}
 use Rattle.promise.specs.Run.{Reads, withNamed}
 use Rattle.base.specs.Lists.{Distinct}
 use Rattle.tree.specs.Linked.{Linked, find}
-use Rattle.heap.specs.Rep.{Rep, Alike, upToLinks}
+use Rattle.heap.specs.Rep.{Rep}
 use Rattle.readers.specs.Reach.{HasStanding, Kept}
 use Rattle.readers.specs.NextSearches.{Remembered, Nothing, Ticket, rememberedBy, comparing-notes, comparing-fields, Answered}
 use Rattle.readers.specs.Once.{distinct-append}

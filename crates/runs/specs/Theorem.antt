@@ -2,7 +2,7 @@
 use Prim.Native.Nat.{ℕ, zero, suc, _+_, _-_, _<_, _≤_}
 use mathlib.Core.Path.{_≡_, refl, sym, ap, _∙_, subst}
 use mathlib.Core.Bool.{false}
-use mathlib.Core.List.{List, [], _∷_}
+use mathlib.Core.List.{List, []}
 use mathlib.Core.Option.{Option, none, some}
 use mathlib.Core.Logic.{_⊎_, inl, inr}
 use native.Mathlib.Omega.{arith}
@@ -12,30 +12,27 @@ use Rattle.datatypes.specs.declared.Kind.{Kind}
 use Rattle.datatypes.specs.declared.Kind.the-variants as kind
 use Rattle.spec.specs.Numbers.{slots, largestWord}
 use lib.ListN.{length}
-use Rattle.spec.specs.Pool.{nodes, standingWord, standingFree}
-use Rattle.spec.specs.Bulk.{nextFree, freeAfter}
+use Rattle.spec.specs.Pool.{nodes}
 use Rattle.spec.specs.Register.{State, begunReader}
-use Rattle.spec.specs.Calls.{Answer, ok, absent, found, next, Call, beginning, turning, givingUp, inserting, deleting, writing, insertingList, Outcome, call, wrongLength}
-use Rattle.spec.specs.PlainList.{Plain, Notice, turnedDown, waited, carriedOut, noticeOf, recordFor}
-use Rattle.laws.specs.Words.{word-none}
+use Rattle.spec.specs.Calls.{Answer, ok, absent, found, next, Call, beginning, turning, givingUp, call, wrongLength}
+use Rattle.spec.specs.PlainList.{Plain, recordFor}
 use Rattle.tree.specs.Linked.{Linked}
 use Rattle.promise.specs.Run.{Start, Reads, Moment, thenPerhaps, callAt, after, indexAfter, plainAfter, ticketsAfter, Gives, Ends, Reading, perhapsCompared, comparedIn}
-use Rattle.promise.specs.Demands.{AtOneMoment, LookupsRight, NextSearchesRight, Going, answerOf, TreeHolds, Reaches, Takes, NodesKept, Demand3}
-use Rattle.readers.specs.Reach.{HasStanding, Kept, kept-stands}
-use Rattle.readers.specs.Apart.{list-passes, free-after}
-use Rattle.readers.specs.QueueExact.{QueueExact}
+use Rattle.promise.specs.Demands.{AtOneMoment, LookupsRight, NextSearchesRight, Going, answerOf, TreeHolds, Reaches, NodesKept, Demand3}
+use Rattle.readers.specs.Reach.{Kept, kept-stands}
 use Rattle.readers.specs.NextSearches.{Nothing, Ticket, Answered}
 use Rattle.readers.specs.Descends.{going-root}
 use Rattle.readers.specs.NextDescends.{going-next}
-use Rattle.readers.specs.CallCase.{CallCase, kindNumber, call-case, refuses, plansInsert, plansDelete, plansList, waits, stores, begins, loads, misses, meets, finds, leaves}
-use Rattle.readers.specs.Safe.{Safe, safe-reach}
+use Rattle.readers.specs.CallCase.{kindNumber, call-case, begins, finds}
+use Rattle.readers.specs.Safe.{safe-reach}
 use Rattle.ranges.specs.Calls.{Ranged, ranged-next}
 use Rattle.runs.specs.Writer.{Writer}
 use Rattle.runs.specs.Sound.{Sound, sound-next, Starts}
 use Rattle.runs.specs.Slot.{StandAt, EmptyRight, stand-more}
 use Rattle.runs.specs.Rest.{length-right}
 use Rattle.runs.specs.Follow.{BeginsBy, EndsBy, stand-next, kept-next}
-use Rattle.runs.specs.Answers.{kindOf, begun-right, found-right, absent-right, next-right, read-before}
+use Rattle.runs.specs.Takes.{taken-stands}
+use Rattle.runs.specs.Answers.{begun-right, found-right, absent-right, next-right, read-before}
 
 -- the call that there is
 abbrev given : Call → Option Call → Call
@@ -67,21 +64,6 @@ module _ (S : Start) (cs : List Call) where
   pub compared-next : (s i j : ℕ) → i < j → comparedIn S cs s i (suc j) ≡ perhapsCompared (comparedIn S cs s i j) s (indexAfter S cs j) (callAt cs j)
   unfolding comparedIn
   compared-next s i j u = rw (lt-ltb i j u)
-
--- how many keys a list has; a notice as a number
-abbrev keysOf : Call → ℕ
-keysOf (inserting k v) = 0
-keysOf (deleting k) = 0
-keysOf writing = 0
-keysOf (beginning κ s k) = 0
-keysOf (turning s) = 0
-keysOf (givingUp s) = 0
-keysOf (insertingList ks vs) = length ks
-
-abbrev noticeNumber : Notice → ℕ
-noticeNumber turnedDown = 0
-noticeNumber waited = 1
-noticeNumber carriedOut = 2
 
 module _ (W : State → Plain → Linked → Type 0) (writer : Writer W) (S : Start) (starts : Starts W writer S) (cs : List Call) where
   abbrev at : ℕ → State
@@ -291,42 +273,10 @@ module _ (W : State → Plain → Linked → Type 0) (writer : Writer W) (S : St
       let e : t + (u - t) ≡ u = omega arith in
       rw e at (kept-until κ s k i j t m (u - t) l a (safe-reach (at t) s m (sound-at t .safe) r) (omega arith))
 
-  -- the first free node is kept for no slot
-  first-free : (st : State) (s m : ℕ) → Safe st → st .register .first ≡ m → ¬ (Kept (st .pool) s m)
-  first-free st s m h e k = go (h .queue) (h .owned .exact)
-    where
-      go : (l : List ℕ) → QueueExact st l → ⊥
-      go [] z = kept-stands (st .pool) s m k (rw (sym e ∙ z .queued .chain) (word-none (st .pool) standingWord))
-      go (n ∷ l) z = kept-stands (st .pool) s m k (rw (sym e ∙ z .queued .chain .0) (z .standing n .0 (inl refl) .1))
-
-  -- nor is a node that an accepted list takes
-  list-free : (st : State) (c : Call) (o : Outcome) (s m : ℕ) → Safe st → CallCase st c o → noticeOf (o .answer) ≡ carriedOut → (ks vs : List ℕ) → c ≡ insertingList ks vs
-      → (i : ℕ) → i < length ks → freeAfter (nextFree (st .pool)) (st .register .first) i ≡ m → ¬ (Kept (st .pool) s m)
-  list-free st c o s m h (refuses d n) w ks vs e i u f k = absurd (let z = ap noticeNumber w in omega arith)
-  list-free st c o s m h (plansInsert j v g) w ks vs e i u f k = let z = ap kindOf e in omega arith
-  list-free st c o s m h (plansDelete j g) w ks vs e i u f k = let z = ap kindOf e in omega arith
-  list-free st c o s m h (plansList js us g) w ks vs e i u f k =
-      let same : length js ≡ length ks = ap keysOf e in
-      let enough = list-passes st js us h g .enough in
-      let a = free-after st i h (omega arith) in
-      kept-stands (st .pool) s m k (subst (λ n. HasStanding (st .pool) n standingFree) f (a .1))
-  list-free st c o s m h (waits d) w ks vs e i u f k = let z = ap kindOf e in omega arith
-  list-free st c o s m h (stores a g j) w ks vs e i u f k = let z = ap kindOf e in omega arith
-  list-free st c o s m h (begins κ t j v g) w ks vs e i u f k = let z = ap kindOf e in omega arith
-  list-free st c o s m h (loads t y n p l d) w ks vs e i u f k = let z = ap kindOf e in omega arith
-  list-free st c o s m h (misses t y n p l d g) w ks vs e i u f k = let z = ap kindOf e in omega arith
-  list-free st c o s m h (meets t y n p l d g j) w ks vs e i u f k = let z = ap kindOf e in omega arith
-  list-free st c o s m h (finds t p κ d g) w ks vs e i u f k = let z = ap kindOf e in omega arith
-  list-free st c o s m h (leaves t p) w ks vs e i u f k = let z = ap kindOf e in omega arith
-
-  taken-free : (st : State) (c : Call) (s m : ℕ) → Safe st → Takes st c m → ¬ (Kept (st .pool) s m)
-  taken-free st c s m h (inl x) = first-free st s m h (x .first)
-  taken-free st c s m h (inr x) = list-free st c (call st c) s m h (call-case st c) (x .makes) (x .keys) (x .records) (x .list) (x .place) (x .below) (x .node)
-
   kept : NodesKept S cs
   kept = record {
     notFree = λ κ s k i j t m u l a r b c. kept-stands (at u .pool) s m (kept-at κ s k i j t m u l a r b c);
-    notTaken = λ κ s k i j t m u c l a r b d e x. taken-free (at u) c s m (sound-at u .safe) x (kept-at κ s k i j t m u l a r b (omega arith));
+    notTaken = λ κ s k i j t m u c l a r b d e x. kept-stands (at u .pool) s m (kept-at κ s k i j t m u l a r b (omega arith)) (taken-stands (at u) c m (sound-at u .safe) x);
   }
 
   pub demand3 : Demand3 S cs

@@ -20,13 +20,15 @@ use Rattle.base.specs.Lists.{_∈_}
 use Rattle.tree.specs.Linked.{Linked, nodes as treeNodes}
 use Rattle.promise.specs.Run.{Start, Moment, thenPerhaps, callAt, after, indexAfter, plainAfter, Gives}
 use Rattle.promise.specs.Demands.{Leads, Stands, standingAt, StoresOne, Demand2, NeverMet, TurnsAlike, PromiseFrom}
-use Rattle.readers.specs.Reach.{leads-in, in-leads}
+use Rattle.readers.specs.Reach.{leads-in, in-leads, kept-not-apart}
+use Rattle.readers.specs.Safe.{safe-reach}
 use Rattle.readers.specs.CallCase.{call-case}
 use Rattle.ranges.specs.Fits.{colour-fits}
 use Rattle.ranges.specs.Calls.{Ranged, ranged-in, named-in}
 use Rattle.runs.specs.Writer.{Writer}
 use Rattle.runs.specs.Sound.{Sound, Starts}
 use Rattle.runs.specs.Starts.{exact-right}
+use Rattle.runs.specs.Takes.{taken-stands}
 use Rattle.runs.specs.Theorem.{next-is, sound-at, ranged-at, lent-at, demand3}
 use Rattle.runs.specs.Rest.{Completes, wait-right, refused-by, not-one, not-two, not-twelve, none-awaited, turn-clear, turn-goes}
 use Rattle.runs.specs.Counts.{counted}
@@ -131,6 +133,8 @@ module _ (W : State → Plain → Linked → Type 0) (writer : Writer W) (comple
     free = λ j. (let h = sound j .safe in exact-right (at j) (h .queue) (h .owned .exact));
     standing = λ j n _ _. stands-one (at j) (sound j .safe) n;
     apart = λ j. (let h = sound j in completes .apart (at j) (plainAfter S cs j) (h .tree) (h .holds) (λ n. colour-fits (S .size) (at j .pool) n (ranged j .within .fits)));
+    unreached = λ j n s e r. kept-not-apart (at j .pool) s n (safe-reach (at j) s n (sound j .safe) r) e;
+    untaken = λ j n c e x. (let free = taken-stands (at j) c n (sound j .safe) x in omega arith);
     retiredHeld = λ j. retired-held (at j) (sound j .safe);
     nothingLost = nothingLost;
     oneStore = oneStore;

@@ -11,7 +11,7 @@ use Rattle.sequential.specs.Delete.{Change, insertion, deletion, listInsertion}
 use Rattle.tree.specs.Steady.{Sure}
 use Rattle.tree.specs.Tickets.{True}
 use Rattle.readers.specs.Apart.{list-passes}
-use Rattle.theorem.specs.Lists.{ListSide, HandSide, side-first, list-busy, list-leavesTree, list-accepted, list-store, list-finds, list-few, store-side}
+use Rattle.theorem.specs.Lists.{HandSide, side-first, list-busy, list-leavesTree, list-accepted, list-store, list-finds, list-few, store-side, side-in-hand}
 use mathlib.Core.Bool.{false, false≢true}
 use mathlib.Core.List.{List, []}
 use native.Mathlib.Omega.{arith}
@@ -126,20 +126,21 @@ listRecords (some (deletion k)) = []
 listRecords (some (listInsertion ks vs)) = vs
 
 side-apart : (st : State) (x : Plain) (T : Linked) → HandSide st x T → ((n : ℕ) → word (st .pool) n colourWord ≤ 1) → ApartRight st x
-side-apart st x T (inl h) c = record { planned = λ ks vs i. (let a = h .listed ks vs (i .0) in let b = i .1 in absurd (omega arith)); none = λ n e. absurd (h .unapart n e) }
+side-apart st x T (inl h) c = record { waiting = λ ks vs i. (let a = h .listed ks vs (i .0) in let b = i .1 in absurd (omega arith)); otherwise = λ n e. absurd (h .unapart n e) }
 side-apart st x T (inr h) c = record {
-  planned = λ ks vs i. (
+  waiting = λ ks vs i. (
       let e = ap listKeys (sym (h .inHand) ∙ i .0) in
       let f = ap listRecords (sym (h .inHand) ∙ i .0) in
       let r = subst (λ t. Stands (st .pool) (h .top) t) (h .shape) (stands (st .pool) (h .tree) (h .top) c (h .rep)) in
-      (
-        h .top,
-        ap (λ y. y .step) (side-first h) ∙ ap (λ l. LinkAll (length l) (h .top)) e,
-        subst (λ us. Stands (st .pool) (h .top) (balancedTree ks us)) f (subst (λ js. Stands (st .pool) (h .top) (balancedTree js (h .vs))) e r),
-        λ n. (λ a. in-leads (st .pool) (h .tree) (h .top) n (h .rep) (h .apart n .0 a), λ l. h .apart n .1 (leads-in (st .pool) (h .tree) (h .top) n (h .rep) l)),
-      )
+      record {
+        inHand = side-in-hand h;
+        top = h .top;
+        store = ap (λ y. y .step) (side-first h) ∙ ap (λ l. LinkAll (length l) (h .top)) e;
+        tree = subst (λ us. Stands (st .pool) (h .top) (balancedTree ks us)) f (subst (λ js. Stands (st .pool) (h .top) (balancedTree js (h .vs))) e r);
+        nodes = λ n. (λ a. in-leads (st .pool) (h .tree) (h .top) n (h .rep) (h .apart n .0 a), λ l. h .apart n .1 (leads-in (st .pool) (h .tree) (h .top) n (h .rep) l));
+      }
       );
-  none = λ n e. (h .ks, h .vs, (h .inHand, h .made));
+  otherwise = λ n e. (h .ks, h .vs, (h .inHand, h .made));
 }
 
 pub completes : Completes HandSide
