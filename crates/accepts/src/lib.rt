@@ -93,7 +93,7 @@ pub fn list_refusal(pool: &[u32], reg: Register, keys: &[u32], records: &[u64]) 
     if (reg.free as usize) < m {
         return 11;
     }
-    if bulk::runs_out(pool, reg.first, m) {
+    if takings::runs_out(pool, reg.first, m) {
         return 12;
     }
     0

@@ -4,11 +4,11 @@ use native.Mathlib.Omega.{arith}
 use Rattle.spec.specs.Bulk.{nextFree, freeAfter, runsOut}
 use Rattle.laws.specs.Takings.{afterTakings, runs-start, runs-empty, runs-none, runs-back, runs-on, after-next, after-here}
 use borrow.Author.Needs.{needs}
-use Rattle.bulk.proofs.circle_runs_out.Statement.{statement}
-use Rattle.bulk.proofs.circle_runs_out.Tie as tie
-use Rattle.bulk.proofs.circle_runs_out.Reads as reads
-use Rattle.bulk.proofs.circle_runs_out.Lts as lts
-use Rattle.bulk.proofs.stood.Reads as stood-reads
+use Rattle.takings.proofs.circle_runs_out.Statement.{statement}
+use Rattle.takings.proofs.circle_runs_out.Tie as tie
+use Rattle.takings.proofs.circle_runs_out.Reads as reads
+use Rattle.takings.proofs.circle_runs_out.Lts as lts
+use Rattle.takings.proofs.stood.Reads as stood-reads
 use Rattle.pool.proofs.word.Reads as word-reads
 
 abbrev Inv-loop : tie.InvT-loop

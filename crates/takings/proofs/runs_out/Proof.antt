@@ -6,12 +6,12 @@ use Rattle.spec.specs.Bulk.{nextFree, freeAfter, runsOut}
 use Rattle.laws.specs.Words.{word-none}
 use Rattle.laws.specs.Takings.{after-sum, ends-early, ends-late}
 use borrow.Author.Needs.{needs}
-use Rattle.bulk.proofs.runs_out.Statement.{statement}
-use Rattle.bulk.proofs.runs_out.Tie as tie
-use Rattle.bulk.proofs.runs_out.Reads as reads
-use Rattle.bulk.proofs.runs_out.Lts as lts
-use Rattle.bulk.proofs.circle_runs_out.Reads as circle-runs-out-reads
-use Rattle.bulk.proofs.free_after.Reads as free-after-reads
+use Rattle.takings.proofs.runs_out.Statement.{statement}
+use Rattle.takings.proofs.runs_out.Tie as tie
+use Rattle.takings.proofs.runs_out.Reads as reads
+use Rattle.takings.proofs.runs_out.Lts as lts
+use Rattle.takings.proofs.circle_runs_out.Reads as circle-runs-out-reads
+use Rattle.takings.proofs.free_after.Reads as free-after-reads
 use Rattle.pool.proofs.nodes.Reads as nodes-reads
 
 -- src/lib.rt:275:36

@@ -5,10 +5,10 @@ use Rattle.spec.specs.Bulk.{nextFree, freeAfter}
 use mathlib.Core.Bool.{false}
 use Rattle.laws.specs.Takings.{stood, stood-none, stood-more, stood-here, after-next, after-here}
 use borrow.Author.Needs.{needs}
-use Rattle.bulk.proofs.stood.Statement.{statement}
-use Rattle.bulk.proofs.stood.Tie as tie
-use Rattle.bulk.proofs.stood.Reads as reads
-use Rattle.bulk.proofs.stood.Lts as lts
+use Rattle.takings.proofs.stood.Statement.{statement}
+use Rattle.takings.proofs.stood.Tie as tie
+use Rattle.takings.proofs.stood.Reads as reads
+use Rattle.takings.proofs.stood.Lts as lts
 use Rattle.pool.proofs.word.Reads as word-reads
 
 abbrev Inv-loop : tie.InvT-loop
