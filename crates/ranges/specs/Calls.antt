@@ -34,7 +34,7 @@ use Rattle.spec.specs.Bulk.{grownIn, grownTree}
 use Rattle.sequential.specs.Balanced.{Range, all, lower, blackLevels, listRight}
 use Rattle.tree.specs.Balanced.{list-right}
 use Rattle.laws.specs.Takings.{runs-first}
-use Rattle.heap.specs.Grown.{grown-sides}
+use Rattle.laws.specs.Lists.{grown-sides}
 use Rattle.heap.specs.Grows.{Lasts, grow-each, lasts-taken, lasts-joined}
 use Rattle.laws.specs.Tests.{and-right}
 use Rattle.ranges.specs.Fits.{PoolOk, child-fits, Within, within-reader, within-end, within-write, within-take-as, within-link}

@@ -1,5 +1,5 @@
 -- What a call takes stands free: the queue's first node in a writer's turn, its first ones in the call that accepts a list (02, C-24).
-use Prim.Native.Nat.{ℕ, _+_, _<_}
+use Prim.Native.Nat.{ℕ, _<_}
 use mathlib.Core.Path.{_≡_, refl, sym, ap, _∙_, subst}
 use mathlib.Core.List.{List, [], _∷_}
 use mathlib.Core.Logic.{inl, inr}
