@@ -1,4 +1,4 @@
-// The eight calls of the ticket index. A call takes the pool as lent words and the register by value; its reply has the answer and the
+// The nine calls of the ticket index. A call takes the pool as lent words and the register by value; its reply has the answer and the
 // register to use from then on. No call has a precondition, and every call returns.
 // Each one's promise: answer, register and every pool word are what the definition of the call (crate spec, Calls: documents 01 and 02) makes
 // of what was lent; a refused call leaves both as they were. A reader's turn also replies a count (`turnCount`). Above each call: what it needs,
@@ -90,7 +90,8 @@ pub fn delete(pool: &[u32], reg: Register, k: u32) -> Reply
 // Needs: nothing; keys and records are lent, the i-th record is the i-th key's.
 // Answers: Accepted. Then writer_turn answers Done with the root and the tree's top; readers see none of the list before it and all of it after.
 // Refuses, tested in this order: 1 length; 2 a word or field out of range; 6 a write is in hand; 18 the list is empty, its keys don't rise strictly or
-// there are not as many records; 19 the root isn't 0; 10 more keys than N − 4; 11 fewer free nodes than keys; 12 the queue ends before them.
+// there are not as many records; 19 the root isn't 0; 10 more keys than N − 4; 11 fewer free nodes than keys; 12 a node would be taken from an
+// empty queue.
 // Leaves: the first free nodes taken and filled in key order, made apart (standing 3), and in the register the write in hand; refused, both as they were.
 pub fn insert_list(pool: &mut [u32], reg: Register, keys: &[u32], records: &[u64]) -> Reply
     ensures { λ r. ⌜ accepts (r .answer) ≡ insertList (state (now (pool .entry)) reg) (now (keys .entry)) (now (records .entry)) .answer ⌝ }
