@@ -28,12 +28,13 @@ shownFrom p n (suc k) = nodeShown p n ++ shownFrom p (suc n) k
 unfoldable pub nodesShown : List ℕ → List ℕ
 nodesShown p = shownFrom p 1 (nodes p)
 
--- Worked lines, checked by computation: a node with a record of each word alone and of both (02, C-18), a free one and a retired one.
+-- Worked lines, checked by computation: a node with a record of each word alone and of both (02, C-18), a free one, a retired one and one made
+-- apart (C-24).
 abbrev node : (key low high left right colour standing : ℕ) → List ℕ
 node k v w l r c s = k ∷ v ∷ w ∷ l ∷ r ∷ c ∷ s ∷ 0 ∷ 0 ∷ []
 
 wide-lines :
-    nodesShown (node 7 8 0 2 3 0 1 ++ (node 5 0 1 0 0 1 1 ++ (node 9 4294967295 4294967295 1 4 1 1 ++ (node 1 2 3 0 0 0 0 ++ node 1 2 3 0 0 0 2))))
+    nodesShown (node 7 8 0 2 3 0 1 ++ (node 5 0 1 0 0 1 1 ++ (node 9 4294967295 4294967295 1 4 1 1 ++ (node 1 2 3 0 0 0 0 ++ (node 1 2 3 0 0 0 2 ++ node 1 2 3 0 0 0 3)))))
     ≡ text "1\t7\t8\t0\t2\t3\n2\t5\t4294967296\t1\t0\t0\n3\t9\t18446744073709551615\t1\t1\t4\n"
 unfolding word recordAt digits nodeLine nodeShown shownFrom nodesShown
 wide-lines = simp twenty-digits

@@ -41,8 +41,8 @@ three-page : page three
 unfolding head free three word recordAt digits decimal before withNode listedTo listed rightIn column columns headLine pageLine pageLines page
 three-page = refl
 
--- keys rise, whatever the nodes' numbers; retired and free nodes have no line; red nodes with children, on one side and on both
-mixed-page : page (node 7 1 4 0 1 1 ++ (node 5 2 0 0 0 2 ++ (node 6 3 0 0 0 0 ++ (node 4 4 1 5 1 1 ++ node 9 5 0 1 0 1))))
+-- keys rise, whatever the nodes' numbers; retired and free nodes and those made apart have no line; red nodes with children, on one side and on both
+mixed-page : page (node 7 1 4 0 1 1 ++ (node 5 2 0 0 0 2 ++ (node 6 3 0 0 0 0 ++ (node 4 4 1 5 1 1 ++ (node 9 5 0 1 0 1 ++ node 8 6 0 0 0 3)))))
     ≡ head
     ++ (text "   4           4                     4  R     1     5\n"
     ++ (text "   1           7                     1  R     4     0\n"
