@@ -5,7 +5,9 @@
 mod calls;
 
 use calls::Made;
+use checks::aims;
 use checks::draws;
+use checks::draws::Call;
 use checks::lengths;
 use checks::model;
 use checks::print;
@@ -13,6 +15,8 @@ use checks::rows;
 use comparisons::Said;
 use comparisons::writing;
 use datatypes::Register;
+use datatypes::Tally;
+use lists::drawn;
 
 // the words of 1,023 nodes
 const POOL_WORDS: usize = numbers::MOST_NODES * numbers::NODE_WORDS;
@@ -39,6 +43,57 @@ fn said_of(reg: Register, made: Made, s: u32) -> Said {
     }
 }
 
+// A list is drawn, lent and compared; `x`: the draw of its call.
+fn list_call(
+    pool: &mut [u32],
+    tree: &mut [u32],
+    model: &mut [u32],
+    counts: &mut [u64],
+    reg: Register,
+    x: u32,
+    tally: Tally,
+) -> Made {
+    let mut keys = [0u32; drawn::ROOM];
+    let mut records = [0u64; drawn::ROOM];
+    let mut queue = [0u32; numbers::MOST_NODES];
+    let list = drawn::draw(&mut keys, &mut records, walks::nodes(pool), x);
+    walks::note_queue(pool, reg.first, &mut queue);
+    let made = calls::insert_list(pool, reg, &keys, &records, list, tally);
+    let said = lists::Said {
+        free_before: reg.free,
+        free: made.register.free,
+        number: made.number,
+    };
+    lists::compare(
+        pool,
+        &queue,
+        tree,
+        model,
+        counts,
+        &keys,
+        &records,
+        list,
+        said,
+    );
+    made
+}
+
+fn make_call(
+    pool: &mut [u32],
+    tree: &mut [u32],
+    model: &mut [u32],
+    counts: &mut [u64],
+    reg: Register,
+    call: Call,
+    x: u32,
+    tally: Tally,
+) -> Made {
+    if call.kind == draws::LIST {
+        return list_call(pool, tree, model, counts, reg, x, tally);
+    }
+    calls::call_index(pool, reg, call, tally)
+}
+
 fn greater(a: u32, b: u32) -> u32 {
     if a < b { b } else { a }
 }
@@ -62,10 +117,10 @@ fn make_calls(
     let mut x = seed;
     let mut i: u64 = 0;
     while i < calls {
-        let call = draws::draw_call(x, i, nodes, reading);
+        let call = aims::draw_call(model, x, i, nodes, reading);
         let reg = made.register;
         let camera = call.slot as usize % lengths::CAMERAS;
-        made = calls::call_index(pool, reg, call, tallies[camera]);
+        made = make_call(pool, tree, model, counts, reg, call, x, tallies[camera]);
         let tally = made.tally;
         tallies[camera] = tally;
         let said = said_of(reg, made, call.slot);
@@ -89,9 +144,13 @@ fn run(
     reference::clear(tree);
     model::clear(model);
     model::clear(lengths);
+    let before = rows::get(counts, rows::LISTS_LATER);
     let most = make_calls(pool, tree, model, lengths, counts, calls, seed);
     rows::same(counts, reference::overruns(tree) == 0);
-    print::run(walks::nodes(pool), calls, most, lengths);
+    if seed < SHORT_RUNS {
+        let later = rows::growth(counts, rows::LISTS_LATER, before);
+        print::run(walks::nodes(pool), calls, most, later, lengths);
+    }
 }
 
 // a run on the first so many nodes of the words lent
@@ -119,9 +178,14 @@ fn run_on(
     }
 }
 
-// the runs, by number: their nodes, and how many calls
+// The runs, by number: their nodes, and how many calls. From SHORT_RUNS on they are short, for what a list at a run's start leads to, and are
+// counted without a line of their own.
+const SHORT_RUNS: u32 = 8;
+
+const RUNS: u32 = 358;
+
 fn nodes_of(run: u32) -> u32 {
-    match run {
+    match run % 7 {
         1 => 8,
         2 => 9,
         3 => 13,
@@ -133,7 +197,10 @@ fn nodes_of(run: u32) -> u32 {
 }
 
 fn calls_of(run: u32) -> u64 {
-    if run < 7 { 300_000 } else { 1_000_000 }
+    if SHORT_RUNS <= run {
+        return 400;
+    }
+    if run < 7 { 375_000 } else { 1_250_000 }
 }
 
 // a run's number is its seed
@@ -145,7 +212,7 @@ fn all_runs(
     counts: &mut [u64],
 ) {
     let mut n: u32 = 1;
-    while n < 8 {
+    while n < RUNS {
         run_on(
             nodes_of(n),
             pool,
