@@ -1,5 +1,6 @@
 // A list drawn from the tickets of a run, now and then a wrong one. Its keys and records stand first in two arrays lent for them.
 use checks::draws;
+use checks::model;
 
 // room for the records of all tickets, and for one more
 pub const ROOM: usize = draws::TICKETS as usize + 1;
@@ -74,13 +75,28 @@ fn length_of(p: u32, q: u32, nodes: u32) -> u32 {
     }
 }
 
-fn put(keys: &mut [u32], records: &mut [u64], at: usize, k: u32, v: u64) {
-    if at < keys.len() {
-        keys[at] = k;
-    }
+fn put_record(records: &mut [u64], at: usize, v: u64) {
     if at < records.len() {
         records[at] = v;
     }
+}
+
+// a key and its record at place i, if they are chosen; answers the place after
+fn put_chosen(keys: &mut [u32], records: &mut [u64], i: u32, k: u32, v: u64, chosen: bool) -> u32 {
+    if chosen {
+        model::set_word(keys, i as usize, k);
+        put_record(records, i as usize, v);
+        return i % 4096 + 1;
+    }
+    i
+}
+
+// whether the first of so many tickets is among the m - taken that are still to be taken of them
+fn chosen(x: u32, tickets: u32, m: u32, taken: u32) -> bool {
+    if taken < m {
+        return draws::high(x, tickets) < m - taken;
+    }
+    false
 }
 
 // Takes m tickets in rising order, each choice of them as likely as any other; all if there are fewer. Answers how many.
@@ -93,19 +109,9 @@ fn take_tickets(keys: &mut [u32], records: &mut [u64], m: u32, nodes: u32, seed:
         let p = draws::next(x);
         let q = draws::next(p);
         x = draws::next(q);
-        if taken < m {
-            if draws::high(x, tickets - t) < m - taken {
-                let v = draws::record_of(p, q, t);
-                put(
-                    keys,
-                    records,
-                    taken as usize,
-                    draws::ticket_key(t, nodes),
-                    v,
-                );
-                taken += 1;
-            }
-        }
+        let k = draws::ticket_key(t, nodes);
+        let v = draws::record_of(p, q, t);
+        taken = put_chosen(keys, records, taken, k, v, chosen(x, tickets - t, m, taken));
         t += 1;
     }
     taken
@@ -138,13 +144,10 @@ fn fault_place(m: u32, fault: u32) -> u32 {
 // two keys side by side become equal, or change places
 fn spoil_pair(keys: &mut [u32], at: u32, equal: bool) {
     let i = at as usize;
-    if i < keys.len() - 1 {
-        let k = keys[i];
-        if !equal {
-            keys[i] = keys[i + 1];
-        }
-        keys[i + 1] = k;
-    }
+    let first = model::word(keys, i);
+    let second = model::word(keys, i + 1);
+    model::set_word(keys, i, if equal { first } else { second });
+    model::set_word(keys, i + 1, first);
 }
 
 fn spoil(keys: &mut [u32], m: u32, fault: u32) {
@@ -153,13 +156,18 @@ fn spoil(keys: &mut [u32], m: u32, fault: u32) {
     }
 }
 
+// Answers m less 1, 0 for 0.
+pub fn one_fewer(m: u32) -> u32 {
+    if 0 < m { m - 1 } else { 0 }
+}
+
 // how many records go with m keys
 fn records_of(m: u32, fault: u32) -> u32 {
     if fault == MORE_RECORDS {
         return m % 4096 + 1;
     }
-    if (fault == FEWER_RECORDS) & (0 < m) {
-        return m - 1;
+    if fault == FEWER_RECORDS {
+        return one_fewer(m);
     }
     m
 }

@@ -63,20 +63,31 @@ fn count_accepted(model: &[u32], counts: &mut [u64]) {
 }
 
 // counts an accepted list by its keys
-fn count_keys(nodes: u32, keys: &[u32], counts: &mut [u64]) {
-    let m = keys.len();
-    if 0 < m {
-        rows::one_if(counts, rows::LISTS_SMALLEST, keys[0] == 0);
-        rows::one_if(counts, rows::LISTS_LARGEST, keys[m - 1] == LARGEST);
+fn count_keys(nodes: u32, keys: &[u32], counts: &mut [u64], m: u32) {
+    let last = drawn::one_fewer(m) as usize;
+    rows::one_if(counts, rows::LISTS_SMALLEST, model::word(keys, 0) == 0);
+    rows::one_if(
+        counts,
+        rows::LISTS_LARGEST,
+        model::word(keys, last) == LARGEST,
+    );
+    rows::one_if(counts, rows::LISTS_LONGEST, nodes == m % 4096 + 4);
+}
+
+// the plain list is to take the ticket of place i
+fn expect_place(model: &mut [u32], nodes: u32, keys: &[u32], records: &[u64], i: usize) {
+    if i < keys.len() {
+        if i < records.len() {
+            model::expect_ticket(model, draws::ticket_of(keys[i], nodes), records[i]);
+        }
     }
-    rows::one_if(counts, rows::LISTS_LONGEST, nodes as usize == m % 4096 + 4);
 }
 
 // the plain list is to take all tickets of the list
 fn expect_tickets(model: &mut [u32], nodes: u32, keys: &[u32], records: &[u64]) {
     let mut i: usize = 0;
-    while (i < keys.len()) & (i < records.len()) {
-        model::expect_ticket(model, draws::ticket_of(keys[i], nodes), records[i]);
+    while i < keys.len() {
+        expect_place(model, nodes, keys, records, i);
         i += 1;
     }
 }
@@ -92,7 +103,7 @@ fn begin_list(
     m: u32,
 ) {
     count_accepted(model, counts);
-    count_keys(nodes, keys, counts);
+    count_keys(nodes, keys, counts, m);
     reference::put_list(tree, keys, records);
     expect_tickets(model, nodes, keys, records);
     model::take_in_hand(model, model::LIST, m, 0);
@@ -149,7 +160,10 @@ pub fn compare(
     writing::answered(counts, said.number, number);
     count_refused(counts, list, said.number);
     let m = list.keys as usize;
-    if (number == answers::ACCEPTED) & (m <= keys.len()) {
+    if number != answers::ACCEPTED {
+        return;
+    }
+    if m <= keys.len() {
         if m <= records.len() {
             follow(
                 pool,
