@@ -94,6 +94,30 @@ fn make_call(
     calls::call_index(pool, reg, call, tally)
 }
 
+// a call made and compared, and the slots that read after it
+struct Compared {
+    made: Made,
+    reading: u32,
+}
+
+// Makes a call on this register, by a camera with this tally, and compares it; `x`: its draw.
+fn compared_call(
+    pool: &mut [u32],
+    tree: &mut [u32],
+    model: &mut [u32],
+    lengths: &mut [u32],
+    counts: &mut [u64],
+    reg: Register,
+    call: Call,
+    x: u32,
+    tally: Tally,
+) -> Compared {
+    let made = make_call(pool, tree, model, counts, reg, call, x, tally);
+    let said = said_of(reg, made, call.slot);
+    let reading = comparisons::compare(pool, tree, model, lengths, counts, call, said);
+    Compared { made, reading }
+}
+
 fn greater(a: u32, b: u32) -> u32 {
     if a < b { b } else { a }
 }
@@ -120,16 +144,39 @@ fn make_calls(
         let call = aims::draw_call(model, x, i, nodes, reading);
         let reg = made.register;
         let camera = call.slot as usize % lengths::CAMERAS;
-        made = make_call(pool, tree, model, counts, reg, call, x, tallies[camera]);
+        let next = compared_call(
+            pool,
+            tree,
+            model,
+            lengths,
+            counts,
+            reg,
+            call,
+            x,
+            tallies[camera],
+        );
+        made = next.made;
+        reading = next.reading;
         let tally = made.tally;
         tallies[camera] = tally;
-        let said = said_of(reg, made, call.slot);
-        reading = comparisons::compare(pool, tree, model, lengths, counts, call, said);
-        most = greater(most, said.held);
+        most = greater(most, made.register.held);
         x = draws::after_call(x);
         i += 1;
     }
     most
+}
+
+// the line of a run; a short one has none
+fn print_run(run: u32, nodes: u32, calls: u64, most: u32, later: u64, lengths: &[u32]) {
+    if run < SHORT_RUNS {
+        print::run(nodes, calls, most, later, lengths);
+    }
+}
+
+fn clear_all(tree: &mut [u32], model: &mut [u32], lengths: &mut [u32]) {
+    reference::clear(tree);
+    model::clear(model);
+    model::clear(lengths);
 }
 
 fn run(
@@ -141,16 +188,12 @@ fn run(
     calls: u64,
     seed: u32,
 ) {
-    reference::clear(tree);
-    model::clear(model);
-    model::clear(lengths);
+    clear_all(tree, model, lengths);
     let before = rows::get(counts, rows::LISTS_LATER);
     let most = make_calls(pool, tree, model, lengths, counts, calls, seed);
     rows::same(counts, reference::overruns(tree) == 0);
-    if seed < SHORT_RUNS {
-        let later = rows::growth(counts, rows::LISTS_LATER, before);
-        print::run(walks::nodes(pool), calls, most, later, lengths);
-    }
+    let later = rows::growth(counts, rows::LISTS_LATER, before);
+    print_run(seed, walks::nodes(pool), calls, most, later, lengths);
 }
 
 // a run on the first so many nodes of the words lent
