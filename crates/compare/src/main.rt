@@ -100,18 +100,19 @@ struct Compared {
     reading: u32,
 }
 
-// Makes a call on this register, by a camera with this tally, and compares it; `x`: its draw.
+// Makes a call after the last one, by a camera with this tally, and compares it; `x`: its draw.
 fn compared_call(
     pool: &mut [u32],
     tree: &mut [u32],
     model: &mut [u32],
     lengths: &mut [u32],
     counts: &mut [u64],
-    reg: Register,
+    last: Made,
     call: Call,
     x: u32,
     tally: Tally,
 ) -> Compared {
+    let reg = last.register;
     let made = make_call(pool, tree, model, counts, reg, call, x, tally);
     let said = said_of(reg, made, call.slot);
     let reading = comparisons::compare(pool, tree, model, lengths, counts, call, said);
@@ -120,6 +121,12 @@ fn compared_call(
 
 fn greater(a: u32, b: u32) -> u32 {
     if a < b { b } else { a }
+}
+
+fn set_up(pool: &mut [u32], counts: &mut [u64]) -> Made {
+    let made = calls::set_up(pool);
+    writing::set_up(counts, made.number);
+    made
 }
 
 // Calls drawn from a seed, on an index just set up, each compared. Answers the most keys held.
@@ -133,8 +140,7 @@ fn make_calls(
     seed: u32,
 ) -> u32 {
     let nodes = walks::nodes(pool);
-    let mut made = calls::set_up(pool);
-    writing::set_up(counts, made.number);
+    let mut made = set_up(pool, counts);
     let mut most: u32 = 0;
     let mut reading: u32 = 0;
     let mut tallies = [calls::NO_TALLY; lengths::CAMERAS];
@@ -142,7 +148,6 @@ fn make_calls(
     let mut i: u64 = 0;
     while i < calls {
         let call = aims::draw_call(model, x, i, nodes, reading);
-        let reg = made.register;
         let camera = call.slot as usize % lengths::CAMERAS;
         let next = compared_call(
             pool,
@@ -150,7 +155,7 @@ fn make_calls(
             model,
             lengths,
             counts,
-            reg,
+            made,
             call,
             x,
             tallies[camera],

@@ -9,10 +9,9 @@ use Rattle.compare.proofs.make_calls.Reads as reads
 use Rattle.compare.proofs.make_calls.Lts as lts
 use Rattle.checks.proofs.aims.draw_call.Reads as draw-call-reads
 use Rattle.checks.proofs.draws.after_call.Reads as after-call-reads
-use Rattle.compare.proofs.calls.set_up.Reads as calls-set-up-reads
 use Rattle.compare.proofs.compared_call.Reads as compared-call-reads
 use Rattle.compare.proofs.greater.Reads as greater-reads
-use Rattle.comparisons.proofs.writing.set_up.Reads as writing-set-up-reads
+use Rattle.compare.proofs.set_up.Reads as set-up-reads
 use Rattle.walks.proofs.nodes.Reads as nodes-reads
 
 abbrev Inv-loop : tie.InvT-loop
@@ -29,9 +28,6 @@ nodes-requires c κs = search needs
 
 set-up-requires : tie.Need-set-up-requires Inv-loop μ-loop
 set-up-requires c κs = search needs
-
-set-up-requires-2 : tie.Need-set-up-requires-2 Inv-loop μ-loop
-set-up-requires-2 c κs = search needs
 
 loop-holds : tie.Need-loop-holds Inv-loop μ-loop
 loop-holds c = search needs
@@ -65,8 +61,8 @@ after-call-requires c κs = search needs
 
 add-i : tie.Need-add-i Inv-loop μ-loop
 add-i c =
-    let c25 = c .before .before .before .before .before .before .before .before .before .before .before .before .before .before .before .before .before .before .before .before .before .before .before .before .before in
-    omega (arith, c25 .loop-test .taken, c25 .before .before .before .before .before .before .before .before .before .before .before .before .before .before .before .before .before .fits .calls)
+    let c24 = c .before .before .before .before .before .before .before .before .before .before .before .before .before .before .before .before .before .before .before .before .before .before .before .before in
+    omega (arith, c24 .loop-test .taken, c24 .before .before .before .before .before .before .before .before .before .before .before .before .before .before .before .before .fits .calls)
 
 loop-less : tie.Need-loop-less Inv-loop μ-loop
 loop-less c = search needs
@@ -78,7 +74,7 @@ loop-again c =
     let c9 = c7 .before .before in
     let c11 = c9 .before .before in
     let c13 = c11 .before .before in
-    let inv = c13 .before .before .before .before .before .before .before .before .before .before .before .before .before .loop .inv in (
+    let inv = c13 .before .before .before .before .before .before .before .before .before .before .before .before .loop .inv in (
       omega (arith, inv .0, c13 .pool2 .given),
       omega (arith, inv .1, c11 .tree .given),
       omega (arith, inv .2, c9 .model .given),
@@ -113,7 +109,6 @@ make-calls-spec =
     μ-loop
     nodes-requires
     set-up-requires
-    set-up-requires-2
     loop-holds
     draw-call-requires
     cast-camera
