@@ -1,7 +1,8 @@
 // Long random runs of the index beside a plain sequential red-black tree (crate reference) and document 01's plain list (model): after every
 // finished write both trees are walked together, every answer of a lookup or of a search for the next ticket is held against its moments, and
 // of every call it is foretold whether it is refused, of a writer's turn whether it answers more, done or wait, and of a reader's turn how many
-// nodes its reading has compared; each camera's tally is kept twice.
+// nodes its reading has compared; each camera's tally is kept twice. Sorted lists become one tree (crate lists), at a run's start and after the
+// index was emptied.
 mod calls;
 
 use calls::Made;
@@ -10,7 +11,6 @@ use checks::draws;
 use checks::draws::Call;
 use checks::lengths;
 use checks::model;
-use checks::print;
 use checks::rows;
 use comparisons::Said;
 use comparisons::writing;
@@ -174,7 +174,7 @@ fn make_calls(
 // the line of a run; a short one has none
 fn print_run(run: u32, nodes: u32, calls: u64, most: u32, later: u64, lengths: &[u32]) {
     if run < SHORT_RUNS {
-        print::run(nodes, calls, most, later, lengths);
+        count_lines::run(nodes, calls, most, later, lengths);
     }
 }
 
@@ -282,5 +282,5 @@ fn main() {
     let mut lengths = [0u32; lengths::WORDS];
     let mut counts = [0u64; rows::ROWS];
     all_runs(&mut pool, &mut tree, &mut model, &mut lengths, &mut counts);
-    print::all(&counts);
+    count_lines::all(&counts);
 }

@@ -1,7 +1,7 @@
-// The counts, a line each.
-use crate::draws;
-use crate::lengths;
-use crate::rows;
+// The counts that the program compare keeps, a line each.
+use checks::draws;
+use checks::lengths;
+use checks::rows;
 ghost use Prim.Native.Nat.{_<_};
 ghost use Rattle.spec.specs.Numbers.{slots};
 
