@@ -14,6 +14,8 @@ pub const GIVE_UP: u32 = 6;
 
 pub const BEGIN_NEXT: u32 = 7;
 
+pub const LIST: u32 = 8;
+
 // the most tickets of a run; their keys are so far apart, but that the last has the largest key
 pub const TICKETS: u32 = 2048;
 
@@ -30,10 +32,12 @@ pub struct Call {
     pub record: u64,
 }
 
-// What most calls of a stretch are: more inserts than deletes or fewer, many readers or few.
+// What most calls of a stretch are: more inserts than deletes or fewer, many readers or few; or, with few readers, deletes of held keys while there
+// are any, and then lists.
 pub struct Mood {
     pub growing: bool,
     pub busy: bool,
+    pub emptying: bool,
 }
 
 // 1,664,525 times x modulo two to the power 32
@@ -41,12 +45,13 @@ fn wrapping_times(x: u32) -> u32 {
     (x as u64 * 1_664_525 % numbers::WORD_LIMIT) as u32
 }
 
-fn next(x: u32) -> u32 {
+// Answers the draw after this one.
+pub fn next(x: u32) -> u32 {
     std::num::wrapping_add_u32(wrapping_times(x), 1_013_904_223)
 }
 
-// a number below n of the high bits
-fn high(x: u32, n: u32) -> u32 {
+// Answers a number below n, of a draw's high bits; 0 for no n.
+pub fn high(x: u32, n: u32) -> u32 {
     if n == 0 { 0 } else { x / 65_536 % n }
 }
 
@@ -55,17 +60,27 @@ pub fn after_call(x: u32) -> u32 {
     next(next(next(x)))
 }
 
+// a run's first calls, in which the index is as good as emptied
+const OPENING: u64 = 16;
+
 // The moods take turns, each long enough to fill the index or to empty it.
 fn mood_at(i: u64, nodes: u32) -> Mood {
-    let stretch = i / (nodes as u64 * 64 + 40) % 4;
+    let stretch = i / (nodes as u64 * 64 + 40) % 5;
     Mood {
         growing: stretch < 2,
         busy: (stretch == 1) | (stretch == 2),
+        emptying: (stretch == 4) | (i < OPENING),
     }
 }
 
-// how many different keys a run draws from
-fn tickets(nodes: u32) -> u32 {
+// Answers whether the deletes around a run's call number i are to empty the index.
+pub fn emptying(i: u64, nodes: u32) -> bool {
+    let m = mood_at(i, nodes);
+    m.emptying
+}
+
+// Answers how many different keys a run on so many nodes draws from.
+pub fn tickets(nodes: u32) -> u32 {
     if nodes <= numbers::MOST_NODES as u32 {
         nodes + nodes / 2
     } else {
@@ -81,6 +96,11 @@ fn key_of(t: u32, tickets: u32) -> u32 {
         }
     }
     t % TICKETS * KEY_STEP
+}
+
+// Answers the key of a ticket in a run on so many nodes.
+pub fn ticket_key(t: u32, nodes: u32) -> u32 {
+    key_of(t, tickets(nodes))
 }
 
 // the ticket that may have this key
@@ -167,15 +187,53 @@ fn bound(busy: bool, then: u32, otherwise: u32) -> u32 {
     if busy { then } else { otherwise }
 }
 
-// the kind of a call from a number below 64
-fn kind_of(c: u32, m: Mood) -> u32 {
+// a write, from a number below 64; `last` is the last of those that make one
+fn filling_kind(c: u32, growing: bool, last: u32) -> u32 {
+    if c == last {
+        return LIST;
+    }
+    write_kind(growing, c % 4 != 0)
+}
+
+// the kind of a call from a number below 64, with many readers or few
+fn steady_kind(c: u32, m: Mood) -> u32 {
     if c < bound(m.busy, 16, 24) {
         return WRITER_TURN;
     }
     if c < bound(m.busy, 32, 50) {
-        return write_kind(m.growing, c % 4 != 0);
+        return filling_kind(c, m.growing, bound(m.busy, 31, 49));
     }
     reader_kind(c, bound(m.busy, 38, 52))
+}
+
+// a write where the index is emptied: a list once it is empty
+fn removing_kind(c: u32, empty: bool) -> u32 {
+    if c % 8 == 0 {
+        return INSERT;
+    }
+    if empty { LIST } else { DELETE }
+}
+
+// the kind of a call from a number below 64, where the index is emptied
+fn emptying_kind(c: u32, empty: bool) -> u32 {
+    if c < 26 {
+        return WRITER_TURN;
+    }
+    if c < 46 {
+        return removing_kind(c, empty);
+    }
+    if c < 60 {
+        return reader_kind(c, 48);
+    }
+    GIVE_UP
+}
+
+fn kind_of(c: u32, m: Mood, empty: bool) -> u32 {
+    if m.emptying {
+        emptying_kind(c, empty)
+    } else {
+        steady_kind(c, m)
+    }
 }
 
 // Answers the record of two words.
@@ -183,10 +241,10 @@ pub fn joined(low: u32, high: u32) -> u64 {
     low as u64 + high as u64 * numbers::WORD_LIMIT
 }
 
-// The record of an insert, from two draws. One in eight is the ticket's number, so that a held key now and then gets the record that it has;
+// Answers the record of an insert, from two draws. One in eight is the ticket's number, so that a held key now and then gets the record that it has;
 // one in eight has that as its low word alone, so that two of a key differ in the high word alone; one in eight has a high word of 0, and one
 // a low word of 0.
-fn record_of(p: u32, q: u32, ticket: u32) -> u64 {
+pub fn record_of(p: u32, q: u32, ticket: u32) -> u64 {
     match q / 16_777_216 % 8 {
         0 => joined(ticket, 0),
         1 => joined(ticket, p),
@@ -196,18 +254,26 @@ fn record_of(p: u32, q: u32, ticket: u32) -> u64 {
     }
 }
 
-// Draws a run's call number i, on so many nodes, with these slots reading.
-pub fn draw_call(x: u32, i: u64, nodes: u32, reading: u32) -> Call {
+// Draws a run's call number i, on so many nodes, with these slots reading; `empty`: no key is held.
+pub fn draw_call(x: u32, i: u64, nodes: u32, reading: u32, empty: bool) -> Call {
     let first = next(x);
     let second = next(first);
     let ticket = high(next(second), tickets(nodes));
-    let kind = kind_of(high(first, 64), mood_at(i, nodes));
+    let kind = kind_of(high(first, 64), mood_at(i, nodes), empty);
     let slot = slot_of(high(second, numbers::SLOT_LIMIT * SLOT_DRAWS));
     Call {
         kind,
         slot: aimed_slot(slot, kind, reading, first / 4_194_304),
         ticket,
-        key: key_of(ticket, tickets(nodes)),
+        key: ticket_key(ticket, nodes),
         record: record_of(first, second, ticket),
     }
+}
+
+// Answers the call with another ticket.
+pub fn with_ticket(call: Call, ticket: u32, nodes: u32) -> Call {
+    let mut r = call;
+    r.ticket = ticket;
+    r.key = ticket_key(ticket, nodes);
+    r
 }

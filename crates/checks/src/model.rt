@@ -2,10 +2,10 @@
 // for the next ticket, and the write in hand. It is lent as WORDS words; a word past the end reads 0, and setting one changes nothing.
 use crate::draws;
 
-// The plain list has four words for each ticket number: whether it is there, its record's low and high word, and how many changes the list had
+// The plain list has seven words for each ticket number: whether it is there, its record's low and high word, and how many changes the list had
 // made once this ticket last came or went. That a ticket comes is a change, and that it goes; a record that takes another's place is two, one
-// for each record.
-const TICKET_SPAN: usize = 4;
+// for each record. Of a list in hand (document 02, C-24): whether the ticket is in it, and its record's low and high word there.
+const TICKET_SPAN: usize = 7;
 
 const THERE: u32 = 0;
 
@@ -15,6 +15,12 @@ const ITS_HIGH: u32 = 2;
 
 const CHANGED: u32 = 3;
 
+const COMES: u32 = 4;
+
+const NEW_LOW: u32 = 5;
+
+const NEW_HIGH: u32 = 6;
+
 const FIRST_SLOT: usize = draws::TICKETS as usize * TICKET_SPAN;
 
 const SLOT_SPAN: usize = (HIGHS + MEMORY) as usize;
@@ -23,12 +29,13 @@ const HAND: usize = FIRST_SLOT + numbers::SLOTS * SLOT_SPAN;
 
 const HAND_SPAN: usize = 9;
 
-// The latest changes of the list, in a ring by their numbers: the ticket, and the record (low and high word) that it had before or has since.
+// The latest changes of the list, in a ring by their numbers: the ticket, and the record (low and high word) that it had before or has since. The
+// store of a list is up to 1,019 at once.
 const LOG: usize = HAND + HAND_SPAN;
 
 const LOG_SPAN: usize = 3;
 
-const LOGGED: u32 = 256;
+const LOGGED: u32 = 4096;
 
 const LOG_TICKET: u32 = 0;
 
@@ -39,8 +46,8 @@ const LOG_HIGH: u32 = 2;
 pub const WORDS: usize = LOG + LOGGED as usize * LOG_SPAN;
 
 // A slot's words: reading, the wanted ticket (or the one given to a search for the next), awaited, whether the list lacked the ticket at some
-// moment, how many records it was seen with, whether it searches for the next ticket, how many changes the list had made at its begin, and
-// the records seen, all low words and then all high words.
+// moment, how many records it was seen with, whether it searches for the next ticket, how many changes the list had made at its begin, whether it
+// is before its first turn, and the records seen, all low words and then all high words.
 const READING: u32 = 0;
 
 const WANTED: u32 = 1;
@@ -54,6 +61,8 @@ const SEEN: u32 = 4;
 const SEEKS: u32 = 5;
 
 const SINCE: u32 = 6;
+
+const UNTURNED: u32 = 7;
 
 const LOWS: u32 = 8;
 
@@ -89,6 +98,9 @@ pub const DELETE: u32 = 2;
 
 // an insert of a held key
 pub const REPLACE: u32 = 3;
+
+// a list; of it the write in hand has the number of its tickets in place of a ticket
+pub const LIST: u32 = 4;
 
 // where a count stops
 const MOST: u32 = 4_294_967_295;
@@ -251,6 +263,39 @@ fn take_out(model: &mut [u32], t: u32) {
     }
 }
 
+// Notes that a ticket is in the list in hand, with this record.
+pub fn expect_ticket(model: &mut [u32], t: u32, v: u64) {
+    set_ticket_word(model, t, COMES, 1);
+    set_ticket_word(model, t, NEW_LOW, low_word(v));
+    set_ticket_word(model, t, NEW_HIGH, high_word(v));
+}
+
+// a ticket comes if it is in the list in hand
+fn put_in_expected(model: &mut [u32], t: u32) {
+    if ticket_word(model, t, COMES) == 1 {
+        let v = draws::joined(
+            ticket_word(model, t, NEW_LOW),
+            ticket_word(model, t, NEW_HIGH),
+        );
+        set_ticket_word(model, t, COMES, 0);
+        put_in(model, t, v);
+    }
+}
+
+// all tickets of the list in hand come
+fn put_in_list(model: &mut [u32]) {
+    let mut t: u32 = 0;
+    while t < draws::TICKETS {
+        put_in_expected(model, t);
+        t += 1;
+    }
+}
+
+// Answers whether the list never had a ticket.
+pub fn unused(model: &[u32]) -> bool {
+    hand_word(model, CHANGES) == 0
+}
+
 // Answers whether a slot is reading.
 pub fn reading(model: &[u32], s: u32) -> bool {
     slot_word(model, s, READING) == 1
@@ -263,6 +308,7 @@ pub fn begin_lookup(model: &mut [u32], s: u32, t: u32) {
     set_slot_word(model, s, LACKED, 0);
     set_slot_word(model, s, SEEN, 0);
     set_slot_word(model, s, SEEKS, 0);
+    set_slot_word(model, s, UNTURNED, 1);
 }
 
 // Begins a slot's search for the next ticket after this one.
@@ -272,6 +318,12 @@ pub fn begin_next(model: &mut [u32], s: u32, t: u32) {
     set_slot_word(model, s, WANTED, t);
     set_slot_word(model, s, SEEKS, 1);
     set_slot_word(model, s, SINCE, changes);
+    set_slot_word(model, s, UNTURNED, 1);
+}
+
+// Notes that a slot has made a turn.
+pub fn note_turn(model: &mut [u32], s: u32) {
+    set_slot_word(model, s, UNTURNED, 0);
 }
 
 // Answers whether a slot searches for the next ticket.
@@ -283,6 +335,7 @@ pub fn seeks(model: &[u32], s: u32) -> bool {
 pub fn end_reading(model: &mut [u32], s: u32) {
     set_slot_word(model, s, READING, 0);
     set_slot_word(model, s, AWAITED, 0);
+    set_slot_word(model, s, UNTURNED, 0);
 }
 
 // the i-th record that a slot's ticket was seen with
@@ -433,6 +486,26 @@ fn first_after(model: &[u32], t: u32, since: u32) -> u32 {
     draws::TICKETS
 }
 
+// Answers the first ticket from t on, round the tickets, that the list has; TICKETS if there is none.
+pub fn listed_from(model: &[u32], t: u32) -> u32 {
+    if listed(model, t) {
+        return t;
+    }
+    let after = first_after(model, t, MOST);
+    if (after < draws::TICKETS) | (t == 0) {
+        return after;
+    }
+    listed_from_first(model)
+}
+
+// the first ticket that the list has
+fn listed_from_first(model: &[u32]) -> u32 {
+    if listed(model, 0) {
+        return 0;
+    }
+    first_after(model, 0, MOST)
+}
+
 // the first ticket after the one given to a search that the list had at all its moments
 fn first_throughout(model: &[u32], s: u32) -> u32 {
     let since = slot_word(model, s, SINCE);
@@ -488,6 +561,11 @@ pub fn reading_slots(model: &[u32]) -> u32 {
     slots_with(model, READING)
 }
 
+// Answers the reading slots before their first turn, a bit each.
+pub fn unturned_slots(model: &[u32]) -> u32 {
+    slots_with(model, UNTURNED)
+}
+
 fn await_readers(model: &mut [u32]) {
     let mut s: u32 = 0;
     while s < numbers::SLOT_LIMIT {
@@ -497,9 +575,18 @@ fn await_readers(model: &mut [u32]) {
     }
 }
 
-// Answers the kind of the write in hand: an insert, of a held key or not, or a delete; or that there is none.
+// Answers the kind of the write in hand: an insert, of a held key or not, a delete or a list; or that there is none.
 pub fn kind_in_hand(model: &[u32]) -> u32 {
     hand_word(model, KIND)
+}
+
+// Answers how many tickets the list in hand has, 0 if none is in hand.
+pub fn list_in_hand(model: &[u32]) -> u32 {
+    if kind_in_hand(model) == LIST {
+        hand_word(model, TICKET)
+    } else {
+        0
+    }
 }
 
 // Answers the form of the delete in hand.
@@ -539,7 +626,12 @@ fn list_store(model: &[u32]) -> u32 {
 fn change_list(model: &mut [u32]) {
     let t = hand_word(model, TICKET);
     let v = draws::joined(hand_word(model, LOW), hand_word(model, HIGH));
-    if kind_in_hand(model) == DELETE {
+    let kind = kind_in_hand(model);
+    if kind == LIST {
+        put_in_list(model);
+        return;
+    }
+    if kind == DELETE {
         take_out(model, t);
     } else {
         put_in(model, t, v);

@@ -4,19 +4,51 @@ ghost use Rattle.spec.specs.Numbers.{wordBits};
 
 const MOST: u64 = 18_446_744_073_709_551_615;
 
-pub const ROWS: usize = 192;
+pub const ROWS: usize = 224;
 
 // Set up, and then the other calls by the numbers of their kinds; refusals by their numbers; finished deletes by their form, finished and
-// accepted writes by their kind in the model.
+// accepted writes by their kind in the model, modulo 4 (lists: 0).
 pub const CALLS: usize = 0;
 
-pub const REFUSALS: usize = 10;
+pub const REFUSALS: usize = 192;
 
 pub const FORMS: usize = 24;
 
 pub const FINISHED: usize = 28;
 
 pub const ACCEPTED: usize = 32;
+
+// Of lists accepted: on an index that never held a key, and on one emptied; with a slot reading, with one before its first turn, with one at a
+// node (in an empty index a retired one); of N − 4 keys, with the smallest key and with the largest.
+pub const LISTS_FIRST: usize = 10;
+
+pub const LISTS_LATER: usize = 11;
+
+pub const LISTS_READ: usize = 12;
+
+pub const LISTS_UNTURNED: usize = 13;
+
+pub const LISTS_RETIRED: usize = 14;
+
+pub const LISTS_LONGEST: usize = 15;
+
+pub const LISTS_SMALLEST: usize = 16;
+
+pub const LISTS_LARGEST: usize = 17;
+
+// nodes of lists compared as taken, and after the store; calls compared with a list in hand, and first turns of readers there
+pub const LIST_TAKEN: usize = 18;
+
+pub const LIST_NODES: usize = 19;
+
+pub const LIST_STATES: usize = 20;
+
+pub const LIST_TURNS: usize = 21;
+
+// lists refused by their numbers, 6, 10 and 11; and by 18, by what is wrong with them
+pub const LISTS_REFUSED: usize = 173;
+
+pub const LISTS_WRONG: usize = 176;
 
 // answers
 pub const MORE: usize = 36;
@@ -76,6 +108,8 @@ pub const STEPS: usize = 60;
 
 pub const ROTATIONS: usize = 68;
 
+pub const LINK_ALL: usize = 98;
+
 // answers whose key has another record at the last moment, of lookups and of searches for the next ticket
 pub const FOUND_OUTDATED: usize = 100;
 
@@ -108,6 +142,12 @@ pub fn get(counts: &[u64], row: usize) -> u64 {
     if row < counts.len() { counts[row] } else { 0 }
 }
 
+// Answers how much the count of a row has grown from n.
+pub fn growth(counts: &[u64], row: usize, n: u64) -> u64 {
+    let v = get(counts, row);
+    if n < v { v - n } else { 0 }
+}
+
 // Adds n to the count of a row.
 pub fn add(counts: &mut [u64], row: usize, n: u64) {
     if row < counts.len() {
@@ -122,11 +162,16 @@ pub fn one(counts: &mut [u64], row: usize) {
     add(counts, row, 1);
 }
 
+// Counts in a row what is so.
+pub fn one_if(counts: &mut [u64], row: usize, so: bool) {
+    if so {
+        one(counts, row);
+    }
+}
+
 // Notes a comparison: what differs is counted.
 pub fn same(counts: &mut [u64], ok: bool) {
-    if !ok {
-        one(counts, DIFFERENCES);
-    }
+    one_if(counts, DIFFERENCES, !ok);
 }
 
 // every slot of a mask

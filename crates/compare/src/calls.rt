@@ -12,6 +12,7 @@ use datatypes::Step;
 use datatypes::Tally;
 use datatypes::WriterAnswer;
 use datatypes::WriterReply;
+use lists::drawn::List;
 
 // A call made: the register after it, its answer's number, the key of next, and the record of found or next; the count in the reply of a
 // reader's turn, and the tally of the camera that made the call.
@@ -142,6 +143,37 @@ fn asked(pool: &mut [u32], reg: Register, call: Call, tally: Tally) -> Made {
     accepted(ask(pool, reg, call), tally)
 }
 
+// lends the index the first keys and records
+fn lend(
+    pool: &mut [u32],
+    reg: Register,
+    keys: &[u32],
+    records: &[u64],
+    k: usize,
+    r: usize,
+) -> Reply {
+    if k <= keys.len() {
+        if r <= records.len() {
+            return index::insert_list(pool, reg, &keys[0..k], &records[0..r]);
+        }
+    }
+    index::insert_list(pool, reg, keys, records)
+}
+
+// Calls the index with a drawn list.
+pub fn insert_list(
+    pool: &mut [u32],
+    reg: Register,
+    keys: &[u32],
+    records: &[u64],
+    list: List,
+    tally: Tally,
+) -> Made {
+    let k = list.keys as usize;
+    let r = list.records as usize;
+    accepted(lend(pool, reg, keys, records, k, r), tally)
+}
+
 fn writer_turn(pool: &mut [u32], reg: Register, tally: Tally) -> Made {
     written(index::writer_turn(pool, reg), tally)
 }
@@ -150,7 +182,7 @@ fn reader_turn(pool: &mut [u32], reg: Register, s: u32, tally: Tally) -> Made {
     read(index::reader_turn(pool, reg, s), tally)
 }
 
-// Makes a drawn call, by a camera with this tally.
+// Makes a drawn call, none of a list, by a camera with this tally.
 pub fn call_index(pool: &mut [u32], reg: Register, call: Call, tally: Tally) -> Made {
     if call.kind == draws::WRITER_TURN {
         return writer_turn(pool, reg, tally);

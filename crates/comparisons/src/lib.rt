@@ -29,6 +29,14 @@ pub struct Said {
     pub awaited: u32,
 }
 
+// with a list in hand the root is 0: a reading's first turn answers absent
+fn compare_first_turn(model: &[u32], counts: &mut [u64], said: Said) {
+    if (model::list_in_hand(model) != 0) & (said.node == 0) & (answers::GO <= said.number) {
+        rows::same(counts, said.number == answers::ABSENT);
+        rows::one(counts, rows::LIST_TURNS);
+    }
+}
+
 // the calls of readers
 fn compare_reading(nodes: u32, model: &mut [u32], counts: &mut [u64], call: Call, said: Said) {
     if call.kind == draws::BEGIN {
@@ -41,6 +49,7 @@ fn compare_reading(nodes: u32, model: &mut [u32], counts: &mut [u64], call: Call
     }
     if call.kind == draws::READER_TURN {
         let ticket = draws::ticket_of(said.key, nodes);
+        compare_first_turn(model, counts, said);
         reading::reader_turn(model, counts, call.slot, said.number, ticket, said.record);
         return;
     }
@@ -63,6 +72,7 @@ fn compare_copy(model: &[u32], counts: &mut [u64], said: Said) {
     }
 }
 
+// a list is compared on its own (crate lists)
 fn compare_answer(
     pool: &[u32],
     tree: &mut [u32],
@@ -93,7 +103,9 @@ fn compare_answer(
         writing::writer_turn(pool, said.root, tree, model, counts, said.row, said.number);
         return;
     }
-    compare_reading(walks::nodes(pool), model, counts, call, said);
+    if call.kind != draws::LIST {
+        compare_reading(walks::nodes(pool), model, counts, call, said);
+    }
 }
 
 // What holds after every call: keys held, free nodes and awaited slots; and a moment of every lookup and search passes.
@@ -105,6 +117,16 @@ fn compare_state(pool: &[u32], model: &mut [u32], counts: &mut [u64], said: Said
     rows::same(counts, room & held & free & awaited);
     rows::one(counts, rows::STATES);
     rows::awaited(counts, said.awaited);
+}
+
+// with a list in hand: just its nodes stand made apart, the root is 0 and no key is held
+fn compare_list_in_hand(pool: &[u32], model: &[u32], counts: &mut [u64], said: Said) {
+    let m = model::list_in_hand(model);
+    if m != 0 {
+        let apart = walks::apart_nodes(pool) == m;
+        rows::same(counts, apart & (said.root == 0) & (said.held == 0));
+        rows::one(counts, rows::LIST_STATES);
+    }
 }
 
 // the count of an answer: with no write in hand since the begin it is bounded by the keys held
@@ -164,7 +186,7 @@ fn compare_length(lengths: &mut [u32], counts: &mut [u64], call: Call, said: Sai
         compare_turn(lengths, counts, call.slot, said);
         return;
     }
-    if draws::BEGIN <= call.kind {
+    if (draws::BEGIN <= call.kind) & (call.kind != draws::LIST) {
         compare_ended(lengths, counts, call, said);
     }
 }
@@ -188,6 +210,7 @@ pub fn compare(
     compare_answer(pool, tree, model, counts, call, said);
     rows::one(counts, call.kind as usize);
     compare_state(pool, model, counts, said);
+    compare_list_in_hand(pool, model, counts, said);
     let in_hand = model::kind_in_hand(model) != model::NONE;
     compare_lengths(lengths, counts, call, said, in_hand);
     model::reading_slots(model)

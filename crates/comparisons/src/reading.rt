@@ -73,7 +73,7 @@ fn end_next(model: &mut [u32], counts: &mut [u64], s: u32, right: bool, now: boo
 
 // an answered record that is wide, above 32 bits
 fn count_wide(counts: &mut [u64], v: u64) {
-    writing::count_if(counts, rows::WIDE_ANSWERED, numbers::WORD_LIMIT <= v);
+    rows::one_if(counts, rows::WIDE_ANSWERED, numbers::WORD_LIMIT <= v);
 }
 
 fn found(model: &mut [u32], counts: &mut [u64], s: u32, v: u64) {
@@ -81,7 +81,7 @@ fn found(model: &mut [u32], counts: &mut [u64], s: u32, v: u64) {
     let now = model::is_listed(model, s, v);
     rows::one(counts, rows::FOUND);
     count_wide(counts, v);
-    writing::count_if(
+    rows::one_if(
         counts,
         rows::FOUND_OUTDATED,
         model::is_outdated(model, s, v),
@@ -101,7 +101,7 @@ fn next(model: &mut [u32], counts: &mut [u64], s: u32, t: u32, v: u64) {
     let now = model::is_next(model, s, t, v);
     rows::one(counts, rows::NEXT);
     count_wide(counts, v);
-    writing::count_if(counts, rows::NEXT_OUTDATED, model::has_other(model, t, v));
+    rows::one_if(counts, rows::NEXT_OUTDATED, model::has_other(model, t, v));
     end_next(model, counts, s, right, now);
 }
 
@@ -132,6 +132,7 @@ fn follow_turn(
 ) {
     if number == answers::GO {
         rows::one(counts, rows::GO);
+        model::note_turn(model, s);
         return;
     }
     if number == answers::FOUND {

@@ -9,7 +9,7 @@ use datatypes::Step;
 ghost use Prim.Native.Nat.{_<_};
 
 fn count_refusal(counts: &mut [u64], number: u32) {
-    if (0 < number) & (number < 13) {
+    if (0 < number) & (number < answers::REFUSALS) {
         rows::one(counts, rows::REFUSALS + number as usize);
     }
 }
@@ -69,7 +69,7 @@ fn insert_foretold(nodes: u32, tree: &[u32], model: &[u32], kind: u32, free: u32
 
 // takes an accepted insert in hand
 fn begin_insert(tree: &mut [u32], model: &mut [u32], counts: &mut [u64], call: Call, kind: u32) {
-    count_if(
+    rows::one_if(
         counts,
         rows::WIDE_INSERTED,
         numbers::WORD_LIMIT <= call.record,
@@ -80,25 +80,18 @@ fn begin_insert(tree: &mut [u32], model: &mut [u32], counts: &mut [u64], call: C
     rows::one(counts, rows::ACCEPTED + (kind % 4) as usize);
 }
 
-// Counts in a row what is so.
-pub fn count_if(counts: &mut [u64], row: usize, so: bool) {
-    if so {
-        rows::one(counts, row);
-    }
-}
-
 // counts the answer to an insert of a held key, by what is special about it; `full`: one of a new key would be refused by 10
 fn count_replacement(model: &[u32], counts: &mut [u64], call: Call, full: bool, number: u32) {
     let accepted = number == answers::ACCEPTED;
     let old = model::list_record(model, call.ticket);
-    count_if(counts, rows::REPLACED_FULL, accepted & full);
-    count_if(counts, rows::REPLACED_SAME, accepted & (old == call.record));
-    count_if(
+    rows::one_if(counts, rows::REPLACED_FULL, accepted & full);
+    rows::one_if(counts, rows::REPLACED_SAME, accepted & (old == call.record));
+    rows::one_if(
         counts,
         rows::HIGH_REPLACED,
         accepted & model::differ_high(old, call.record),
     );
-    count_if(counts, rows::REPLACED_FEW, number == 11);
+    rows::one_if(counts, rows::REPLACED_FEW, number == 11);
 }
 
 fn count_insert(model: &[u32], counts: &mut [u64], call: Call, kind: u32, full: bool, number: u32) {
@@ -222,34 +215,41 @@ pub fn step_row(step: Step) -> usize {
         Step::Promote => rows::STEPS + 4,
         Step::Publish(_) => rows::STEPS + 5,
         Step::Detach(_) => rows::STEPS + 6,
-        Step::LinkAll(_, _) => rows::ROTATIONS + 30,
+        Step::LinkAll(_, _) => rows::LINK_ALL,
     }
 }
 
-// both trees after a finished write
-fn compare_trees(pool: &[u32], root: u32, tree: &[u32], counts: &mut [u64]) {
+// both trees after a finished write; `listed`: it was a list
+fn compare_trees(pool: &[u32], root: u32, tree: &[u32], counts: &mut [u64], listed: bool) {
     let same = walks::same_nodes(pool, root, tree);
     rows::same(counts, same == reference::held(tree));
     rows::add(counts, rows::NODES, same as u64);
+    rows::add(
+        counts,
+        rows::LIST_NODES,
+        if listed { same as u64 } else { 0 },
+    );
     rows::one(counts, rows::TREES);
 }
 
-// the standings of all nodes after a finished write: as many are linked as keys are held, and reading slots hold the retired ones
+// the standings of all nodes after a finished write: as many are linked as keys are held, none stands made apart, and reading slots hold the
+// retired ones
 fn compare_standings(pool: &[u32], tree: &[u32], model: &[u32], counts: &mut [u64]) {
-    let linked = walks::linked_nodes(pool) == reference::held(tree);
+    let linked = (walks::linked_nodes(pool) == reference::held(tree))
+        & (walks::apart_nodes(pool) == 0);
     let holders = walks::all_holders_right(pool, model::reading_slots(model));
     rows::same(counts, linked & holders);
 }
 
 fn finish_write(pool: &[u32], root: u32, tree: &[u32], model: &mut [u32], counts: &mut [u64]) {
-    let kind = model::kind_in_hand(model) % 4;
-    rows::one(counts, rows::FINISHED + kind as usize);
+    let kind = model::kind_in_hand(model);
+    rows::one(counts, rows::FINISHED + (kind % 4) as usize);
     rows::one(
         counts,
         rows::FORMS + (model::form_in_hand(model) % 4) as usize,
     );
     model::finish_write(model);
-    compare_trees(pool, root, tree, counts);
+    compare_trees(pool, root, tree, counts, kind == model::LIST);
     compare_standings(pool, tree, model, counts);
 }
 

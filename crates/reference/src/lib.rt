@@ -4,6 +4,8 @@
 // A tree is lent as WORDS words: seven arrays one after another (keys, the low and the high words of the records, left, right, parent,
 // colour), each with a word for every node number, and then the words of the head. Node 0 is nil. A word past the end reads 0, and setting
 // one changes nothing.
+ghost use Prim.Native.Nat.{_<_};
+
 const SPAN: usize = 1024;
 
 const KEY: u32 = 0;
@@ -560,4 +562,75 @@ pub fn delete_form(tree: &mut [u32], k: u32) -> u32 {
         return 2;
     }
     3
+}
+
+// no tree of a list has more levels
+const MOST_LEVELS: u32 = 10;
+
+// The level of place i among m places, counted from 0: level 1 is the place with m / 2 places before it, and both sides follow alike.
+fn level_of(i: usize, m: usize) -> u32
+    requires { ⌜ i < m ⌝ }
+{
+    let mut low: usize = 0;
+    let mut many = m;
+    let mut level: u32 = 1;
+    while level < MOST_LEVELS {
+        let half = many / 2;
+        if i == low + half {
+            return level;
+        }
+        if i < low + half {
+            many = half;
+        } else {
+            low = low + half + 1;
+            many = many - half - 1;
+        }
+        level += 1;
+    }
+    level
+}
+
+// a key in a tree without it, below the last node of its path, and no fix-up
+fn add_plain(tree: &mut [u32], k: u32, v: u64, c: u32) {
+    let above = last_on_path(tree, k);
+    let node = make_node(tree, k, v);
+    attach(tree, above, node);
+    set_field(tree, COLOUR, node, c);
+    count(tree, HELD);
+}
+
+// the key of place i, if it is of this level
+fn add_place(tree: &mut [u32], keys: &[u32], records: &[u64], i: usize, level: u32, c: u32) {
+    let m = keys.len();
+    if i < m {
+        if i < records.len() {
+            if level_of(i, m) == level {
+                add_plain(tree, keys[i], records[i], c);
+            }
+        }
+    }
+}
+
+fn add_level(tree: &mut [u32], keys: &[u32], records: &[u64], level: u32, c: u32) {
+    let m = keys.len();
+    let mut i: usize = 0;
+    while i < m {
+        add_place(tree, keys, records, i, level, c);
+        i += 1;
+    }
+}
+
+// Puts a sorted list of keys with their records into an empty tree (document 02, C-24), level by level. A level is black if the list has as many
+// keys as a tree that is full to this level, `full`.
+pub fn put_list(tree: &mut [u32], keys: &[u32], records: &[u64]) {
+    begin_write(tree);
+    let m = keys.len();
+    let mut full: usize = 1;
+    let mut level: u32 = 1;
+    while level <= MOST_LEVELS {
+        let c = if full <= m { BLACK } else { RED };
+        add_level(tree, keys, records, level, c);
+        full = full % 1024 * 2 + 1;
+        level += 1;
+    }
 }

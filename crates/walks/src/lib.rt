@@ -17,12 +17,16 @@ const STANDING: usize = 6;
 
 const HOLDERS: usize = 7;
 
+const NEXT: usize = 8;
+
 // standings
 const FREE: u32 = 0;
 
 const LINKED: u32 = 1;
 
 const RETIRED: u32 = 2;
+
+const APART: u32 = 3;
 
 const PAIRS: usize = 2048;
 
@@ -69,6 +73,11 @@ pub fn free_nodes(pool: &[u32]) -> u32 {
 // Answers how many nodes stand linked.
 pub fn linked_nodes(pool: &[u32]) -> u32 {
     count_standing(pool, LINKED)
+}
+
+// Answers how many nodes stand made apart.
+pub fn apart_nodes(pool: &[u32]) -> u32 {
+    count_standing(pool, APART)
 }
 
 // a retired node has holders, all of them among the reading slots; any other node has none
@@ -164,4 +173,47 @@ pub fn same_nodes(pool: &[u32], root: u32, tree: &[u32]) -> u32 {
         head += 1;
     }
     head
+}
+
+// Notes as many nodes of the free queue as there is room for, from this one on; 0 past its end.
+pub fn note_queue(pool: &[u32], first: u32, queue: &mut [u32]) {
+    let mut n = first;
+    let mut i: usize = 0;
+    while i < queue.len() {
+        queue[i] = n;
+        n = word(pool, n, NEXT);
+        i += 1;
+    }
+}
+
+// a node just taken and made apart, with this key and record
+fn is_taken(pool: &[u32], n: u32, k: u32, v: u64) -> bool {
+    let filled = (word(pool, n, KEY) == k) & (record(pool, n) == v);
+    let apart = (word(pool, n, STANDING) == APART) & (word(pool, n, HOLDERS) == 0);
+    filled & apart & (word(pool, n, NEXT) == 0)
+}
+
+// place i of the queue has a node just taken, with the key and record of place i
+fn place_taken(pool: &[u32], queue: &[u32], keys: &[u32], records: &[u64], i: usize) -> bool {
+    if i < queue.len() {
+        if i < keys.len() {
+            if i < records.len() {
+                return is_taken(pool, queue[i], keys[i], records[i]);
+            }
+        }
+    }
+    false
+}
+
+// Answers how many places of the keys have a node just taken, of the same place in the queue, with their key and record.
+pub fn taken_nodes(pool: &[u32], queue: &[u32], keys: &[u32], records: &[u64]) -> u32 {
+    let mut count: u32 = 0;
+    let mut i: usize = 0;
+    while i < keys.len() {
+        if place_taken(pool, queue, keys, records, i) {
+            count = count % 4096 + 1;
+        }
+        i += 1;
+    }
+    count
 }

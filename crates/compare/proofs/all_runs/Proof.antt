@@ -15,7 +15,7 @@ Inv-loop pool₀ tree₀ model₀ lengths₀ counts₀ n₀ pool tree model leng
     (length pool ≡ length pool₀) × (length tree ≡ length tree₀) × (length model ≡ length model₀) × (length lengths ≡ length lengths₀) × (length counts ≡ length counts₀)
 
 abbrev μ-loop : tie.MeasureT-loop
-μ-loop pool₀ tree₀ model₀ lengths₀ counts₀ n₀ pool tree model lengths counts n = 8 - n
+μ-loop pool₀ tree₀ model₀ lengths₀ counts₀ n₀ pool tree model lengths counts n = 358 - n
 
 loop-holds : tie.Need-loop-holds Inv-loop μ-loop
 loop-holds c = search needs

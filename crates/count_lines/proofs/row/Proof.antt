@@ -1,10 +1,10 @@
 use borrow.Author.Needs.{needs}
 use Prim.Native.Nat.{_-_, _≤_}
-use Rattle.checks.proofs.print.row.Statement.{statement}
-use Rattle.checks.proofs.print.row.Tie as tie
-use Rattle.checks.proofs.print.row.Reads as reads
-use Rattle.checks.proofs.print.row.Lts as lts
+use Rattle.count_lines.proofs.row.Statement.{statement}
+use Rattle.count_lines.proofs.row.Tie as tie
+use Rattle.count_lines.proofs.row.Reads as reads
+use Rattle.count_lines.proofs.row.Lts as lts
 use Rattle.checks.proofs.rows.get.Reads as get-reads
 use Rattle.io.proofs.print_decimal.Reads as print-decimal-reads
 use Rattle.io.proofs.write_all.Reads as write-all-reads
 

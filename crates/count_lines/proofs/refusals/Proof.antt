@@ -1,11 +1,11 @@
 use borrow.Author.Needs.{needs}
 use Prim.Native.Nat.{_-_, _≤_}
-use Rattle.checks.proofs.print.refusals.Statement.{statement}
-use Rattle.checks.proofs.print.refusals.Tie as tie
-use Rattle.checks.proofs.print.refusals.Reads as reads
-use Rattle.checks.proofs.print.refusals.Lts as lts
-use Rattle.checks.proofs.print.line.Reads as line-reads
+use Rattle.count_lines.proofs.refusals.Statement.{statement}
+use Rattle.count_lines.proofs.refusals.Tie as tie
+use Rattle.count_lines.proofs.refusals.Reads as reads
+use Rattle.count_lines.proofs.refusals.Lts as lts
+use Rattle.count_lines.proofs.line.Reads as line-reads
 use Rattle.checks.proofs.rows.get.Reads as get-reads
 use Rattle.io.proofs.print_decimal.Reads as print-decimal-reads
 use Rattle.io.proofs.write_all.Reads as write-all-reads
 

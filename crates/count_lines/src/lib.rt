@@ -1,7 +1,7 @@
-// The counts, a line each.
-use crate::draws;
-use crate::lengths;
-use crate::rows;
+// The counts that the program compare keeps, a line each.
+use checks::draws;
+use checks::lengths;
+use checks::rows;
 ghost use Prim.Native.Nat.{_<_};
 ghost use Rattle.spec.specs.Numbers.{slots};
 
@@ -38,12 +38,14 @@ fn longest(lengths: &[u32]) {
     );
 }
 
-// Prints the line of a run of so many calls on so many nodes.
-pub fn run(nodes: u32, calls: u64, most: u32, lengths: &[u32]) {
+// Prints the line of a run of so many calls on so many nodes, with so many lists accepted after an emptying.
+pub fn run(nodes: u32, calls: u64, most: u32, lists: u64, lengths: &[u32]) {
     part(b"nodes", nodes);
     io::write_all(1, b"\tcalls\t");
     io::print_decimal(1, calls);
     part(b"\tmost keys held", most);
+    io::write_all(1, b"\tlists after an emptying\t");
+    io::print_decimal(1, lists);
     longest(lengths);
     io::write_all(1, b"\n");
 }
@@ -65,6 +67,7 @@ fn calls(counts: &[u64]) {
     );
     line(b"reader's turn", made(counts, draws::READER_TURN));
     line(b"give up", made(counts, draws::GIVE_UP));
+    line(b"list", made(counts, draws::LIST));
 }
 
 fn refusals(counts: &[u64]) {
@@ -75,6 +78,60 @@ fn refusals(counts: &[u64]) {
         line(b"", rows::get(counts, rows::REFUSALS + n));
         n += 1;
     }
+}
+
+fn list_refusals(counts: &[u64]) {
+    line(b"refused by 18", rows::get(counts, rows::REFUSALS + 18));
+    line(b"refused by 19", rows::get(counts, rows::REFUSALS + 19));
+    line(
+        b"lists refused by 6",
+        rows::get(counts, rows::LISTS_REFUSED),
+    );
+    line(
+        b"lists refused by 10",
+        rows::get(counts, rows::LISTS_REFUSED + 1),
+    );
+    line(
+        b"lists refused by 11",
+        rows::get(counts, rows::LISTS_REFUSED + 2),
+    );
+}
+
+fn lists(counts: &[u64]) {
+    line(b"lists accepted", rows::get(counts, rows::ACCEPTED));
+    line(b"lists finished", rows::get(counts, rows::FINISHED));
+    line(
+        b"lists accepted at a run's start",
+        rows::get(counts, rows::LISTS_FIRST),
+    );
+    line(
+        b"lists accepted after an emptying",
+        rows::get(counts, rows::LISTS_LATER),
+    );
+    line(
+        b"lists accepted with a slot reading",
+        rows::get(counts, rows::LISTS_READ),
+    );
+    line(
+        b"lists accepted with a slot before its first turn",
+        rows::get(counts, rows::LISTS_UNTURNED),
+    );
+    line(
+        b"lists accepted with a slot at a retired node",
+        rows::get(counts, rows::LISTS_RETIRED),
+    );
+    line(
+        b"lists of N - 4 keys accepted",
+        rows::get(counts, rows::LISTS_LONGEST),
+    );
+    line(
+        b"lists accepted with the key 0",
+        rows::get(counts, rows::LISTS_SMALLEST),
+    );
+    line(
+        b"lists accepted with the key 4294967295",
+        rows::get(counts, rows::LISTS_LARGEST),
+    );
 }
 
 fn inserts(counts: &[u64]) {
@@ -182,7 +239,7 @@ fn next_searches(counts: &[u64]) {
 
 // Prints so many counts in a line, from a row on; both numbers are below rows::ROWS.
 fn row(label: &[u8], counts: &[u64], first: usize, many: usize)
-    requires { ⌜ (first < 192) × (many < 192) ⌝ }
+    requires { ⌜ (first < 224) × (many < 224) ⌝ }
 {
     io::write_all(1, label);
     let mut i: usize = 0;
@@ -221,6 +278,7 @@ fn steps(counts: &[u64]) {
     line(b"store promote", rows::get(counts, rows::STEPS + 4));
     line(b"store publish", rows::get(counts, rows::STEPS + 5));
     line(b"store detach", rows::get(counts, rows::STEPS + 6));
+    line(b"store link all", rows::get(counts, rows::LINK_ALL));
 }
 
 // Prints the counts of a rotation's step, by purpose (insert, red sibling, black sibling) and side.
@@ -240,6 +298,34 @@ fn rotations(counts: &[u64]) {
     rotation(b"store zig lower A", counts, 2);
     rotation(b"store zig lower C", counts, 3);
     rotation(b"store zig raise", counts, 4);
+}
+
+fn wrong_lists(counts: &[u64]) {
+    io::write_all(
+        1,
+        b"wrong lists\tempty\tequal keys first\tequal in the middle\tequal last\tfalling keys first\tfalling in the middle\tfalling last",
+    );
+    io::write_all(1, b"\ta record fewer\ta record more\n");
+    row(b"refused by 18", counts, rows::LISTS_WRONG + 1, 9);
+}
+
+fn list_comparisons(counts: &[u64]) {
+    line(
+        b"nodes of lists compared as taken",
+        rows::get(counts, rows::LIST_TAKEN),
+    );
+    line(
+        b"nodes of lists compared after the store",
+        rows::get(counts, rows::LIST_NODES),
+    );
+    line(
+        b"standings compared with a list in hand",
+        rows::get(counts, rows::LIST_STATES),
+    );
+    line(
+        b"first turns compared with a list in hand",
+        rows::get(counts, rows::LIST_TURNS),
+    );
 }
 
 fn comparisons(counts: &[u64]) {
@@ -280,6 +366,9 @@ fn comparisons(counts: &[u64]) {
 pub fn all(counts: &[u64]) {
     calls(counts);
     refusals(counts);
+    list_refusals(counts);
+    wrong_lists(counts);
+    lists(counts);
     inserts(counts);
     deletes(counts);
     turns(counts);
@@ -289,5 +378,6 @@ pub fn all(counts: &[u64]) {
     slots(counts);
     steps(counts);
     rotations(counts);
+    list_comparisons(counts);
     comparisons(counts);
 }
