@@ -12,7 +12,7 @@ use Rattle.table.specs.Picture.{Row, row, none, _on_, key, recordLow, left, rig
 use Rattle.table.specs.Picture.{free:=_, held:=_, awaited:=_, count:=_, hand, atRest, reader_:=_, store_:=_, reads, idle, _counting_, _but_}
 use Rattle.table.specs.Entry.{I, D, W, B, S, R, E, _⇒_, leaves, Entry, entry}
 use Rattle.table.specs.Lent.{three, single}
-use Rattle.list_table.specs.Notation.{tens, filledAs, storing, empty, queueOf, accepted, stored, becomes, gives}
+use Rattle.list_table.specs.Notation.{tens, filledAs, standAs, storing, empty, queueOf, accepted, stored, becomes, gives}
 use Rattle.list_table.specs.Lists.{rows1, rows2, rows3, rows4, rows12}
 
 -- node n is followed by node k in the queue
@@ -125,27 +125,28 @@ stores =
     ∷ links "list's store: no retire, no awaiting, slots reading" (reader 0 := (reads 5 0) ∷ reader 9 := (reads 20 2) ∷ []) 2 3
     ∷ entry "list's store: no colour work, a red top stays red" (inHand but (colour of 2 := 1 ∷ colour of 1 := 1 ∷ []))
     (W ⇒ done Root 2 ∷ leaves (standing of 1 := 1 ∷ standing of 2 := 1 ∷ standing of 3 := 1 ∷ root:= 2 ∷ held:= 3 ∷ atRest ∷ []) ∷ [])
-    ∷ entry "list's store: slots are awaited: wait, before and after a begin" (inHand but (awaited:= 1 ∷ [])) (W ⇒ wait ∷ B 0 5 ⇒ ok ∷ W ⇒ wait ∷ R 0 ⇒ absent ∷ W ⇒ done Root 2 ∷ [])
+    ∷ entry "list's store: slots are awaited: wait, before and after a begin" (inHand but (awaited:= 1 ∷ []))
+    (W ⇒ wait ∷ B 0 5 ⇒ ok ∷ W ⇒ wait ∷ R 0 ⇒ absent ∷ W ⇒ done Root 2 ∷ [])
     ∷ entry "list's store: another store comes after it" (inHand but (count:= 2 ∷ store 1 := (Unlink on Right 2) ∷ []))
     (W ⇒ more Root 2
     ∷ leaves (filledAs 1 rows3 ++ root:= 2 ∷ held:= 3 ∷ atRest ∷ hand (Unlink on Right 2) ∷ []) ∷ [])
     ∷ entry "list's store: one of seven, each made in its turn"
-    (inHand but (count:= 7 ∷ store 1 := storing 1 1 ∷ store 2 := storing 1 2 ∷ store 3 := storing 0 3 ∷ store 4 := storing 1 1 ∷ store 5 := storing 1 2 ∷ store 6 := storing 1 3 ∷ []))
+    (inHand
+    but (count:= 7 ∷ store 1 := storing 1 1 ∷ store 2 := storing 1 2 ∷ store 3 := storing 0 3 ∷ store 4 := storing 1 1 ∷ store 5 := storing 1 2
+    ∷ store 6 := storing 1 3 ∷ []))
     (W ⇒ more Root 2 ∷ W ⇒ more Root 1 ∷ W ⇒ more Root 2 ∷ W ⇒ more Root 3 ∷ W ⇒ more Root 1 ∷ W ⇒ more Root 2 ∷ W ⇒ done Root 3
     ∷ leaves (turned 3 8) ∷ [])
     ∷ entry "list's store: it comes after another one" (three but (count:= 2 ∷ store 0 := (Insert 5 50 on Left 1) ∷ store 1 := storing 2 4 ∷ colour of 1 := 0 ∷ []))
     (W ⇒ more (Left 1) 4 ∷ W ⇒ done Root 4 ∷ [])
     ∷ entry "list's store: every node standing 3 stands linked, the others stay; other words are kept"
     (empty 8
-    but (hand (storing 2 5) ∷ standing of 1 := 3 ∷ holders of 1 := 9 ∷ nextFree of 1 := 4 ∷ key of 1 := 77 ∷ left of 1 := 8 ∷ standing of 2 := 1 ∷ standing of 3 := 2 ∷ holders of 3 := 1
+    but (hand (storing 2 5) ∷ standing of 1 := 3 ∷ holders of 1 := 9 ∷ nextFree of 1 := 4 ∷ key of 1 := 77 ∷ left of 1 := 8 ∷ standing of 2 := 1
+    ∷ standing of 3 := 2 ∷ holders of 3 := 1
     ∷ standing of 4 := 3 ∷ colour of 4 := 1 ∷ standing of 6 := 2 ∷ standing of 8 := 3 ∷ holders of 8 := 4294967295 ∷ []))
     (W ⇒ done Root 5 ∷ leaves (standing of 1 := 1 ∷ standing of 4 := 1 ∷ standing of 8 := 1 ∷ root:= 5 ∷ held:= 2 ∷ atRest ∷ []) ∷ [])
     ∷ entry "list's store: more nodes stand 3 than its count says, all are linked"
-    (empty 8
-    but (hand (storing 1 1) ∷ standing of 1 := 3 ∷ standing of 2 := 3 ∷ standing of 3 := 3 ∷ standing of 4 := 3 ∷ standing of 5 := 3 ∷ standing of 6 := 3 ∷ standing of 7 := 3 ∷ standing of 8 := 3 ∷ []))
-    (W ⇒ done Root 1
-    ∷ leaves (standing of 1 := 1 ∷ standing of 2 := 1 ∷ standing of 3 := 1 ∷ standing of 4 := 1 ∷ standing of 5 := 1 ∷ standing of 6 := 1 ∷ standing of 7 := 1
-    ∷ standing of 8 := 1 ∷ root:= 1 ∷ held:= 1 ∷ atRest ∷ []) ∷ [])
+    (empty 8 but (hand (storing 1 1) ∷ standAs 3 8 1))
+    (W ⇒ done Root 1 ∷ leaves (standAs 1 8 1 ++ root:= 1 ∷ held:= 1 ∷ atRest ∷ []) ∷ [])
     ∷ entry "list's store: no node stands 3" (empty 8 but (hand (storing 2 5) ∷ standing of 5 := 2 ∷ []))
     (W ⇒ done Root 5 ∷ leaves (root:= 5 ∷ held:= 2 ∷ atRest ∷ []) ∷ [])
     ∷ []
@@ -153,7 +154,8 @@ stores =
 -- Nodes standing 3: in range, and left as they are by all but a list's store and the calls that take or retire them.
 abbrev pub apart : List Entry
 apart =
-    entry "standing 3 is in range: every call is carried out, and leaves the node" (three but (standing of 8 := 3 ∷ holders of 8 := 1 ∷ nextFree of 7 := 0 ∷ last:= 7 ∷ []))
+    entry "standing 3 is in range: every call is carried out, and leaves the node"
+    (three but (standing of 8 := 3 ∷ holders of 8 := 1 ∷ nextFree of 7 := 0 ∷ last:= 7 ∷ []))
     (B 0 10 ⇒ ok ∷ S 1 5 ⇒ ok ∷ R 0 ⇒ go ∷ R 1 ⇒ go ∷ R 0 ⇒ go ∷ R 0 ⇒ found 100 ∷ E 1 ⇒ ok
     ∷ leaves []
     ∷ I 5 50 ⇒ ok ∷ W ⇒ done (Left 1) 4 ∷ D 5 ⇒ ok ∷ W ⇒ done (Left 1) 0 ∷ tens 1 ⇒ refused 19
@@ -167,7 +169,8 @@ apart =
     ∷ entry "turn: 2, standing 4 of the node named" (three but (standing of 2 := 4 ∷ reader 0 := (reads 10 2) ∷ [])) (R 0 ⇒ refused 2 ∷ [])
     ∷ entry "turn: 2, standing 4 of the node named, not reading" (three but (standing of 2 := 4 ∷ reader 0 := (idle 10 2) ∷ [])) (R 0 ⇒ refused 2 ∷ [])
     ∷ entry "the end of a reading leaves nodes standing 3, with its bit or without: give up"
-    (three but (reader 0 := (reads 10 2) ∷ standing of 1 := 3 ∷ holders of 1 := 1 ∷ standing of 3 := 3 ∷ standing of 7 := 3 ∷ holders of 7 := 3 ∷ standing of 8 := 2 ∷ holders of 8 := 3 ∷ []))
+    (three but (reader 0 := (reads 10 2) ∷ standing of 1 := 3 ∷ holders of 1 := 1 ∷ standing of 3 := 3 ∷ standing of 7 := 3 ∷ holders of 7 := 3
+    ∷ standing of 8 := 2 ∷ holders of 8 := 3 ∷ []))
     (E 0 ⇒ ok ∷ leaves (reader 0 := (idle 0 0) ∷ holders of 8 := 2 ∷ []) ∷ [])
     ∷ entry "the end of a reading leaves nodes standing 3: found"
     (three but (reader 0 := (reads 20 2) ∷ standing of 1 := 3 ∷ holders of 1 := 1 ∷ standing of 7 := 3 ∷ holders of 7 := 3 ∷ []))

@@ -29,6 +29,11 @@ abbrev pub filledAs : ℕ → List Row → List Change
 filledAs s [] = []
 filledAs s (r ∷ rs) = fills r ∷ standing of r .node := s ∷ filledAs s rs
 
+-- the k nodes from n on stand so
+abbrev pub standAs : ℕ → ℕ → ℕ → List Change
+standAs s zero n = []
+standAs s (suc k) n = standing of n := s ∷ standAs s k (n + 1)
+
 -- the only store of a list of m keys, whose top is node n
 abbrev pub storing : ℕ → ℕ → Store
 storing m n = LinkAll m n on Root

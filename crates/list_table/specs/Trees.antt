@@ -3,7 +3,7 @@ use mathlib.Core.Path.{_≡_, refl}
 use Prim.Native.Nat.{ℕ, zero, suc, _+_, _*_}
 use mathlib.Core.Bool.{Bool, true, false, cond, _&&_}
 use mathlib.Core.List.{List, [], _∷_, _++_}
-use lib.ListN.{getD}
+use lib.ListN.{getD, take}
 use lib.Dec.{eqb}
 use Rattle.base.specs.Walk.{allFrom, allIn}
 use Rattle.datatypes.specs.declared.Kind.the-variants as kind
@@ -12,9 +12,10 @@ use Rattle.datatypes.specs.declared.Step.the-variants.{LinkAll}
 use Rattle.sequential.specs.Tree.{Colour, red, black, Tree, leaf, node, rel}
 use Rattle.sequential.specs.Balanced.{levelsTo, blackLevels, balancedTree, listRight}
 use Rattle.sequential.specs.Delete.{Change, insertion, deletion, listInsertion, changed, changedBy}
-use Rattle.spec.specs.Pool.{word}
-use Rattle.spec.specs.Register.{State}
-use Rattle.spec.specs.Bulk.{nextFree, freeAfter}
+use Rattle.spec.specs.Pool.{word, setWord}
+use Rattle.spec.specs.Register.{State, withQueue, setLink}
+use Rattle.spec.specs.Free.{takeFree, fillAs, takeAs}
+use Rattle.spec.specs.Bulk.{nextFree, freeAfter, grownIn, grownTree}
 use Rattle.spec.specs.Turn.{profile, isListed, countedBy, keysCome}
 use Rattle.spec.specs.Calls.{ok, go, wait, absent, done, refused, Call, inserting, deleting, writing, beginning, turning, givingUp, insertingList, call}
 use Rattle.spec.specs.PlainList.{Ticket, ticketsOf, updated, listStore}
@@ -132,6 +133,10 @@ four = node black 30 300 (node black 20 200 (one red 10 100) leaf) (one black 40
 abbrev seven : Tree
 seven = node black 40 400 (node black 20 200 (one black 10 100) (one black 30 300)) (node black 60 600 (one black 50 500) (one black 70 700))
 
+-- What eight nodes hold of a list of 512 keys, which has a tenth level: the queue ends after them, and no other node is filled.
+abbrev deep : List ℕ
+deep = grownTree (empty 8) (spaced 512 10 10) (spaced 512 100 100) .after .pool
+
 pub record Balances : Type 0 where
   pub of1 : of 1 ≡ one black 10 100
   pub of2 : of 2 ≡ node black 20 200 (one red 10 100) leaf
@@ -148,6 +153,8 @@ pub record Balances : Type 0 where
   pub b5 : (blackLevels 30 ≡ 4) × (blackLevels 31 ≡ 5) × (blackLevels 62 ≡ 5) × (blackLevels 63 ≡ 6) × (blackLevels 126 ≡ 6) × (blackLevels 127 ≡ 7)
   pub b8 : (blackLevels 254 ≡ 7) × (blackLevels 255 ≡ 8) × (blackLevels 510 ≡ 8) × (blackLevels 511 ≡ 9) × (blackLevels 1019 ≡ 9) × (blackLevels 1022 ≡ 9)
       × (blackLevels 1023 ≡ 10)
+  -- the first key alone is on the tenth level, red; the second, over it, on the ninth
+  pub tenth : (take 18 deep ≡ 10 ∷ 100 ∷ 0 ∷ 0 ∷ 0 ∷ 1 ∷ 3 ∷ 0 ∷ 0 ∷ 20 ∷ 200 ∷ 0 ∷ 1 ∷ 0 ∷ 0 ∷ 3 ∷ 0 ∷ 0 ∷ [])
   -- a list is a write on an empty tree, if it is one of tickets; else nothing is changed
   pub onEmpty : changed leaf (listInsertion (spaced 4 10 10) (spaced 4 100 100)) ≡ four
   pub onTree : changed (one black 5 50) (listInsertion (10 ∷ []) (100 ∷ [])) ≡ one black 5 50
@@ -172,7 +179,7 @@ pub record Balances : Type 0 where
       (freeAfter next 5 0 ≡ 5) × (freeAfter next 5 1 ≡ 3) × (freeAfter next 5 2 ≡ 8) × (freeAfter next 5 3 ≡ 0) × (freeAfter next 5 4 ≡ 0) × (freeAfter next 0 1 ≡ 0)
 
 pub balances : Balances
-unfolding levelsTo listRight allFrom allIn word freeAfter rel
+unfolding levelsTo listRight allFrom allIn word setWord withQueue setLink takeFree fillAs takeAs grownIn grownTree freeAfter rel
 balances =
     record {
       of1 = refl;
@@ -187,6 +194,7 @@ balances =
       b1 = (refl, refl, refl, refl, refl, refl, refl);
       b5 = (refl, refl, refl, refl, refl, refl);
       b8 = (refl, refl, refl, refl, refl, refl, refl);
+      tenth = refl;
       onEmpty = refl;
       onTree = refl;
       onRed = refl;
