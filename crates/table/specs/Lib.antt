@@ -1,5 +1,6 @@
 pub mod Picture
 pub mod Entry
+pub mod PlainEntry
 pub mod Lent
 pub mod Starred
 pub mod Readers

@@ -242,7 +242,7 @@ abbrev topFrom : Shape → ℕ → ℕ
 topFrom nil n = 0
 topFrom (node c l r) n = n + size l
 
-abbrev rowsFrom : Shape → ℕ → List Row
+abbrev pub rowsFrom : Shape → ℕ → List Row
 rowsFrom nil n = []
 rowsFrom (node c l r) n =
     let m = n + size l in

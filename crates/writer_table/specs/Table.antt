@@ -14,6 +14,7 @@ use Rattle.spec.specs.Turn.{insertStore, replaceStore, diagLower, diagRaise, zi
 use Rattle.spec.specs.Turn.{movedWrite, publishStore, detachStore, stepFinds, linkAllStore, stepMade}
 use Rattle.spec.specs.Calls.{setUp, insert, delete, stored, writerTurn, begin, readerStep, readerTurn, giveUp}
 use Rattle.table.specs.Entry.{allPass}
+use Rattle.table.specs.PlainEntry.{allListed}
 use Rattle.writer_table.specs.Inserts.{inserts}
 use Rattle.writer_table.specs.Deletes.{deletes}
 use Rattle.writer_table.specs.Replacements.{replacements}
@@ -21,7 +22,7 @@ use Rattle.writer_table.specs.Overwrites.{Overwrites, overwrites}
 use Rattle.writer_table.specs.Refusals.{refusals}
 use Rattle.writer_table.specs.Paths.{paths}
 use Rattle.writer_table.specs.Damaged.{damaged}
-use Rattle.writer_table.specs.PlainLists.{allListed, plainLists, lists-pass}
+use Rattle.writer_table.specs.PlainLists.{plainLists, lists-pass}
 use Rattle.writer_table.specs.Large.{LargePasses, large-passes}
 
 pub record WriterTablesPass : Type 0 where
