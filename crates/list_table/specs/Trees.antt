@@ -85,6 +85,17 @@ plainLists =
     ∷ writing gave done Root 1
     ∷ lists (10 is 100 ∷ 30 is 300 ∷ [])
     ∷ [])
+    ∷ entry "plain list: after a list and an insert a delete of the list's top is listed at the second store"
+    (three gave ok
+    ∷ writing gave done Root 2
+    ∷ inserting 40 400 gave ok
+    ∷ writing gave done Root 1
+    ∷ deleting 20 gave ok
+    ∷ writing gave done Root 1
+    ∷ lists (10 is 100 ∷ 20 is 200 ∷ 30 is 300 ∷ 40 is 400 ∷ [])
+    ∷ writing gave done Root 1
+    ∷ lists (10 is 100 ∷ 30 is 300 ∷ 40 is 400 ∷ [])
+    ∷ [])
     ∷ entry "plain list: after a list of five a delete of its top is listed at the first store"
     (insertingList (spaced 5 10 10) (spaced 5 100 100) gave ok
     ∷ writing gave done Root 3
