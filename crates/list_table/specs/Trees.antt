@@ -260,12 +260,12 @@ sameTree (node c k v l r) (node d j w x y) = eqb (colourNumber c) (colourNumber 
 abbrev goesOn : List Change → Bool
 goesOn cs = let st = indexAfter (empty 16) cs in sameTree (treeFrom 6 (st .pool) (st .register .root)) (changedBy leaf cs)
 
--- A list of m keys, then a delete of each of its keys and an insert beside it; all lists up to m keys.
+-- A list of m keys, then a delete of each of its keys and an insert beside it; lists of so many keys.
 abbrev eachKey : ℕ → ℕ → Bool
 eachKey m zero = true
 eachKey m (suc i) =
     goesOn (listInsertion (spaced m 10 10) (spaced m 4294967396 100) ∷ deletion (i * 10 + 10) ∷ insertion (i * 10 + 5) 7 ∷ []) && eachKey m i
 
-abbrev pub eachList : ℕ → Bool
-eachList zero = true
-eachList (suc m) = eachKey (suc m) (suc m) && eachList m
+abbrev pub eachList : List ℕ → Bool
+eachList [] = true
+eachList (m ∷ ms) = eachKey m m && eachList ms
