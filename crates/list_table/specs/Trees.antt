@@ -2,7 +2,7 @@
 use mathlib.Core.Path.{_≡_, refl}
 use Prim.Native.Nat.{ℕ, zero, suc, _+_, _*_}
 use mathlib.Core.Bool.{Bool, true, false, cond, _&&_}
-use mathlib.Core.List.{List, [], _∷_, _++_}
+use mathlib.Core.List.{List, [], _∷_}
 use lib.ListN.{getD, take}
 use lib.Dec.{eqb}
 use Rattle.base.specs.Walk.{allFrom, allIn}
@@ -19,8 +19,8 @@ use Rattle.spec.specs.Bulk.{nextFree, freeAfter, grownIn, grownTree}
 use Rattle.spec.specs.Turn.{profile, isListed, countedBy, keysCome}
 use Rattle.spec.specs.Calls.{ok, go, wait, absent, done, refused, Call, inserting, deleting, writing, beginning, turning, givingUp, insertingList, call}
 use Rattle.spec.specs.PlainList.{Ticket, ticketsOf, updated, listStore}
-use Rattle.table.specs.Picture.{nodeWords, wordsBefore, key, recordLow, recordHigh, left, right, colour}
-use Rattle.table.specs.PlainEntry.{_is_, Line, _gave_, lists, Entry, entry, entryFrom, allListed}
+use Rattle.table.specs.Picture.{wordsBefore, key, recordLow, recordHigh, left, right, colour}
+use Rattle.table.specs.PlainEntry.{_is_, _gave_, lists, Entry, entry}
 use Rattle.list_table.specs.Notation.{spaced, empty, queueOf}
 
 abbrev ticket : ℕ → ℕ → Ticket
