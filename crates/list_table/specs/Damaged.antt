@@ -3,17 +3,16 @@
 use Prim.Native.Nat.{ℕ}
 use Prim.Native.String.{String}
 use mathlib.Core.List.{List, [], _∷_, _++_}
-use Rattle.datatypes.specs.declared.Link.{Link}
 use Rattle.datatypes.specs.declared.Link.the-variants.{Root, Left, Right}
 use Rattle.datatypes.specs.declared.Step.the-variants.{LinkAll, Insert, Unlink, Promote}
 use Rattle.spec.specs.Register.{State}
 use Rattle.spec.specs.Calls.{ok, go, absent, wait, found, more, done, refused}
-use Rattle.table.specs.Picture.{Row, row, none, _on_, key, recordLow, left, right, colour, standing, holders, nextFree, Change, _of_:=_, root:=_, first:=_, last:=_}
+use Rattle.table.specs.Picture.{row, none, _on_, key, recordLow, left, right, colour, standing, holders, nextFree, Change, _of_:=_, root:=_, first:=_, last:=_}
 use Rattle.table.specs.Picture.{free:=_, held:=_, awaited:=_, count:=_, hand, atRest, reader_:=_, store_:=_, reads, idle, _counting_, _but_}
 use Rattle.table.specs.Entry.{I, D, W, B, S, R, E, _⇒_, leaves, Entry, entry}
-use Rattle.table.specs.Lent.{three, single}
+use Rattle.table.specs.Lent.{three}
 use Rattle.list_table.specs.Notation.{tens, filledAs, standAs, storing, empty, queueOf, accepted, stored, becomes, gives}
-use Rattle.list_table.specs.Lists.{rows1, rows2, rows3, rows4, rows12}
+use Rattle.list_table.specs.Lists.{rows1, rows2, rows3, rows12}
 
 -- node n is followed by node k in the queue
 infix 70 _then_

@@ -1,5 +1,5 @@
 -- What the entries of the lists (02, C-24) are written with: a list's call, the nodes that it takes, an index without a key.
-use Prim.Native.Nat.{ℕ, zero, suc, _+_, _-_}
+use Prim.Native.Nat.{ℕ, zero, suc, _+_}
 use Prim.Native.String.{String}
 use mathlib.Core.List.{List, [], _∷_, _++_}
 use Rattle.datatypes.specs.declared.Link.the-variants.{Root}
@@ -7,7 +7,7 @@ use Rattle.datatypes.specs.declared.Step.the-variants.{LinkAll}
 use Rattle.datatypes.specs.declared.Store.{Store}
 use Rattle.spec.specs.Register.{State}
 use Rattle.spec.specs.Calls.{ok, done, refused, insertingList}
-use Rattle.table.specs.Picture.{Row, root_held_awaited_stores_, picture, drawn, rising, nil, tree, _on_, key, recordLow, recordHigh, left, right, colour, standing}
+use Rattle.table.specs.Picture.{Row, root_held_awaited_stores_, picture, drawn, nil, tree, _on_, key, recordLow, recordHigh, left, right, colour, standing}
 use Rattle.table.specs.Picture.{holders, Change, _of_:=_, root:=_, first:=_, last:=_, free:=_, held:=_, hand, fills, atRest, _but_}
 use Rattle.table.specs.Entry.{Request, calls, W, _⇒_, leaves, Entry, entry}
 

@@ -2,23 +2,23 @@
 -- (Entry: agrees).
 use Prim.Native.Nat.{ℕ}
 use Prim.Native.String.{String}
-use mathlib.Core.List.{List, [], _∷_, _++_}
+use mathlib.Core.List.{List, [], _∷_}
 use lib.ListN.{take}
-use Rattle.datatypes.specs.declared.Link.the-variants.{Root, Left}
+use Rattle.datatypes.specs.declared.Link.the-variants.{Root}
 use Rattle.datatypes.specs.declared.Step.the-variants.{Insert, Unlink}
 use Rattle.spec.specs.Register.{State, state}
 use Rattle.spec.specs.Calls.{ok, refused}
 use Rattle.table.specs.Picture.{none, _on_, left, right, colour, standing, nextFree, Change, _of_:=_, root:=_, first:=_, last:=_, free:=_, held:=_, count:=_, hand}
 use Rattle.table.specs.Picture.{reader_:=_, store_:=_, idle, _but_, words}
-use Rattle.table.specs.Entry.{_⇒_, leaves, Entry, entry}
+use Rattle.table.specs.Entry.{_⇒_, Entry, entry}
 use Rattle.table.specs.Lent.{three, single}
 use Rattle.list_table.specs.Notation.{lists, tens, spaced, storing, empty, used, gives}
 
--- a list that is no list of tickets, on an index that would take any other
+-- a list that is wrong, on an index that would take any other
 abbrev gives18 : String → List ℕ → List ℕ → Entry
 gives18 title ks vs = gives 18 title (used 16) (lists ks vs)
 
--- an index that refuses 1 key by this number and, with that cause mended, by others
+-- eight nodes without a key, but for these changes
 abbrev damagedBy : List Change → State
 damagedBy cs = empty 8 but cs
 

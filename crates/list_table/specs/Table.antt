@@ -2,6 +2,7 @@
 -- an edit of that one doesn't pay for it.
 use mathlib.Core.Path.{_≡_, refl}
 use mathlib.Core.Bool.{true}
+use mathlib.Core.List.{[], _∷_}
 use Rattle.base.specs.Walk.{allFrom, allIn, foldFrom, foldIn}
 use Rattle.sequential.specs.Balanced.{levelsTo, listRight}
 use Rattle.spec.specs.Pool.{word, setWord, recordAt, nodeInRange, poolInRange, lengthRight, freshNodes, freshPool}
@@ -32,7 +33,7 @@ pub record ListTablesPass : Type 0 where
   pub apart : allPass apart ≡ true
   pub plainLists : allListed plainLists ≡ true
   pub balances : Balances
-  pub eachList : eachList 8 ≡ true
+  pub eachList : eachList (1 ∷ 3 ∷ 5 ∷ 6 ∷ 8 ∷ []) ≡ true
 
 pub list-tables-pass : ListTablesPass
 unfolding allFrom allIn foldFrom foldIn word setWord recordAt nodeInRange poolInRange lengthRight freshNodes freshPool withRoot withQueue withHeld withReader

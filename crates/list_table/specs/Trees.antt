@@ -2,7 +2,7 @@
 use mathlib.Core.Path.{_≡_, refl}
 use Prim.Native.Nat.{ℕ, zero, suc, _+_, _*_}
 use mathlib.Core.Bool.{Bool, true, false, cond, _&&_}
-use mathlib.Core.List.{List, [], _∷_, _++_}
+use mathlib.Core.List.{List, [], _∷_}
 use lib.ListN.{getD, take}
 use lib.Dec.{eqb}
 use Rattle.base.specs.Walk.{allFrom, allIn}
@@ -19,8 +19,8 @@ use Rattle.spec.specs.Bulk.{nextFree, freeAfter, grownIn, grownTree}
 use Rattle.spec.specs.Turn.{profile, isListed, countedBy, keysCome}
 use Rattle.spec.specs.Calls.{ok, go, wait, absent, done, refused, Call, inserting, deleting, writing, beginning, turning, givingUp, insertingList, call}
 use Rattle.spec.specs.PlainList.{Ticket, ticketsOf, updated, listStore}
-use Rattle.table.specs.Picture.{nodeWords, wordsBefore, key, recordLow, recordHigh, left, right, colour}
-use Rattle.table.specs.PlainEntry.{_is_, Line, _gave_, lists, Entry, entry, entryFrom, allListed}
+use Rattle.table.specs.Picture.{wordsBefore, key, recordLow, recordHigh, left, right, colour}
+use Rattle.table.specs.PlainEntry.{_is_, _gave_, lists, Entry, entry}
 use Rattle.list_table.specs.Notation.{spaced, empty, queueOf}
 
 abbrev ticket : ℕ → ℕ → Ticket
@@ -84,6 +84,17 @@ plainLists =
     ∷ lists (10 is 100 ∷ 20 is 200 ∷ 30 is 300 ∷ [])
     ∷ writing gave done Root 1
     ∷ lists (10 is 100 ∷ 30 is 300 ∷ [])
+    ∷ [])
+    ∷ entry "plain list: after a list and an insert a delete of the list's top is listed at the second store"
+    (three gave ok
+    ∷ writing gave done Root 2
+    ∷ inserting 40 400 gave ok
+    ∷ writing gave done Root 1
+    ∷ deleting 20 gave ok
+    ∷ writing gave done Root 1
+    ∷ lists (10 is 100 ∷ 20 is 200 ∷ 30 is 300 ∷ 40 is 400 ∷ [])
+    ∷ writing gave done Root 1
+    ∷ lists (10 is 100 ∷ 30 is 300 ∷ 40 is 400 ∷ [])
     ∷ [])
     ∷ entry "plain list: after a list of five a delete of its top is listed at the first store"
     (insertingList (spaced 5 10 10) (spaced 5 100 100) gave ok
@@ -249,12 +260,12 @@ sameTree (node c k v l r) (node d j w x y) = eqb (colourNumber c) (colourNumber 
 abbrev goesOn : List Change → Bool
 goesOn cs = let st = indexAfter (empty 16) cs in sameTree (treeFrom 6 (st .pool) (st .register .root)) (changedBy leaf cs)
 
--- A list of m keys, then a delete of each of its keys and an insert beside it; all lists up to m keys.
+-- A list of m keys, then a delete of each of its keys and an insert beside it; lists of so many keys.
 abbrev eachKey : ℕ → ℕ → Bool
 eachKey m zero = true
 eachKey m (suc i) =
     goesOn (listInsertion (spaced m 10 10) (spaced m 4294967396 100) ∷ deletion (i * 10 + 10) ∷ insertion (i * 10 + 5) 7 ∷ []) && eachKey m i
 
-abbrev pub eachList : ℕ → Bool
-eachList zero = true
-eachList (suc m) = eachKey (suc m) (suc m) && eachList m
+abbrev pub eachList : List ℕ → Bool
+eachList [] = true
+eachList (m ∷ ms) = eachKey m m && eachList ms
