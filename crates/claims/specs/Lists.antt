@@ -1,7 +1,7 @@
 -- 02, C-24: what the promise says of one run with a list, each by its clause; and the useless indexes that the clauses exclude: one that links the
 -- list's nodes at the accepting call, one whose store links half of them, one that leaves a node made apart.
 use Prim.Native.Nat.{ℕ}
-use mathlib.Core.Path.{_≡_, refl, subst}
+use mathlib.Core.Path.{_≡_, refl, ap, subst}
 use mathlib.Core.List.{List, [], _∷_}
 use mathlib.Core.Option.{none, some}
 use mathlib.Core.Logic.{_≢_, inr}
@@ -15,7 +15,7 @@ use Rattle.sequential.specs.Balanced.{levelsTo, listRight, balancedTree}
 use Rattle.sequential.specs.Delete.{listInsertion}
 use Rattle.spec.specs.Pool.{word, setWord, recordAt, nodeInRange, poolInRange, lengthRight, freshNodes, freshPool}
 use Rattle.spec.specs.Pool.{standingLinked, standingApart}
-use Rattle.spec.specs.Register.{State, begunReader, withRoot, withQueue, withHeld, withReader, withAwaited, withWrite, nodeAt, setLink}
+use Rattle.spec.specs.Register.{State, begunReader, storeOf, withRoot, withQueue, withHeld, withReader, withAwaited, withWrite, nodeAt, setLink}
 use Rattle.spec.specs.Register.{storeInRange, registerInRange, freshRegister, fresh, writeOf, lessFirst}
 use Rattle.spec.specs.Free.{takeFree, fillAs, takeAs}
 use Rattle.spec.specs.Bulk.{freeAfter, nextFree, runsOut, grownIn, grownTree, linkApart, linkAllApart}
@@ -81,6 +81,12 @@ takes-third = inr record { keys = keys; records = records; list = refl; makes = 
 
 pub stands-apart : StandsApart (indexAfter start shift 2) keys records
 stands-apart = promised .demand2 .apart 2 .waiting keys records (computed .waits)
+
+pub one-to-come : (indexAfter start shift 2 .register .write .count ≡ 1) × (storeOf (indexAfter start shift 2 .register) 0 .link ≡ Root)
+one-to-come = (stands-apart .inHand, ap (λ x. x .link) (stands-apart .store))
+
+pub tree-apart : Stands (indexAfter start shift 2 .pool) (stands-apart .top) threeAtOnce
+tree-apart = subst (Stands (indexAfter start shift 2 .pool) (stands-apart .top)) (computed .tree) (stands-apart .tree)
 
 pub third-unreached : (s : ℕ) → ¬ (Reaches (indexAfter start shift 2) s 3)
 third-unreached s = promised .demand2 .unreached 2 3 s (computed .apart3)

@@ -26,6 +26,7 @@ use Rattle.spec.specs.Numbers.{slots, mostStores}
 use Rattle.spec.specs.Pool.{word, child, nodes, keyWord, recordAt, colourWord, standingWord, holdersWord}
 use Rattle.spec.specs.Pool.{standingFree, standingLinked, standingRetired, standingApart, blackColour, redColour}
 use Rattle.spec.specs.Register.{State, state, withReader, readerOf, storeOf, linkNode, hasSlot, begunReader}
+use Rattle.spec.specs.Plan.{store}
 use Rattle.spec.specs.Turn.{profile}
 use Rattle.spec.specs.Calls.{Answer, go, absent, found, next, more, done, wait, refused, Outcome, unless, Call, writing, insertingList, call, reading, writeInHand}
 use Rattle.spec.specs.Calls.{_gives_, wrongLength, outOfRange, slotTooHigh, readerStep, readerTurn, turnCount}
@@ -101,7 +102,7 @@ pub record Reaches (st : State) (s m : ℕ) : Type 0 where
   pub reads : Reads st s
   pub leads : Leads (st .pool) (origin st s) m
 
--- A call takes a node if it is a writer's turn that makes a store (it answers more or done: `carriedOut`) whose step takes one ('The
+-- A call takes a node in two ways. It is a writer's turn that makes a store (it answers more or done: `carriedOut`) whose step takes one ('The
 -- writer's stores': a new node, a copy): it takes the first free node.
 abbrev pub takesOne : Step → Bool
 takesOne x = profile x .takes
@@ -112,7 +113,7 @@ pub record TakesOne (st : State) (c : Call) (m : ℕ) : Type 0 where
   pub step : takesOne (storeOf (st .register) 0 .step) ≡ true
   pub first : st .register .first ≡ m
 
--- 02, C-24: an accepted list takes the first free nodes, as many as it has keys.
+-- Or (02, C-24) it is a list that is accepted: it takes the first free nodes, as many as it has keys, in the queue's order.
 pub record TakesMany (st : State) (c : Call) (m : ℕ) : Type 0 where
   pub keys : List ℕ
   pub records : List ℕ
@@ -187,15 +188,15 @@ pub record StoresOne (before after : State) (l : Link) (n : ℕ) : Type 0 where
   pub comes : (m : ℕ) → standingAt before m ≢ standingLinked → standingAt after m ≡ standingLinked → (m ≡ n) ⊎ (standingAt before m ≡ standingApart)
   pub apart : (m : ℕ) → standingAt before m ≡ standingApart → standingAt after m ≡ standingLinked
 
--- 02, C-24: an accepted list that has not made its store. It is the write in hand; its tree stands apart, from the top that its store names; and the
--- nodes made apart are just that tree's.
+-- 02, C-24: an accepted list that has not made its store. It is the write in hand, with one store to come, of the root; its tree stands apart, from
+-- the top that the store names; and the nodes made apart are just that tree's.
 abbrev pub ListWaits : Plain → List ℕ → List ℕ → Type 0
 ListWaits x ks vs = (x .inHand ≡ some (listInsertion ks vs)) × (x .made ≡ 0)
 
 pub record StandsApart (st : State) (ks vs : List ℕ) : Type 0 where
-  pub inHand : writeInHand st ≡ true
+  pub inHand : st .register .write .count ≡ 1
   pub top : ℕ
-  pub store : storeOf (st .register) 0 .step ≡ LinkAll (length ks) top
+  pub store : storeOf (st .register) 0 ≡ store Root (LinkAll (length ks) top)
   pub tree : Stands (st .pool) top (balancedTree ks vs)
   pub nodes : (n : ℕ) → (standingAt st n ≡ standingApart) ↔ Leads (st .pool) top n
 

@@ -171,7 +171,8 @@ unfoldable pub delete : State → ℕ → Outcome
 delete st k = unless (deleteTests st k) st (acceptedPlan st (deleteAt st (placeOf st k)))
 
 -- 02, C-24: a list of keys and their records, on an empty index. An accepted one takes and fills its nodes at once, and is the write in hand with
--- one store to come. 10 means more keys than N − 4, 11 fewer free nodes than keys, 12 a node taken from an empty queue.
+-- one store to come. 10 means more keys than N − 4, 11 fewer free nodes than keys, 12 that a node is taken from an
+-- empty queue, one taking after the other (Bulk: runsOut).
 abbrev pub rooted : State → Bool
 rooted st = not (eqb (st .register .root) 0)
 

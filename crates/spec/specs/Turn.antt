@@ -310,7 +310,7 @@ stepMade st l (Detach k) = detachStore st l k
 stepMade st l (LinkAll m n) = linkAllStore st m n
 
 -- What a step does besides storing a link. For statements, contracts and proofs; no call goes by it, stepMade does it. Whether it is its write's
--- list store, and whether a key comes, goes, or stays with its new record:
+-- list store, and whether a key comes, goes, or stays with its new record, or (02, C-24) m keys come:
 pub data Listing : Type 0 where
   unlisted keyComes keyStays keyGoes : Listing
   keysCome : (m : ℕ) → Listing
@@ -327,7 +327,7 @@ pub record Profile : Type 0 where
 abbrev pub profiled : Bool → Listing → Bool → Bool → Profile
 profiled takes listing awaits renames = record { takes = takes; listing = listing; awaits = awaits; renames = renames }
 
--- 01, 'The writer's stores', a line for each (Replace: 02, C-13): takes, listing, awaits, renames
+-- 01, 'The writer's stores', a line for each (Replace: 02, C-13; LinkAll: C-24): takes, listing, awaits, renames
 abbrev pub profile : Step → Profile
 profile Vacant = profiled false unlisted false false
 profile (Insert k v) = profiled true keyComes false false

@@ -5,13 +5,15 @@ use mathlib.Core.Path.{_≡_, refl, sym, ap, _∙_, subst}
 use mathlib.Core.Logic.{inl, inr, ⊎-elim, ⊎-map}
 use mathlib.Core.Option.{Option, none, some}
 use Rattle.base.specs.Lists.{_∈_}
+use Rattle.datatypes.specs.declared.Link.the-variants.{Root}
 use Rattle.datatypes.specs.declared.Step.the-variants.{LinkAll}
+use Rattle.spec.specs.Plan.{store}
 use Rattle.sequential.specs.Balanced.{balancedTree}
 use Rattle.sequential.specs.Delete.{Change, insertion, deletion, listInsertion}
 use Rattle.tree.specs.Steady.{Sure}
 use Rattle.tree.specs.Tickets.{True}
 use Rattle.readers.specs.Apart.{list-passes}
-use Rattle.theorem.specs.Lists.{HandSide, side-first, list-busy, list-leavesTree, list-accepted, list-store, list-finds, list-few, store-side, side-in-hand}
+use Rattle.theorem.specs.Lists.{HandSide, side-first, list-busy, list-leavesTree, list-accepted, list-store, list-finds, list-few, store-side, side-count}
 use mathlib.Core.Bool.{false, false≢true}
 use mathlib.Core.List.{List, []}
 use native.Mathlib.Omega.{arith}
@@ -133,9 +135,9 @@ side-apart st x T (inr h) c = record {
       let f = ap listRecords (sym (h .inHand) ∙ i .0) in
       let r = subst (λ t. Stands (st .pool) (h .top) t) (h .shape) (stands (st .pool) (h .tree) (h .top) c (h .rep)) in
       record {
-        inHand = side-in-hand h;
+        inHand = side-count h;
         top = h .top;
-        store = ap (λ y. y .step) (side-first h) ∙ ap (λ l. LinkAll (length l) (h .top)) e;
+        store = side-first h ∙ ap (λ l. store Root (LinkAll (length l) (h .top))) e;
         tree = subst (λ us. Stands (st .pool) (h .top) (balancedTree ks us)) f (subst (λ js. Stands (st .pool) (h .top) (balancedTree js (h .vs))) e r);
         nodes = λ n. (λ a. in-leads (st .pool) (h .tree) (h .top) n (h .rep) (h .apart n .0 a), λ l. h .apart n .1 (leads-in (st .pool) (h .tree) (h .top) n (h .rep) l));
       }
