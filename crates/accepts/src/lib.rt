@@ -1,4 +1,6 @@
 // Insert and delete after the tests of the search: the last tests, and the plan as the write in hand.
+#![tactic(auto)]
+
 ghost use Rattle.std.specs.Prelude.{◌≡◌, false, ℕ, ◌<◌};
 ghost use Rattle.datatypes.specs.declared.Place.TheVariants.{Held, Empty};
 ghost use Rattle.spec.specs.Register.{state, with_write};

@@ -1,4 +1,6 @@
 // The lines that the program trace prints: the text of an answer.
+#![tactic(auto)]
+
 ghost use Rattle.std.specs.Prelude.{◌≡◌, [], ◌∷◌, ◌++◌, ◌≤◌, ◌+◌, length};
 ghost use Rattle.spec.specs.Calls.{accepts, writer_says, reader_says};
 ghost use Rattle.texts.specs.Ascii.{tab, text};

@@ -30,6 +30,7 @@ record Less (m : ℕ) (ys : List ℕ) : Type 0 where
   kept : (n : ℕ) → n ≢ m → n ∈ ys → n ∈ others
 
 less : (m : ℕ) (ys : List ℕ) → m ∈ ys → Less m ys
+less m [] x' = elim x' [ ]
 less m (y ∷ ys) (inl e) = record { others = ys; fewer = refl; kept = λ n d. ⊎_elim (λ i. absurd (d (i ∙ sym e))) (λ i. i) }
 less m (y ∷ ys) (inr i) =
     let w = less m ys i in

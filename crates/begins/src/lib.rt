@@ -1,4 +1,6 @@
 // Begin of a search of either kind: the call that index has twice, once for each kind.
+#![tactic(auto)]
+
 ghost use Rattle.std.specs.Prelude.{◌≡◌};
 ghost use Rattle.spec.specs.Register.{state};
 ghost use Rattle.spec.specs.Calls.{accepts, begin};

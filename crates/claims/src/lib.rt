@@ -1,1 +1,3 @@
 // No code: what the promise excludes, by runs that are computed.
+#![tactic(auto)]
+

@@ -1,4 +1,6 @@
 // The fields of a command: digits as a number, and the command that a letter and numbers are.
+#![tactic(auto)]
+
 ghost use Rattle.std.specs.Prelude.{◌≡◌, ◌≤◌};
 ghost use Rattle.command_fields.specs.Commands.{with_none, with_one, with_two};
 ghost use Rattle.command_fields.specs.Taken.{with_digit, field_taken};

@@ -1,4 +1,6 @@
 // A line of the program trace as a command, read field by field.
+#![tactic(auto)]
+
 ghost use Rattle.std.specs.Prelude.{◌≡◌, ◌≤◌, length};
 ghost use Rattle.command_lines.specs.declared.Reading.TheVariants.{Fresh, Letter, One, Two, Ill};
 ghost use Rattle.command_lines.specs.Machine.{finished};

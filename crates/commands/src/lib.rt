@@ -1,4 +1,6 @@
 // The commands of the program trace: each is run on the words lent.
+#![tactic(auto)]
+
 ghost use Rattle.std.specs.Prelude.{◌≡◌, ◌++◌, ◌≤◌, length, drop};
 ghost use Rattle.spec.specs.Numbers.{pool_limit};
 ghost use Rattle.spec.specs.Register.{state};

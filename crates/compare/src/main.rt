@@ -3,6 +3,8 @@
 // of every call it is foretold whether it is refused, of a writer's turn whether it answers more, done or wait, and of a reader's turn how many
 // nodes its reading has compared; each camera's tally is kept twice. Sorted lists become one tree (crate lists), at a run's start and after the
 // index was emptied.
+#![tactic(auto)]
+
 mod calls;
 
 use calls::Made;

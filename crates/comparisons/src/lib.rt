@@ -1,5 +1,7 @@
 // What a call of the index is compared with, call by call: a plain sequential red-black tree (crate reference), document 01's plain list (checks:
 // model) and the lengths of readings and cameras' tallies (checks: lengths). It uses nothing of the index but its types.
+#![tactic(auto)]
+
 pub mod answers;
 pub mod reading;
 pub mod writing;

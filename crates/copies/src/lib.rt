@@ -1,5 +1,7 @@
 // The stores by which a copy takes a node's place: replace and publish. Each function tries one store: it tests that the nodes are there, and the
 // free node that it takes, before it changes anything.
+#![tactic(auto)]
+
 ghost use Rattle.std.specs.Prelude.{◌≡◌, ◌<◌, length};
 ghost use Rattle.datatypes.specs.declared.Step.TheVariants.{Replace};
 ghost use Rattle.spec.specs.Numbers.{pool_limit};

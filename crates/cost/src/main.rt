@@ -11,6 +11,8 @@
 // reads, so that a node let go is retired, 0: none does.
 // Writes a sum over the free counts after the calls (in mode 0, before them), or 0 where no write came to the wanted turn. 1 may be added
 // by a page: a byte of the buffer is looked at, so that the compiler can't leave out what is written there.
+#![tactic(auto)]
+
 ghost use Rattle.std.specs.Prelude.{◌≡◌, ◌<◌, ◌≤◌, length};
 ghost use Rattle.spec.specs.Numbers.{least_nodes, most_nodes, slots};
 

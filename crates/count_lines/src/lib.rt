@@ -1,4 +1,6 @@
 // The counts that the program compare keeps, a line each.
+#![tactic(auto)]
+
 ghost use Rattle.std.specs.Prelude.{◌<◌};
 ghost use Rattle.spec.specs.Numbers.{slots};
 

@@ -1,4 +1,6 @@
 // Counts that stay in their ranges, and one of two numbers.
+#![tactic(auto)]
+
 ghost use Rattle.std.specs.Prelude.{◌≡◌, cond};
 ghost use Rattle.spec.specs.Register.{count_up, count_down};
 

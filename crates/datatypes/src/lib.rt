@@ -1,14 +1,15 @@
 // The types of the ticket index: links, the write in hand, the register, the answers of the calls, and a camera's tally.
+#![tactic(auto)]
 
 // A side of a node. Left and right cases are one definition with the side as a parameter.
-#[derive(Drop)]
+#[derive(Clone, Copy)]
 pub enum Side {
     L,
     R,
 }
 
 // A link: the root, a node's left or a node's right.
-#[derive(Drop)]
+#[derive(Clone, Copy)]
 pub enum Link {
     Root,
     Left(u32),
@@ -16,7 +17,7 @@ pub enum Link {
 }
 
 // A rotation is a diag (the rising child is an outer child) or a zig (an inner one).
-#[derive(Drop)]
+#[derive(Clone, Copy)]
 pub enum Form {
     Diag,
     Zig,
@@ -26,7 +27,7 @@ pub enum Form {
 // ForInsert: an insert's only rotation; copies red, the risen node black.
 // RedSibling: a delete's first, under a red sibling; colours as in ForInsert, and the work goes on under the copy.
 // BlackSibling: a delete's last; copies and the outer child black, the risen node takes the top's colour.
-#[derive(Drop)]
+#[derive(Clone, Copy)]
 pub enum Purpose {
     ForInsert,
     RedSibling,
@@ -34,7 +35,7 @@ pub enum Purpose {
 }
 
 // A rotation at the node that `link` holds; its child on `side` rises, or in a zig that child's inner child.
-#[derive(Drop)]
+#[derive(Clone, Copy)]
 pub struct Rotation {
     pub link: Link,
     pub form: Form,
@@ -52,7 +53,7 @@ pub struct Rotation {
 // Adopt, Promote: C's left := B's left; B's link from above := C.
 // Publish(C), Detach(key): B's link from above := C'; F's left := C's right. The key is B's, by which the place is found again.
 // LinkAll(count, top): the root := the top of a tree made apart, of so many nodes (document 02, C-24).
-#[derive(Drop)]
+#[derive(Clone, Copy)]
 pub enum Step {
     Vacant,
     Insert(u32, u64),
@@ -71,14 +72,14 @@ pub enum Step {
 }
 
 // A planned store: `link` is the link from above of the place that the step works on.
-#[derive(Drop)]
+#[derive(Clone, Copy)]
 pub struct Store {
     pub link: Link,
     pub step: Step,
 }
 
 // The write in hand: how many stores are still to come, and the stores; those to come stand first, the others are vacant.
-#[derive(Drop)]
+#[derive(Clone, Copy)]
 pub struct Write {
     pub count: u32,
     pub stores: [Store; numbers::MOST_STORES],
@@ -87,7 +88,7 @@ pub struct Write {
 // What a reader slot searches for (document 02, C-11).
 // Lookup: the record of the given key.
 // Next: the ticket with the smallest key greater than the given one.
-#[derive(Drop)]
+#[derive(Clone, Copy)]
 pub enum Kind {
     Lookup,
     Next,
@@ -96,7 +97,7 @@ pub enum Kind {
 // A reader slot's record: of a search for the next ticket the record and the key of the best so far (`value`, `best`), the given key, the node it is
 // at (0 before its first turn); how many nodes its turns have compared (document 02, C-17); reading or not, the kind of search, and whether a
 // search for the next ticket remembers one. The numbers stand first, the widest before the others (docs/DECISIONS.md, 118, 125).
-#[derive(Drop)]
+#[derive(Clone, Copy)]
 pub struct Reader {
     pub value: u64,
     pub key: u32,
@@ -110,7 +111,7 @@ pub struct Reader {
 
 // The register: root, free queue, counts, awaited slots (one bit for each slot), readers, the write in hand. The order of the fields:
 // docs/DECISIONS.md, 125.
-#[derive(Drop)]
+#[derive(Clone, Copy)]
 pub struct Register {
     pub root: u32,
     pub first: u32,
@@ -124,7 +125,7 @@ pub struct Register {
 
 // Where a search for a key ended: at the node that holds it (with the node's link from above), at an empty link,
 // or past the nodes allowed.
-#[derive(Drop)]
+#[derive(Clone, Copy)]
 pub enum Place {
     Held(Link, u32),
     Empty(Link),
@@ -133,7 +134,7 @@ pub enum Place {
 
 // How a fix-up of colours ends: with nothing more, with the node that it ended at turned black, with one rotation or two,
 // or at a step that names a node where there is none.
-#[derive(Drop)]
+#[derive(Clone, Copy)]
 pub enum Ending {
     Balanced,
     Blacken,
@@ -143,7 +144,7 @@ pub enum Ending {
 }
 
 // A fix-up: how many levels it passed by colours alone, and how it ended.
-#[derive(Drop)]
+#[derive(Clone, Copy)]
 pub struct Fixup {
     pub levels: u32,
     pub ending: Ending,
@@ -151,7 +152,7 @@ pub struct Fixup {
 
 // The register's head: its numbers. A step of the writer and the end of a reading change nothing else of the register, but for the
 // write in hand and one reader record; so they take and give the head, and a call puts the register together once.
-#[derive(Drop)]
+#[derive(Clone, Copy)]
 pub struct Head {
     pub root: u32,
     pub first: u32,
@@ -162,7 +163,7 @@ pub struct Head {
 }
 
 // What the step of a turn did: whether it found every node that it names, and then the link that it stored with its new node.
-#[derive(Drop)]
+#[derive(Clone, Copy)]
 pub struct StepResult {
     pub found: bool,
     pub link: Link,
@@ -171,14 +172,14 @@ pub struct StepResult {
 }
 
 // The answer of set up, insert, delete, begin and give up.
-#[derive(Drop)]
+#[derive(Clone, Copy)]
 pub enum Acceptance {
     Accepted,
     Refused(u32),
 }
 
 // The answer of a writer's turn; more and done have the link stored and its new node.
-#[derive(Drop)]
+#[derive(Clone, Copy)]
 pub enum WriterAnswer {
     More(Link, u32),
     Done(Link, u32),
@@ -188,7 +189,7 @@ pub enum WriterAnswer {
 
 // The answer of a reader's turn; found has the record, next the key and record of the next ticket. Absent: the key of a lookup is not held,
 // or a search for the next ticket met none.
-#[derive(Drop)]
+#[derive(Clone, Copy)]
 pub enum ReaderAnswer {
     Go,
     Found(u64),
@@ -220,7 +221,7 @@ pub struct ReaderReply {
 }
 
 // A camera's tally (document 02, C-17): its lookups and searches answered, the nodes that they compared, and the longest count of one of them.
-#[derive(Drop)]
+#[derive(Clone, Copy)]
 pub struct Tally {
     pub answered: u32,
     pub compared: u32,

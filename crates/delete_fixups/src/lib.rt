@@ -1,4 +1,6 @@
 // What a delete loses: the fix-up after a black place is lost, and its colours.
+#![tactic(auto)]
+
 ghost use Rattle.std.specs.Prelude.{◌≡◌, cond, ◌≤◌, eqb, length, get_or};
 ghost use Rattle.datatypes.specs.declared.Register.{Register};
 ghost use Rattle.datatypes.specs.declared.Link.TheVariants.{Root};

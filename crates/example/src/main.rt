@@ -1,5 +1,7 @@
 // The least program that uses the ticket index: it sets one up, inserts, replaces a record, looks up,
 // searches for the next ticket, deletes, and handles a refusal.
+#![tactic(auto)]
+
 use datatypes::{Acceptance, ReaderAnswer, Register, Reply, WriterAnswer};
 use libc::STDOUT_FILENO;
 

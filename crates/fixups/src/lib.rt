@@ -1,4 +1,6 @@
 // The insert fix-up and the delete fix-up along a path, and the colours of the levels that they pass.
+#![tactic(auto)]
+
 ghost use Rattle.std.specs.Prelude.{◌≡◌, ◌<◌, ◌≤◌, ◌+◌, length};
 ghost use Rattle.datatypes.specs.declared.Form.TheVariants.{Diag};
 ghost use Rattle.spec.specs.Pool.{paint, black_colour, red_colour};

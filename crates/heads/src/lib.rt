@@ -1,5 +1,7 @@
 // The register's head: taken out of a register, put into it, made a register of with the rest; the store of a link, which is the root's or a
 // word of the pool; the awaited slots.
+#![tactic(auto)]
+
 ghost use Rattle.std.specs.Prelude.{◌≡◌, not, eqb};
 ghost use Rattle.spec.specs.Register.{set_link};
 ghost use Rattle.heads.specs.Head.{head_of, with_head, register_of, awaiting, Follows, missed_by};

@@ -3,6 +3,8 @@
 // Each one's promise: answer, register and every pool word are what the definition of the call (crate spec, Calls: documents 01 and 02) makes
 // of what was lent; a refused call leaves both as they were. A reader's turn also replies a count (`turn_count`). Above each call: what it needs,
 // answers, refuses and leaves.
+#![tactic(auto)]
+
 ghost use Rattle.std.specs.Prelude.{◌≡◌};
 ghost use Rattle.datatypes.specs.declared.Kind.TheVariants as kind;
 ghost use Rattle.spec.specs.Register.{state};

@@ -1,4 +1,6 @@
 // How many words a command of the program trace is lent: what it works on, and what stays lent after it.
+#![tactic(auto)]
+
 ghost use Rattle.std.specs.Prelude.{◌≡◌};
 ghost use Rattle.answer_lines.specs.Text.{says};
 ghost use Rattle.lent_words.specs.Lent.{tried_words, kept_words};

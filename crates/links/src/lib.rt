@@ -1,4 +1,6 @@
 // Sides and links: the other side, a node's link on a side, the node and the side of a link; the form of a rotation.
+#![tactic(auto)]
+
 ghost use Rattle.std.specs.Prelude.{◌≡◌, cond};
 ghost use Rattle.datatypes.specs.declared.Form.TheVariants.{Diag, Zig};
 ghost use Rattle.datatypes.specs.Side.{other, same_side, link_at, owner, side_of};

@@ -1,5 +1,7 @@
 // Lists (document 02, C-24) as random calls: drawn, and compared with the reference tree and with the plain list (checks: model). It uses nothing of
 // the index.
+#![tactic(auto)]
+
 pub mod drawn;
 
 use checks::{draws, model, rows};

@@ -1,4 +1,6 @@
 // What a reader's turn does after its tests, without the register: where it looks, and the head that the end of a reading leaves.
+#![tactic(auto)]
+
 ghost use Rattle.std.specs.Prelude.{◌≡◌, ◌<◌, length};
 ghost use Rattle.datatypes.specs.declared.Kind.TheVariants as kind;
 ghost use Rattle.spec.specs.Numbers.{pool_limit, slots};

@@ -1,4 +1,6 @@
 // Masks of slots: bit s for slot s, for any slot that a word has a bit for.
+#![tactic(auto)]
+
 ghost use Rattle.std.specs.Prelude.{◌≡◌, ◌<◌, ◌^◌};
 ghost use Rattle.spec.specs.Numbers.{word_bits};
 ghost use Rattle.spec.specs.Register.{has_slot, drop_slot};

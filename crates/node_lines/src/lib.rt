@@ -1,4 +1,6 @@
 // The line that the program trace prints of a node.
+#![tactic(auto)]
+
 ghost use Rattle.std.specs.Prelude.{[], ◌∷◌, ◌++◌, ◌≤◌, ◌+◌, length};
 ghost use Rattle.texts.specs.Ascii.{tab};
 ghost use Rattle.texts.specs.Decimal.{decimal};

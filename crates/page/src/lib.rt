@@ -1,4 +1,6 @@
 // The foreman's page (02, C-16 and C-18): the linked nodes as lines, put into a buffer sheet by sheet.
+#![tactic(auto)]
+
 ghost use Rattle.std.specs.Prelude.{◌≡◌, [], ◌∷◌, map, ◌<◌, ◌≤◌, ◌+◌, ◌*◌, length};
 ghost use Rattle.spec.specs.Numbers.{pool_limit};
 ghost use Rattle.texts.specs.Decimal.{decimal};

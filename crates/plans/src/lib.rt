@@ -1,4 +1,6 @@
 // The stores that a write plans.
+#![tactic(auto)]
+
 ghost use Rattle.std.specs.Prelude.{◌≡◌, [], ◌∷◌, not, cond, ◌<◌, ◌≤◌, ◌+◌, length};
 ghost use Rattle.datatypes.specs.declared.Ending.TheVariants.{Balanced};
 ghost use Rattle.datatypes.specs.Side.{owner};

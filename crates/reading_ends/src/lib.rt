@@ -1,4 +1,6 @@
 // The end of a reading: the retired nodes found and released.
+#![tactic(auto)]
+
 ghost use Rattle.std.specs.Prelude.{◌≡◌, true, ◌<◌, ◌≤◌, ◌+◌, ◌*◌, eqb, length};
 ghost use Rattle.reading_ends.specs.Retired.{Bounded, Span, Width, Past, Next};
 ghost use Rattle.spec.specs.Numbers.{node_words, pool_limit, slots, word_bits};

@@ -4,6 +4,8 @@
 // A tree is lent as WORDS words: seven arrays one after another (keys, the low and the high words of the records, left, right, parent,
 // colour), each with a word for every node number, and then the words of the head. Node 0 is nil. A word past the end reads 0, and setting
 // one changes nothing.
+#![tactic(auto)]
+
 ghost use Rattle.std.specs.Prelude.{◌<◌};
 
 const SPAN: usize = 1024;

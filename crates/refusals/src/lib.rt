@@ -1,4 +1,6 @@
 // The tests that a call begins with: each answers the number of the first cause that holds, or 0.
+#![tactic(auto)]
+
 ghost use Rattle.std.specs.Prelude.{◌≡◌, ◌<◌, ◌≤◌, length};
 ghost use Rattle.spec.specs.Numbers.{pool_limit, slots};
 ghost use Rattle.spec.specs.Pool.{nodes};

@@ -1,4 +1,6 @@
 // The register: reader records and the write in hand made, the reading slots as a mask, the test of ranges.
+#![tactic(auto)]
+
 ghost use Rattle.std.specs.Prelude.{◌≡◌, cond, ◌&&◌};
 ghost use Rattle.spec.specs.Numbers.{slots, most_stores};
 ghost use Rattle.spec.specs.Register.{no_reader, begun_reader, moved_reader, remembering, counting, vacant, no_write, with_write};

@@ -1,6 +1,8 @@
 // The stores of a writer's turn that take a node out of the tree: unlink, promote, detach. Each function tries one store: it tests that the
 // nodes are there before it changes anything. In the drawings small letters are subtrees, and a subtree drawn twice is one, held by two
 // links.
+#![tactic(auto)]
+
 ghost use Rattle.std.specs.Prelude.{◌<◌, ◌≤◌, length};
 ghost use Rattle.datatypes.specs.declared.Step.TheVariants.{Unlink, Promote, Detach};
 ghost use Rattle.spec.specs.Numbers.{pool_limit};

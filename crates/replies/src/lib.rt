@@ -1,4 +1,6 @@
 // The replies of the calls, one maker for each kind of answer.
+#![tactic(auto)]
+
 ghost use Rattle.std.specs.Prelude.{◌≡◌};
 ghost use Rattle.spec.specs.Calls.{ok, wait, refused, accepts, writer_says, reader_says};
 

@@ -2,6 +2,8 @@
 // the free node that it takes, before it changes anything.
 // The drawings have the rising child on the left; l is the link from above, which holds the top C. Small letters are subtrees, and a
 // subtree drawn twice is one, held by two links. docs/PICTURES.md draws whole runs, with a reader.
+#![tactic(auto)]
+
 ghost use Rattle.std.specs.Prelude.{◌≡◌, true, ◌<◌, length};
 ghost use Rattle.datatypes.specs.declared.Step.TheVariants.{DiagLower, DiagRaise, ZigLowerA, ZigLowerC, ZigRaise};
 ghost use Rattle.spec.specs.Numbers.{pool_limit};

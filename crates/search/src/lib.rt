@@ -1,4 +1,6 @@
 // The search for a key.
+#![tactic(auto)]
+
 ghost use Rattle.std.specs.Prelude.{◌≡◌, ◌<◌};
 ghost use Rattle.spec.specs.Pool.{child};
 ghost use Rattle.spec.specs.Search.{towards, seek};

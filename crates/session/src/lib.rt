@@ -1,4 +1,6 @@
 // A run of the program trace: lines read from bytes, their commands run on the lent words, and what they print written to a buffer.
+#![tactic(auto)]
+
 ghost use Rattle.std.specs.Prelude.{◌≡◌, false, cond, List, ℕ, ◌≤◌, ◌<◌, ◌+◌, ◌-◌, ◌*◌, length, take};
 ghost use Rattle.spec.specs.Numbers.{node_words, pool_limit};
 ghost use Rattle.texts.specs.Line.{room};

@@ -1,5 +1,7 @@
 // The stores insert and adopt. Each function tries one store: it tests that the nodes are there, and the free node that it takes, before it changes
 // anything.
+#![tactic(auto)]
+
 ghost use Rattle.std.specs.Prelude.{◌≡◌, true, false, ◌<◌, length};
 ghost use Rattle.datatypes.specs.declared.Register.{Register};
 ghost use Rattle.datatypes.specs.declared.Side.TheVariants.{L};

@@ -1,4 +1,6 @@
 // Nodes taken from the free queue one after the other: whether the queue lasts (document 02, C-24). No node is taken here.
+#![tactic(auto)]
+
 ghost use Rattle.std.specs.Prelude.{◌≡◌, ◌<◌, ◌≤◌, length};
 ghost use Rattle.spec.specs.Numbers.{pool_limit};
 ghost use Rattle.spec.specs.Bulk.{next_free, free_after, runs_out};

@@ -1,4 +1,6 @@
 // The reader's turn to which a camera lends its tally (document 02, C-17).
+#![tactic(auto)]
+
 ghost use Rattle.std.specs.Prelude.{◌≡◌};
 ghost use Rattle.spec.specs.Register.{state};
 ghost use Rattle.spec.specs.Calls.{reader_says, reader_turn, turn_count};

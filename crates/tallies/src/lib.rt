@@ -1,4 +1,6 @@
 // A camera's tally after a reader's turn (document 02, C-17), by value.
+#![tactic(auto)]
+
 ghost use Rattle.std.specs.Prelude.{◌≡◌};
 ghost use Rattle.spec.specs.Calls.{reader_says};
 ghost use Rattle.spec.specs.Tally.{capped, greater, counted, answers, tallied};

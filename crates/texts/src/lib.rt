@@ -1,4 +1,6 @@
 // Text as bytes: a number and a word put into a buffer, with the byte that ends its field.
+#![tactic(auto)]
+
 ghost use Rattle.std.specs.Prelude.{◌≡◌, [], ◌∷◌, ◌++◌, ◌≤◌, ◌<◌, ◌+◌, length, replicate};
 ghost use Rattle.texts.specs.Put.{Put};
 ghost use Rattle.texts.specs.Ascii.{blank};

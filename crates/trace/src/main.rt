@@ -1,4 +1,6 @@
 // Runs the commands of standard input on the ticket index and prints a line for each call.
+#![tactic(auto)]
+
 ghost use Rattle.std.specs.Prelude.{◌≤◌, ◌<◌, ◌≡◌, length};
 ghost use Rattle.session.specs.Steps.{Sound};
 ghost use Rattle.page.specs.Sheets.{sheet_room};

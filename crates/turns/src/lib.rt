@@ -1,4 +1,6 @@
 // The writer's turn from its step on: the step tried, and what is left of the write in hand.
+#![tactic(auto)]
+
 ghost use Rattle.std.specs.Prelude.{◌≡◌, true, List, ℕ, ◌<◌, length};
 ghost use Rattle.spec.specs.Numbers.{pool_limit};
 ghost use Rattle.spec.specs.Register.{state, with_write, less_first, reading_slots};

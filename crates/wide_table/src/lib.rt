@@ -1,1 +1,3 @@
 // No code: the examples of wide records stand in specs/.
+#![tactic(auto)]
+
