@@ -13,7 +13,7 @@ use command_fields::Command;
 use datatypes::{Acceptance, Link, ReaderAnswer, WriterAnswer};
 
 // What a call answers: the cases of Answer (crate spec, Calls).
-#[derive(Drop)]
+#[derive(Clone, Copy)]
 pub enum Said {
     Ok,
     Go,

@@ -24,7 +24,7 @@ const KEY_STEP: u32 = 2_097_152;
 const LARGEST: u32 = 4_294_967_295;
 
 // A call drawn: its kind, and arguments for any kind.
-#[derive(Drop)]
+#[derive(Clone, Copy)]
 pub struct Call {
     pub kind: u32,
     pub slot: u32,
@@ -35,7 +35,7 @@ pub struct Call {
 
 // What most calls of a stretch are: more inserts than deletes or fewer, many readers or few; or, with few readers, deletes of held keys while there
 // are any, and then lists.
-#[derive(Drop)]
+#[derive(Clone, Copy)]
 pub struct Mood {
     pub growing: bool,
     pub busy: bool,

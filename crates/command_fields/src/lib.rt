@@ -6,7 +6,7 @@ ghost use Rattle.command_fields.specs.Commands.{with_none, with_one, with_two};
 ghost use Rattle.command_fields.specs.Taken.{with_digit, field_taken};
 
 // What a line asks for.
-#[derive(Drop)]
+#[derive(Clone, Copy)]
 pub enum Command {
     SetUp(u32),
     Insert(u32, u64),
@@ -22,7 +22,7 @@ pub enum Command {
 }
 
 // A field so far: no byte, digits that make a number, or anything else.
-#[derive(Drop)]
+#[derive(Clone, Copy)]
 pub enum Field {
     Empty,
     Number(u64),

@@ -9,7 +9,7 @@ ghost use Rattle.command_lines.specs.Cut.{cut_from, Onward, Ends};
 use command_fields::{Command, Field};
 
 // A line so far: no byte, its letter, one field or two after it, or what can't become a command.
-#[derive(Drop)]
+#[derive(Clone, Copy)]
 pub enum Reading {
     Fresh,
     Letter(u8),
@@ -51,20 +51,20 @@ fn two_read(l: u8, f: Field, g: Field) -> Command
 }
 
 // What the input gives up to its next newline or its end: a whole line's command, or the line so far; and the position after it.
-#[derive(Drop)]
+#[derive(Clone, Copy)]
 pub enum Piece {
     Whole(Command),
     Part(Reading),
 }
 
-#[derive(Drop)]
+#[derive(Clone, Copy)]
 pub struct Scanned {
     pub piece: Piece,
     pub next: usize,
 }
 
 // A field, and the position of the byte that ends it.
-#[derive(Drop)]
+#[derive(Clone, Copy)]
 struct Passed {
     field: Field,
     next: usize,

@@ -15,7 +15,7 @@ use datatypes::{ReaderReply, Register, Reply, WriterReply};
 use refusals::Tested;
 
 // What a command's call answers, and the register that it leaves.
-#[derive(Drop)]
+#[derive(Clone, Copy)]
 pub struct Called {
     pub said: Said,
     pub register: Register,
@@ -88,7 +88,7 @@ pub fn call(pool: &mut [u32], reg: Register, c: Command) -> Called
 }
 
 // What a command did: its answer, the register, and how many words are lent from now on.
-#[derive(Drop)]
+#[derive(Clone, Copy)]
 pub struct Performed {
     pub said: Said,
     pub register: Register,

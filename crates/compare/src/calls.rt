@@ -10,7 +10,7 @@ use lists::drawn::List;
 
 // A call made: the register after it, its answer's number, the key of next, and the record of found or next; the count in the reply of a
 // reader's turn, and the tally of the camera that made the call.
-#[derive(Drop)]
+#[derive(Clone, Copy)]
 pub struct Made {
     pub register: Register,
     pub number: u32,

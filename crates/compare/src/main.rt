@@ -83,7 +83,7 @@ fn make_call(
 }
 
 // a call made and compared, and the slots that read after it
-#[derive(Drop)]
+#[derive(Clone, Copy)]
 struct Compared {
     made: Made,
     reading: u32,

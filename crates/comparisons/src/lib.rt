@@ -12,7 +12,7 @@ use datatypes::Tally;
 
 // What a call is compared by: the free nodes, the row of the store in hand and the node of its slot before it, its answer, the count and the
 // tally of a reader's turn, the slot's count after it, and the register's numbers after it.
-#[derive(Drop)]
+#[derive(Clone, Copy)]
 pub struct Said {
     pub free_before: u32,
     pub row: usize,

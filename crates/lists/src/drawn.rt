@@ -22,7 +22,7 @@ const MORE_RECORDS: u32 = 9;
 const FAULT_DRAWS: u32 = 64;
 
 // A list: how many keys and how many records it has, and what is wrong with it.
-#[derive(Drop)]
+#[derive(Clone, Copy)]
 pub struct List {
     pub keys: u32,
     pub records: u32,

@@ -11,7 +11,7 @@ use drawn::List;
 const LARGEST: u32 = 4_294_967_295;
 
 // What a list is compared by beside the pool: the free nodes before and after it, and its answer.
-#[derive(Drop)]
+#[derive(Clone, Copy)]
 pub struct Said {
     pub free_before: u32,
     pub free: u32,

@@ -10,7 +10,7 @@ ghost use Rattle.lookups.specs.Looked.{look_of, load, look_at, look_from, Leaves
 use datatypes::{Head, Kind, Reader, ReaderAnswer, Side};
 
 // What a reader's turn answers, its record then, all 0 where its reading ended, and how many nodes the reading has compared.
-#[derive(Drop)]
+#[derive(Clone, Copy)]
 pub struct Looked {
     pub answer: ReaderAnswer,
     pub reader: Reader,

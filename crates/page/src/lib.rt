@@ -129,7 +129,7 @@ fn last_rank(ranks: &[u64], last: u64) -> u64
 }
 
 // A sheet put into a buffer: the position after it, and the rank of its last line.
-#[derive(Drop)]
+#[derive(Clone, Copy)]
 pub struct Sheet {
     pub next: usize,
     pub last: u64,

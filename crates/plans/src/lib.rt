@@ -15,7 +15,7 @@ ghost use Rattle.plans.specs.Pushed.{pushed, push_all};
 use datatypes::{Ending, Fixup, Form, Link, Register, Rotation, Side, Step, Store, Write};
 
 // What a write plans: whether all its steps find their nodes, and its stores as the write in hand.
-#[derive(Drop)]
+#[derive(Clone, Copy)]
 pub struct Planned {
     pub possible: bool,
     pub write: Write,

@@ -11,7 +11,7 @@ ghost use Rattle.refusals.specs.Slots.{words_in_range, tested_number, slot_index
 use datatypes::{Reader, Register};
 
 // What test 2 looks at: every word of the pool and the register, or the register alone.
-#[derive(Drop)]
+#[derive(Clone, Copy)]
 pub enum Tested {
     All,
     Register,

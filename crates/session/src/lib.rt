@@ -19,7 +19,7 @@ use datatypes::Register;
 
 // What is still to be written after an answer's line: nothing, so many of the pool's last nodes (T), or so many sheets of the page after the
 // line of a rank (L).
-#[derive(Drop)]
+#[derive(Clone, Copy)]
 pub enum Rest {
     Nothing,
     Nodes(usize),
@@ -28,7 +28,7 @@ pub enum Rest {
 
 // What a run keeps beside the register: the words lent (0 before the first accepted P), the calls so far, the line so far, what is still to
 // be written, whether an ill-formed line has ended it, and its positions in the input and in the output.
-#[derive(Drop)]
+#[derive(Clone, Copy)]
 pub struct Session {
     pub lent: usize,
     pub number: u64,
@@ -39,7 +39,7 @@ pub struct Session {
     pub at: usize,
 }
 
-#[derive(Drop)]
+#[derive(Clone, Copy)]
 pub struct Run {
     pub register: Register,
     pub session: Session,
@@ -104,7 +104,7 @@ fn to_write(words: &[u32], lent: usize, c: Command, said: Said) -> Rest
 }
 
 // A piece written: the position after it, and what is still to be written.
-#[derive(Drop)]
+#[derive(Clone, Copy)]
 struct Written {
     next: usize,
     rest: Rest,
@@ -192,7 +192,7 @@ fn part_line(s: Session, reading: Reading, next: usize) -> Session
 }
 
 // A step's session, and the command that is to be called next: Ill for none.
-#[derive(Drop)]
+#[derive(Clone, Copy)]
 struct Moved {
     session: Session,
     call: Command,
