@@ -102,6 +102,7 @@ find-changed t (deletion k) q u h =
     (λ o e. rw e (find-delete-other t k q h (ord-apart L q k o)))
     (λ o e. rw (e, o) (find-delete t k h))
     (λ o e. rw e (find-delete-other t k q h (λ i. ord-apart L k q o (sym i))))
+find-changed t (list_insertion ks vs) q u h = elim u [ ]
 
 pub find-changed_by : (t : Tree) (cs : List Change) (q : ℕ) → Singles cs → Proper t → find (changed_by t cs) q ≡ told_by cs q (find t q)
 find-changed_by t [] q u p = refl
@@ -123,3 +124,4 @@ key_of_change (list_insertion ks vs) = 0
 pub size-changed : (t : Tree) (c : Change) → Single c → Ordered t → size (changed t c) + count (find t (key_of_change c)) ≡ size t + count (find (changed t c) (key_of_change c))
 size-changed t (insertion k v) u h = rw (find-insert t k v h) (insert-writes t k v).sized
 size-changed t (deletion k) u h = held-case t k (λ e. rw (delete-same t k e)) (λ w e. rw (find-delete t k h, e) (delete-writes t k w e).sized)
+size-changed t (list_insertion ks vs) u h = elim u [ ]

@@ -49,6 +49,7 @@ occ-append m (x ∷ xs) ys = let e = occ-append m xs ys in omega arith
 pub in-occ : (m : ℕ) (xs : List ℕ) → m ∈ xs → 0 < occ m xs
 in-occ m (x ∷ xs) (inl e) = rw (← e, one_same m) (omega arith)
 in-occ m (x ∷ xs) (inr h) = let a = in-occ m xs h in omega arith
+in-occ m [] x' = elim x' [ ]
 
 pub occ-in : (m : ℕ) (xs : List ℕ) → 0 < occ m xs → m ∈ xs
 occ-in m [] h = absurd (omega arith)
