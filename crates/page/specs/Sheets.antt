@@ -11,7 +11,8 @@ use Rattle.spec.specs.Numbers.{pool_limit}
 use Rattle.datatypes.specs.declared.Side.TheVariants.{L, R}
 use Rattle.spec.specs.Pool.{word, key_word, record_at, child, nodes}
 use Rattle.texts.specs.Ascii.{blank, newline}
-use Rattle.texts.specs.Column.{right_in, right-length}
+use Rattle.texts.specs.Column.{right_in}
+use Rattle.texts.proofs.Column.{right-length}
 use Rattle.texts.specs.Decimal.{decimal}
 use Rattle.texts.specs.Put.{Put, PutPart, put_as, put_both, part_none, part-put, part-all}
 use Rattle.page_order.specs.Listed.{listed}
