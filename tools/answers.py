@@ -106,6 +106,8 @@ class Function:
                         self.said.append(f"new.{k} of {callee}")
                 return ["c", step[1]] + rest
             at = self.places[i][1]
+        if old.endswith("-lem"):
+            return self.read(place, [old[: -len("-lem")]] + fields[1:])
         return ["c"] + fields
 
     def turn(self, body, place, binder="c"):
@@ -229,6 +231,8 @@ def convert(crate, names, lent):
                 helpers.append("\n".join(comment + body))
                 continue
             old = norm(k.group(1))
+            if old not in f.needs and old.replace("-lem", "") in f.needs:
+                old = old.replace("-lem", "")
             if old not in f.needs:
                 b = " ".join(body[1:])
                 if not re.search(r"= search rules$", b):
