@@ -149,7 +149,9 @@ class Function:
                 return m.group(0)
             return ".".join(self.read(at, fields))
 
-        return pattern.sub(swap, body)
+        body = pattern.sub(swap, body)
+        # a test `!x` says of x itself whether it holds
+        return re.sub(r"\bnot-(?:true|false) _ (c\.if-not[\w-]*\.(?:true|false))", r"\1", body)
 
     def invariant(self, names, body):
         """The body of an invariant or a measure, over the record l of its loop's variables."""
