@@ -11,7 +11,4 @@ pub returns : goal.returns
 returns c =
     let a = c.args in
     let d = c.if-depth-eq0.false in
-    let b = c.Below-right in (
-      c.leftmost.ensures.0 ∙ rw c.child.ensures (sym (successor-below a.path.now a.depth a.pool.now _ a.b b.result (omega arith) b.ensures.0)),
-      c.leftmost.ensures.1,
-    )
+    let b = c.below_right-below in record { result_after = c.leftmost.ensures.result_after ∙ rw c.child.ensures (sym (successor-below a.path.now a.depth a.pool.now _ a.b b.result (omega arith) b.ensures.result_after)); upper_bound = c.leftmost.ensures.upper_bound }
