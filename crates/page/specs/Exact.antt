@@ -15,7 +15,7 @@ use Rattle.texts.specs.Decimal.{decimal}
 use Rattle.texts.specs.Column.{right_in}
 use Rattle.texts.proofs.Column.{right-number}
 use Rattle.page_order.specs.Listed.{listed}
-use Rattle.page_order.specs.Order.{listed-order}
+use Rattle.page_order.proofs.Order.{listed-order}
 use Rattle.page.specs.Page.{node_width, key_width, record_width, link_width}
 
 -- in the column stand blanks and then all digits of the number

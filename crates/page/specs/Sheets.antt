@@ -17,7 +17,8 @@ use Rattle.texts.specs.Decimal.{decimal}
 use Rattle.texts.specs.Put.{Put, PutPart, put_as, put_both, part_none, part-put, part-all}
 use Rattle.page_order.specs.Listed.{listed}
 use Rattle.page_order.specs.Ranks.{rank_base, node_of, Rising, ranks_after}
-use Rattle.page_order.specs.Laws.{last_or, last-least, after-rising, after_next, ranks-listed, lines-most}
+use Rattle.page_order.specs.Laws.{last_or, last-least, lines-most}
+use Rattle.page_order.proofs.Laws.{after-rising, after_next, ranks-listed}
 use Rattle.page.specs.Page.{node_width, key_width, record_width, colour_width, link_width, gap_width, column, columns, head_line, colour_letter, page_line, sheet_lines, form_feed, page_lines, page}
 
 -- the lines of these nodes
