@@ -13,11 +13,11 @@ import re
 import subprocess
 import sys
 
-STEM = re.compile(r"(?<![\w'.-])(%s)((?:\.before)*)((?:\.(?!before\b)[\w'-]+)*)")
+STEM = re.compile(r"(?<![\w'.-])(%s)((?:\.before)*)((?:\.(?!before\b)[\w'«»-]+)*)")
 
 
 def norm(name):
-    return re.sub(r"^overflow-", "", name.replace("_", "-")).lower()
+    return re.sub(r"^overflow-", "", name.replace("_", "-").strip("«»")).lower()
 
 
 def names_of(crate):
@@ -35,7 +35,7 @@ def params():
     """The parameters of each function that are lent to be changed, and the names of its clauses, by crate and name."""
     found = {}
     for folder, _, files in os.walk("crates"):
-        if "/src" not in folder:
+        if "/src" not in folder or "/out/" in folder:
             continue
         for f in files:
             if f.endswith(".rt"):
@@ -67,9 +67,10 @@ class Function:
 
     def up(self, place, n):
         for _ in range(n):
-            place = self.places[self.index[place]][1]
-            if place is None:
-                return None
+            above = self.places[self.index[place]][1]
+            if above is None:
+                return place
+            place = above
         return place
 
     def loop_new(self, old):
@@ -123,7 +124,7 @@ class Function:
             at = self.places[i][1]
         if old.endswith("-lem"):
             return self.read(place, [old[: -len("-lem")]] + fields[1:])
-        return ["c"] + fields
+        return ["c", fields[0].replace("well-formed", "well_formed")] + fields[1:]
 
     def turn(self, body, place, binder="c"):
         """The body of an answer at a place, with each path of records flat."""
