@@ -43,7 +43,7 @@ def params():
                 crate = folder.split("/")[1]
                 for m in re.finditer(r"\bfn (\w+)\s*\(([^)]*)\)([^{]*\n(?:    (?:requires|ensures)[^\n]*\n|      [^\n]*\n)*)", t):
                     clauses = {k: re.findall(rf"^    {k} (\w+) \{{", m.group(3), re.M) for k in ("requires", "ensures")}
-                    found[crate, m.group(1)] = (re.findall(r"(\w+): &mut", m.group(2)), clauses)
+                    found[crate, m.group(1)] = (re.findall(r"(\w+): &mut", m.group(2)), clauses, re.findall(r"(\w+): &", m.group(2)))
     return found
 
 
@@ -63,7 +63,7 @@ class Function:
     def callee(self, path):
         """What `params` says of the function that a place calls."""
         parts = (path or "").split("::")
-        return self.lent.get((parts[0], parts[-1]), ([], {"requires": [], "ensures": []}))
+        return self.lent.get((parts[0], parts[-1]), ([], {"requires": [], "ensures": []}, []))
 
     def up(self, place, n):
         for _ in range(n):
@@ -116,6 +116,10 @@ class Function:
                         rest = ["new", muts[k]] + rest[2:]
                     else:
                         self.said.append(f"new.{k} of {callee}")
+                if rest[:1] == ["auto"] and len(rest) > 1 and rest[1].isdigit():
+                    lent = self.callee(self.places[i][3])[2]
+                    if int(rest[1]) < len(lent):
+                        rest = ["auto", lent[int(rest[1])]] + rest[2:]
                 if rest[:1] == ["ensures"] and len(rest) > 1 and rest[1].isdigit():
                     names = self.callee(self.places[i][3])[1]["ensures"]
                     if names:
@@ -175,7 +179,7 @@ class Function:
         called = {p[2][1]: p[3] for p in self.places if p[3]}
         for m in list(re.finditer(r"let ([\w']+) = c\.([\w-]+)(\.ensures)? in", body)):
             name, step, whole = m.groups()
-            muts, clauses = self.callee(called.get(step))
+            muts, clauses, _ = self.callee(called.get(step))
             at = r"(?<![\w'.-])" + re.escape(name)
             for i, clause in enumerate(clauses["ensures"]):
                 head = at + (r"\." if whole else r"\.ensures\.") + str(i) + r"(?![\w])"

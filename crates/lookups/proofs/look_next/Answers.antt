@@ -14,7 +14,7 @@ returns-then-x-held c =
     let w = c.word-held in
     let p = a.pool.now in
     let less = lt-ltb _ _ c.if-x-held.true in
-    let y : c.remembering-y.result ≡ after_comparing p a.x = c.remembering-y.ensures ∙ rw (← w.ensures, less, c.before.before.before.«record».ensures) in
+    let y : c.remembering-y.result ≡ after_comparing p a.x = c.remembering-y.ensures ∙ rw (← w.ensures, less, c.record-record.ensures) in
     let n : c.child.result ≡ child p (towards p a.x.key a.x.node) a.x.node = c.child.ensures ∙ rw (← w.ensures, less) in
     c.load.ensures ∙ ap (λ (z : Reader). load z c.child.result) y ∙ ap (λ (m : ℕ). load (after_comparing p a.x) m) n
 

@@ -4,7 +4,7 @@ use Rattle.lookups.proofs.look_up.Goals as goal
 pub returns-then-x-held : goal.returns-then-x-held
 returns-then-x-held c =
     let w = c.word-held in
-    rw (← w.ensures, eq-eqb _ _ c.if-x-held.true, c.no_reader-reader.ensures, c.before.«record».ensures)
+    rw (← w.ensures, eq-eqb _ _ c.if-x-held.true, c.no_reader-reader.ensures, c.record-record.ensures)
 
 pub returns : goal.returns
 returns c =
