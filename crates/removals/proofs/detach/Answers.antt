@@ -28,7 +28,7 @@ returns-then-not-found c =
 
 pub colour_and_retire-head-requires : goal.colour_and_retire-head-requires
 colour_and_retire-head-requires c =
-    (omega (arith, c.requires, c.set_link-stored.auto.0), omega (arith, c.successor_path-depth.ensures.upper_bound, c.successor_path-depth.auto.1.1.0, c.path_to-above.auto.1.1.1.1.0))
+    (omega (arith, c.requires, c.set_link-stored.auto.pool), omega (arith, c.successor_path-depth.ensures.upper_bound, c.successor_path-depth.auto.path, c.path_to-above.auto.path))
 
 pub returns : goal.returns
 unfolding step_finds step_made detach_store

@@ -29,7 +29,7 @@ pub colour_and_retire-head-requires : goal.colour_and_retire-head-requires
 colour_and_retire-head-requires c = (
   omega (
     arith,
-    c.store_successor-less.auto.0,
+    c.store_successor-less.auto.pool,
     (c.requires),
   ),
   search rules,

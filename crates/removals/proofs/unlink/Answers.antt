@@ -27,7 +27,7 @@ pub colour_and_retire-head-requires : goal.colour_and_retire-head-requires
 colour_and_retire-head-requires c = (
   omega (
     arith,
-    c.store_one_less-less.auto.0,
+    c.store_one_less-less.auto.pool,
     c.requires,
   ),
   search rules,
