@@ -43,7 +43,7 @@ def params():
                 crate = folder.split("/")[1]
                 for m in re.finditer(r"\bfn (\w+)\s*\(([^)]*)\)([^{]*\n(?:    (?:requires|ensures)[^\n]*\n|      [^\n]*\n)*)", t):
                     clauses = {k: re.findall(rf"^    {k} (\w+) \{{", m.group(3), re.M) for k in ("requires", "ensures")}
-                    found[crate, m.group(1)] = (re.findall(r"(\w+): &mut", m.group(2)), clauses, re.findall(r"(\w+): &", m.group(2)))
+                    found[crate, m.group(1)] = (re.findall(r"(\w+): &mut", m.group(2)), clauses, re.findall(r"(\w+): &", m.group(2)), re.findall(r"(\w+): ", m.group(2)))
     return found
 
 
@@ -63,7 +63,7 @@ class Function:
     def callee(self, path):
         """What `params` says of the function that a place calls."""
         parts = (path or "").split("::")
-        return self.lent.get((parts[0], parts[-1]), ([], {"requires": [], "ensures": []}, []))
+        return self.lent.get((parts[0], parts[-1]), ([], {"requires": [], "ensures": []}, [], []))
 
     def up(self, place, n):
         for _ in range(n):
@@ -171,6 +171,13 @@ class Function:
             return ".".join(self.read(at, fields))
 
         body = self.steps_named(pattern.sub(swap, body))
+        # a parameter that had no name
+        mine = self.callee(f"{self.crate}::{self.folder.split('/')[-1]}")[3]
+        body = re.sub(r"\bc\.args\.t([1-9])(?![\w])", lambda m: f"c.args.{mine[int(m.group(1)) - 1]}" if int(m.group(1)) <= len(mine) else m.group(0), body)
+        for m in re.finditer(r"let ([\w']+) = c\.args in", body):
+            body = re.sub(r"(?<![\w'.-])" + re.escape(m.group(1)) + r"\.t([1-9])(?![\w])", lambda k: f"{m.group(1)}.{mine[int(k.group(1)) - 1]}" if int(k.group(1)) <= len(mine) else k.group(0), body)
+        if os.environ.get("KEEP_NOT"):
+            return body
         # a test `!x` says of x itself whether it holds
         return re.sub(r"\bnot-(?:true|false) _ (c\.if-not[\w-]*\.(?:true|false))", r"\1", body)
 
@@ -179,7 +186,7 @@ class Function:
         called = {p[2][1]: p[3] for p in self.places if p[3]}
         for m in list(re.finditer(r"let ([\w']+) = c\.([\w-]+)(\.ensures)? in", body)):
             name, step, whole = m.groups()
-            muts, clauses, _ = self.callee(called.get(step))
+            muts, clauses, _, _ = self.callee(called.get(step))
             at = r"(?<![\w'.-])" + re.escape(name)
             for i, clause in enumerate(clauses["ensures"]):
                 head = at + (r"\." if whole else r"\.ensures\.") + str(i) + r"(?![\w])"
