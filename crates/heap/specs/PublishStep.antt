@@ -205,7 +205,7 @@ module _ (st : State) (G : Tree) (d : Double) (gs : List Frame) (h : At st d.way
   stores-of black red q = let z : ◌≡◌ {A = ℕ} 0 1 = cc in absurd (omega arith)
 
   stores : map (moved_store (link_node st (link_to fs)) n) (store (link_to fs) (Detach B.key) ∷ removal_stores f C y old) ≡ store (link_to fs) (Detach B.key) ∷ removal_stores g C y W
-  stores = rw (top.is, moved-link B.num n top.words.within.low ren-fs, stores-of (g C.num) (f C.num) g_c)
+  stores = rw (top.is, moved-link B.num n top.words.within.low ren-fs) (ap (λ xs. store (link_to fs) (Detach B.key) ∷ xs) (stores-of (g C.num) (f C.num) g_c))
 
   told : Told G (plug fs (published d gs n))
   told =
