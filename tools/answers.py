@@ -13,11 +13,11 @@ import re
 import subprocess
 import sys
 
-STEM = re.compile(r"(?<![\w'.-])(%s)((?:\.before)*)((?:\.(?!before\b)[\w'-]+)*)")
+STEM = re.compile(r"(?<![\w'.-])(%s)((?:\.before)*)((?:\.(?!before\b)[\w'«»-]+)*)")
 
 
 def norm(name):
-    return re.sub(r"^overflow-", "", name.replace("_", "-")).lower()
+    return re.sub(r"^overflow-", "", name.replace("_", "-").strip("«»")).lower()
 
 
 def names_of(crate):
@@ -35,7 +35,7 @@ def params():
     """The parameters of each function that are lent to be changed, and the names of its clauses, by crate and name."""
     found = {}
     for folder, _, files in os.walk("crates"):
-        if "/src" not in folder:
+        if "/src" not in folder or "/out/" in folder:
             continue
         for f in files:
             if f.endswith(".rt"):
@@ -43,7 +43,7 @@ def params():
                 crate = folder.split("/")[1]
                 for m in re.finditer(r"\bfn (\w+)\s*\(([^)]*)\)([^{]*\n(?:    (?:requires|ensures)[^\n]*\n|      [^\n]*\n)*)", t):
                     clauses = {k: re.findall(rf"^    {k} (\w+) \{{", m.group(3), re.M) for k in ("requires", "ensures")}
-                    found[crate, m.group(1)] = (re.findall(r"(\w+): &mut", m.group(2)), clauses)
+                    found[crate, m.group(1)] = (re.findall(r"(\w+): &mut", m.group(2)), clauses, re.findall(r"(\w+): &", m.group(2)), re.findall(r"(\w+): ", m.group(2)))
     return found
 
 
@@ -63,13 +63,14 @@ class Function:
     def callee(self, path):
         """What `params` says of the function that a place calls."""
         parts = (path or "").split("::")
-        return self.lent.get((parts[0], parts[-1]), ([], {"requires": [], "ensures": []}))
+        return self.lent.get((parts[0], parts[-1]), ([], {"requires": [], "ensures": []}, [], []))
 
     def up(self, place, n):
         for _ in range(n):
-            place = self.places[self.index[place]][1]
-            if place is None:
-                return None
+            above = self.places[self.index[place]][1]
+            if above is None:
+                return place
+            place = above
         return place
 
     def loop_new(self, old):
@@ -115,6 +116,10 @@ class Function:
                         rest = ["new", muts[k]] + rest[2:]
                     else:
                         self.said.append(f"new.{k} of {callee}")
+                if rest[:1] == ["auto"] and len(rest) > 1 and rest[1].isdigit():
+                    lent = self.callee(self.places[i][3])[2]
+                    if int(rest[1]) < len(lent):
+                        rest = ["auto", lent[int(rest[1])]] + rest[2:]
                 if rest[:1] == ["ensures"] and len(rest) > 1 and rest[1].isdigit():
                     names = self.callee(self.places[i][3])[1]["ensures"]
                     if names:
@@ -123,7 +128,7 @@ class Function:
             at = self.places[i][1]
         if old.endswith("-lem"):
             return self.read(place, [old[: -len("-lem")]] + fields[1:])
-        return ["c"] + fields
+        return ["c", fields[0].replace("well-formed", "well_formed")] + fields[1:]
 
     def turn(self, body, place, binder="c"):
         """The body of an answer at a place, with each path of records flat."""
@@ -166,6 +171,13 @@ class Function:
             return ".".join(self.read(at, fields))
 
         body = self.steps_named(pattern.sub(swap, body))
+        # a parameter that had no name
+        mine = self.callee(f"{self.crate}::{self.folder.split('/')[-1]}")[3]
+        body = re.sub(r"\bc\.args\.t([1-9])(?![\w])", lambda m: f"c.args.{mine[int(m.group(1)) - 1]}" if int(m.group(1)) <= len(mine) else m.group(0), body)
+        for m in re.finditer(r"let ([\w']+) = c\.args in", body):
+            body = re.sub(r"(?<![\w'.-])" + re.escape(m.group(1)) + r"\.t([1-9])(?![\w])", lambda k: f"{m.group(1)}.{mine[int(k.group(1)) - 1]}" if int(k.group(1)) <= len(mine) else k.group(0), body)
+        if os.environ.get("KEEP_NOT"):
+            return body
         # a test `!x` says of x itself whether it holds
         return re.sub(r"\bnot-(?:true|false) _ (c\.if-not[\w-]*\.(?:true|false))", r"\1", body)
 
@@ -174,7 +186,7 @@ class Function:
         called = {p[2][1]: p[3] for p in self.places if p[3]}
         for m in list(re.finditer(r"let ([\w']+) = c\.([\w-]+)(\.ensures)? in", body)):
             name, step, whole = m.groups()
-            muts, clauses = self.callee(called.get(step))
+            muts, clauses, _, _ = self.callee(called.get(step))
             at = r"(?<![\w'.-])" + re.escape(name)
             for i, clause in enumerate(clauses["ensures"]):
                 head = at + (r"\." if whole else r"\.ensures\.") + str(i) + r"(?![\w])"

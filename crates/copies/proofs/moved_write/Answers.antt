@@ -8,7 +8,7 @@ use borrow.Author.Rules.{rules}
 use Rattle.copies.proofs.moved_write.Goals as goal
 
 pub loop-i-init : goal.loop-i-init
-loop-i-init c = (search rules, refl, simp length-map at c.well-formed.1.1.0.1.1.1.0.1.0.1, map-all (moved_store c.args.b c.args.n) c.args.w.stores)
+loop-i-init c = (search rules, refl, search rules, map-all (moved_store c.args.b c.args.n) c.args.w.stores)
 
 pub loop-i-preserved : goal.loop-i-preserved
 loop-i-preserved c =

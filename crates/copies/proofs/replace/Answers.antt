@@ -10,31 +10,25 @@ use Rattle.copies.proofs.replace.Goals as goal
 pub returns-then-b-eq0 : goal.returns-then-b-eq0
 unfolding step_finds
 returns-then-b-eq0 c =
-    let c5 = c.before.before.before.before.before in
-    let a = c5.args in λ q r. let st : State = at a.pool.now a.h q in
+    let a = c.args in λ q r. let st : State = at a.pool.now a.h q in
     let e : link_node st a.l ≡ 0 = rw (← c.node_at-b.ensures) c.if-b-eq0.true in
     tells-missed a.pool.now a.h a.l (Replace a.v) q c.missed.result (no_node (link_node st a.l) _ e) c.missed.ensures
 
 pub returns-then-first-eq0 : goal.returns-then-first-eq0
 unfolding step_finds
 returns-then-first-eq0 c =
-    let c6 = c.before.before.before.before.before.before in
-    let a = c6.args in λ q r. let st : State = at a.pool.now a.h q in
+    let a = c.args in λ q r. let st : State = at a.pool.now a.h q in
     tells-missed a.pool.now a.h a.l (Replace a.v) q c.missed-then-first-eq0.result (no-free st (link_node st a.l) c.if-first-eq0.true) c.missed-then-first-eq0.ensures
 
 pub retire-head-requires : goal.retire-head-requires
 retire-head-requires c =
-    let c22 = c7.before.before.before.before.before.before.before.before.before.before.before.before.before.before.before in
-    omega (arith, c22.requires.0, c.take_node-copied.auto, c.set_link-linked.auto)
+    omega (arith, c.requires.0, c.take_node-copied.auto, c.set_link-linked.auto)
 
 pub returns : goal.returns
 unfolding step_finds step_made replace_store
 returns c =
-    let c21 = c20.before in
-    let c22 = c21.before in
-    let c25 = c22.before.before.before in
-    let a = c25.args in λ q r. let st : State = at a.pool.now a.h q in
-    let d : link_node st a.l ≡ 0 → ⊥ = rw (← c22.node_at.ensures) c21.if1.false in
+    let a = c.args in λ q r. let st : State = at a.pool.now a.h q in
+    let d : link_node st a.l ≡ 0 → ⊥ = rw (← c.node_at-b.ensures) c.if-b-eq0.false in
     tells-made a.pool.now a.h a.l (Replace a.v) q _ _ (takes-node st (link_node st a.l) d c.if-first-eq0.false) refl
     (rw (
       c.retire-head.ensures q r,
@@ -44,5 +38,5 @@ returns c =
       c.child-y.ensures,
       c.child-x.ensures,
       c.word-k.ensures,
-      c22.node_at.ensures,
+      c.node_at-b.ensures,
     ))

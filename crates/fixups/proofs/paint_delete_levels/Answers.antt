@@ -14,9 +14,8 @@ returns-then-d-eq0 c = let l = c.loop-e in sym (paint-delete_fixup-out l.e l.poo
 
 pub loop-e-preserved : goal.loop-e-preserved
 loop-e-preserved c =
-    let c15 = c12.before.before.before in
     let l = c.loop-e in
-    let a = c15.args in
+    let a = c.args in
     let g = c.loop-e-test.true in
     let h = c.if-d-eq0.false in (
       omega arith,

@@ -14,9 +14,8 @@ returns-then-d-lt2 c = let l = c.loop-e in sym (paint-insert_fixup-out l.e l.poo
 
 pub loop-e-preserved : goal.loop-e-preserved
 loop-e-preserved c =
-    let c18 = c15.before.before.before in
     let l = c.loop-e in
-    let a = c18.args in
+    let a = c.args in
     let g = c.loop-e-test.true in
     let h = c.if-d-lt2.false in (
       omega arith,

@@ -10,7 +10,7 @@ use mathlib.Core.Path.{refl, sym, ◌∙◌}
 use Rattle.reading_ends.proofs.end_reading.Goals as goal
 
 pub loop-n-init : goal.loop-n-init
-loop-n-init c = let x = c.next_retired-n.ensures in let a = c.before.before.before.before.args in
+loop-n-init c = let x = c.next_retired-n.ensures in let a = c.args in
     (omega (arith, x.up_to.low), x.up_to.high, refl, x.here, λ q. sym (skip a.s 1 c.next_retired-n.result _ (at a.pool.now _ q) x.up_to))
 
 pub release-r-requires : goal.release-r-requires
@@ -21,11 +21,10 @@ loop-n-smaller c = omega (arith, c.following_retired-n.ensures.up_to.low)
 
 pub loop-n-preserved : goal.loop-n-preserved
 loop-n-preserved c =
-    let c12 = c7.before.before.before.before.before in
     let x = c.following_retired-n.ensures in
     let e = c.release-r in
     let l = c.loop-n in
-    let s = c12.args.s in (
+    let s = c.args.s in (
       omega (arith, x.up_to.low),
       x.up_to.high,
       search rules,
@@ -36,6 +35,6 @@ loop-n-preserved c =
 
 pub returns : goal.returns
 unfolding end_reading with_reader with_awaited
-returns c = λ q. let l = c.loop-n in let a = c.before.before.before.before.before.before.args in
+returns c = λ q. let l = c.loop-n in let a = c.args in
     sym (fold_end (release a.s) l.n _ (at l.pool l.r (with_reader q a.s no_reader)) (omega arith))
     ∙ (l.invariant.4 (with_reader q a.s no_reader) ∙ rw c.drop_slot.ensures)

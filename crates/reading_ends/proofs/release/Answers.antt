@@ -5,11 +5,9 @@ use Rattle.reading_ends.proofs.release.Goals as goal
 pub returns-then-left-eq0 : goal.returns-then-left-eq0
 unfolding release
 returns-then-left-eq0 c =
-    let c9 = c6.before.before.before in
-    λ q. rw (c9.requires.2, ← c.word.ensures, ← c.drop_slot-left.ensures, eq-eqb _ _ c.if-left-eq0.true) (c.free_node.ensures q)
+    λ q. rw (c.requires.2, ← c.word.ensures, ← c.drop_slot-left.ensures, eq-eqb _ _ c.if-left-eq0.true) (c.free_node.ensures q)
 
 pub returns : goal.returns
 unfolding release
 returns c =
-    let c9 = c6.before.before.before in
-    λ q. rw (c9.requires.2, ← c.word.ensures, ← c.drop_slot-left.ensures, ne_eqb _ _ c.if-left-eq0.false, c.set_word.ensures)
+    λ q. rw (c.requires.2, ← c.word.ensures, ← c.drop_slot-left.ensures, ne_eqb _ _ c.if-left-eq0.false, c.set_word.ensures)
