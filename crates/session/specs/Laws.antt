@@ -2,8 +2,6 @@
 use Rattle.std.specs.Prelude.{ℕ, suc, ◌+◌, ◌-◌, ◌*◌, ◌≤◌, ◌<◌, ◌≡◌, refl, Bool, true, false, cond, List, [], ◌∷◌, ◌++◌, ◌⊎◌, eqb, length, take}
 use Rattle.std.proofs.Common.{sym, ap, ◌∙◌, append-nil, append_assoc, inl, inr, ⊎_elim, arith, drop-drop, length-take-le}
 use Rattle.std.proofs.lemmas.Bool.{false≢true}
-use types.Run.{OneOf, miss}
-use denote.Enum.Declared.{tag_of}
 use Rattle.std.proofs.Math.ListN.{drop}
 use Rattle.base.specs.Walk.{cond_both}
 use Rattle.datatypes.specs.declared.Register.{Register}
@@ -12,7 +10,6 @@ use Rattle.spec.specs.Pool.{nodes}
 use Rattle.texts.specs.Ascii.{newline}
 use Rattle.texts.specs.Line.{room}
 use Rattle.texts.specs.Put.{Put, PutPart, part_none, part-put, part-both, part-before}
-use Rattle.command_fields.specs.contracts.Command.{the_type}
 use Rattle.command_fields.specs.declared.Command.{Command}
 use Rattle.command_fields.specs.declared.Command.TheVariants as command
 use Rattle.command_fields.specs.Commands.{is_ill}
@@ -321,8 +318,8 @@ module _ (input words : List ℕ) (register : Register) (s : Session) {out : Lis
           prints = λ later. part-both (r.prints later) (call-prints input words' register' t u c words'' register'' v i w q f later);
         }
 
--- a command that isn't the last of its enum is not ill-formed
-pub not-ill : (c : Command) → OneOf (0 ∷ 1 ∷ 2 ∷ 3 ∷ 4 ∷ 5 ∷ 6 ∷ 7 ∷ 8 ∷ 9 ∷ []) (tag_of the_type c) → is_ill c ≡ false
+-- a command other than Ill is not ill-formed
+pub not-ill : (c : Command) → (c ≡ command.Ill → ⊥) → is_ill c ≡ false
 not-ill (command.SetUp n) h = refl
 not-ill (command.Insert k v) h = refl
 not-ill (command.Delete k) h = refl
@@ -333,4 +330,4 @@ not-ill (command.Turn s) h = refl
 not-ill (command.GiveUp s) h = refl
 not-ill command.Show h = refl
 not-ill command.Page h = refl
-not-ill command.Ill h = absurd (miss (0 ∷ 1 ∷ 2 ∷ 3 ∷ 4 ∷ 5 ∷ 6 ∷ 7 ∷ 8 ∷ 9 ∷ []) 10 tt h)
+not-ill command.Ill h = absurd (h refl)

@@ -6,10 +6,8 @@ use Rattle.spec.specs.Pool.{nodes}
 use Rattle.texts.specs.Line.{room}
 use Rattle.texts.specs.Put.{Put, PutPart}
 use Rattle.command_fields.specs.declared.Command.{Command}
-use Rattle.command_fields.specs.declared.Command.TheVariants as command
 use Rattle.command_lines.specs.declared.Reading.{Reading}
 use Rattle.command_lines.specs.declared.Reading.TheVariants.{Fresh, Letter, One, Two, Ill}
-use Rattle.command_lines.specs.declared.Piece.TheVariants.{Part}
 use Rattle.command_fields.specs.Commands.{is_ill}
 use Rattle.answer_lines.specs.Text.{letter_of, line_of}
 use Rattle.node_lines.specs.Shown.{shown_from}
