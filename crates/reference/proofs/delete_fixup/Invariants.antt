@@ -1,6 +1,4 @@
-use mathlib.Core.Path.{◌≡◌}
-use Prim.Native.Nat.{◌-◌}
-use lib.ListN.{length}
+use Rattle.std.proofs.Common.{◌≡◌, ◌-◌, length}
 use Rattle.reference.proofs.delete_fixup.Given as goal
 
 abbrev pub invariant-loop-turns : goal.invariant-loop-turns

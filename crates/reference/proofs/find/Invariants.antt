@@ -1,4 +1,4 @@
-use Prim.Native.Nat.{◌-◌, ◌≤◌}
+use Rattle.std.proofs.Common.{◌-◌, ◌≤◌}
 use Rattle.reference.proofs.find.Given as goal
 
 abbrev pub invariant-loop-turns : goal.invariant-loop-turns

@@ -1,4 +1,4 @@
-use Prim.Native.Nat.{◌-◌, ◌≤◌}
+use Rattle.std.proofs.Common.{◌-◌, ◌≤◌}
 use Rattle.walks.proofs.all_holders_right.Given as goal
 
 abbrev pub invariant-loop-n : goal.invariant-loop-n

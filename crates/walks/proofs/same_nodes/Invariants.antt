@@ -1,6 +1,4 @@
-use mathlib.Core.Path.{◌≡◌}
-use Prim.Native.Nat.{◌-◌}
-use lib.ListN.{length}
+use Rattle.std.proofs.Common.{◌≡◌, ◌-◌, length}
 use Rattle.walks.proofs.same_nodes.Given as goal
 
 abbrev pub invariant-loop-head : goal.invariant-loop-head
