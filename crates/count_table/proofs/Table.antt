@@ -1,5 +1,5 @@
 -- Every entry of the tables of counts passes, computed over the definitions of crate spec as those of crate table are.
-use Rattle.std.specs.Prelude.{◌≡◌, refl, true}
+use Rattle.std.proofs.Common.{◌≡◌, refl, true}
 use Rattle.base.specs.Walk.{all_from, all_in, fold_from, fold_in}
 use Rattle.spec.specs.Pool.{word, set_word, record_at, node_in_range, pool_in_range, length_right, fresh_nodes, fresh_pool}
 use Rattle.spec.specs.Register.{with_root, with_queue, with_held, with_reader, with_awaited, with_write, node_at, set_link}
