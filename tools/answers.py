@@ -13,11 +13,11 @@ import re
 import subprocess
 import sys
 
-STEM = re.compile(r"(?<![\w'.-])(%s)((?:\.before)*)((?:\.(?!before\b)[\w'-]+)*)")
+STEM = re.compile(r"(?<![\w'.-])(%s)((?:\.before)*)((?:\.(?!before\b)[\w'«»-]+)*)")
 
 
 def norm(name):
-    return re.sub(r"^overflow-", "", name.replace("_", "-"))
+    return re.sub(r"^overflow-", "", name.replace("_", "-").strip("«»")).lower()
 
 
 def names_of(crate):
@@ -32,16 +32,18 @@ def names_of(crate):
 
 
 def params():
-    """The parameters of each function that are lent to be changed, by the function's last name."""
+    """The parameters of each function that are lent to be changed, and the names of its clauses, by crate and name."""
     found = {}
     for folder, _, files in os.walk("crates"):
-        if "/src" not in folder:
+        if "/src" not in folder or "/out/" in folder:
             continue
         for f in files:
             if f.endswith(".rt"):
                 t = open(os.path.join(folder, f), encoding="utf-8").read()
-                for m in re.finditer(r"\bfn (\w+)\s*\(([^)]*)\)", t):
-                    found.setdefault(m.group(1), re.findall(r"(\w+): &mut", m.group(2)))
+                crate = folder.split("/")[1]
+                for m in re.finditer(r"\bfn (\w+)\s*\(([^)]*)\)([^{]*\n(?:    (?:requires|ensures)[^\n]*\n|      [^\n]*\n)*)", t):
+                    clauses = {k: re.findall(rf"^    {k} (\w+) \{{", m.group(3), re.M) for k in ("requires", "ensures")}
+                    found[crate, m.group(1)] = (re.findall(r"(\w+): &mut", m.group(2)), clauses, re.findall(r"(\w+): &", m.group(2)), re.findall(r"(\w+): ", m.group(2)))
     return found
 
 
@@ -58,11 +60,17 @@ class Function:
         self.loops = lts["loops"]
         self.said = []
 
+    def callee(self, path):
+        """What `params` says of the function that a place calls."""
+        parts = (path or "").split("::")
+        return self.lent.get((parts[0], parts[-1]), ([], {"requires": [], "ensures": []}, [], []))
+
     def up(self, place, n):
         for _ in range(n):
-            place = self.places[self.index[place]][1]
-            if place is None:
-                return None
+            above = self.places[self.index[place]][1]
+            if above is None:
+                return place
+            place = above
         return place
 
     def loop_new(self, old):
@@ -76,7 +84,11 @@ class Function:
         if not fields:
             return None
         old = norm(fields[0])
-        at = place
+        if old == "requires" and len(fields) > 1 and fields[1].isdigit():
+            names = self.callee(f"{self.crate}::{self.folder.split('/')[-1]}")[1]["requires"]
+            if names:
+                return ["c", "requires", names[int(fields[1])]] + fields[2:]
+        at = self.goal
         while at is not None:
             i = self.index[at]
             step = self.places[i][2]
@@ -98,19 +110,30 @@ class Function:
                 rest = fields[1:]
                 if rest[:1] == ["new"] and len(rest) > 1 and rest[1].isdigit():
                     callee = self.places[i][3]
-                    muts = self.lent.get((callee or "").split("::")[-1], [])
+                    muts = self.callee(callee)[0]
                     k = int(rest[1])
                     if k < len(muts):
                         rest = ["new", muts[k]] + rest[2:]
                     else:
                         self.said.append(f"new.{k} of {callee}")
+                if rest[:1] == ["auto"] and len(rest) > 1 and rest[1].isdigit():
+                    lent = self.callee(self.places[i][3])[2]
+                    if int(rest[1]) < len(lent):
+                        rest = ["auto", lent[int(rest[1])]] + rest[2:]
+                if rest[:1] == ["ensures"] and len(rest) > 1 and rest[1].isdigit():
+                    names = self.callee(self.places[i][3])[1]["ensures"]
+                    if names:
+                        rest = ["ensures", names[int(rest[1])]] + rest[2:]
                 return ["c", step[1]] + rest
             at = self.places[i][1]
-        return ["c"] + fields
+        if old.endswith("-lem"):
+            return self.read(place, [old[: -len("-lem")]] + fields[1:])
+        return ["c", fields[0].replace("well-formed", "well_formed")] + fields[1:]
 
     def turn(self, body, place, binder="c"):
         """The body of an answer at a place, with each path of records flat."""
         alias = {binder: place}
+        self.goal = place
         # lets that name a record
         let = re.compile(r"let ([\w']+) = ([\w']+)((?:\.before)+) in[ \n]*")
         while True:
@@ -147,7 +170,31 @@ class Function:
                 return m.group(0)
             return ".".join(self.read(at, fields))
 
-        return pattern.sub(swap, body)
+        body = self.steps_named(pattern.sub(swap, body))
+        # a parameter that had no name
+        mine = self.callee(f"{self.crate}::{self.folder.split('/')[-1]}")[3]
+        body = re.sub(r"\bc\.args\.t([1-9])(?![\w])", lambda m: f"c.args.{mine[int(m.group(1)) - 1]}" if int(m.group(1)) <= len(mine) else m.group(0), body)
+        for m in re.finditer(r"let ([\w']+) = c\.args in", body):
+            body = re.sub(r"(?<![\w'.-])" + re.escape(m.group(1)) + r"\.t([1-9])(?![\w])", lambda k: f"{m.group(1)}.{mine[int(k.group(1)) - 1]}" if int(k.group(1)) <= len(mine) else k.group(0), body)
+        if os.environ.get("KEEP_NOT"):
+            return body
+        # a test `!x` says of x itself whether it holds
+        return re.sub(r"\bnot-(?:true|false) _ (c\.if-not[\w-]*\.(?:true|false))", r"\1", body)
+
+    def steps_named(self, body):
+        """The clauses and lent parameters of a step that a `let` names, by their names."""
+        called = {p[2][1]: p[3] for p in self.places if p[3]}
+        for m in list(re.finditer(r"let ([\w']+) = c\.([\w-]+)(\.ensures)? in", body)):
+            name, step, whole = m.groups()
+            muts, clauses, _, _ = self.callee(called.get(step))
+            at = r"(?<![\w'.-])" + re.escape(name)
+            for i, clause in enumerate(clauses["ensures"]):
+                head = at + (r"\." if whole else r"\.ensures\.") + str(i) + r"(?![\w])"
+                body = re.sub(head, f"{name}." + ("" if whole else "ensures.") + clause, body)
+            if not whole:
+                for i, mut in enumerate(muts):
+                    body = re.sub(at + r"\.new\." + str(i) + r"(?![\w])", f"{name}.new.{mut}", body)
+        return body
 
     def invariant(self, names, body):
         """The body of an invariant or a measure, over the record l of its loop's variables."""
@@ -229,6 +276,8 @@ def convert(crate, names, lent):
                 helpers.append("\n".join(comment + body))
                 continue
             old = norm(k.group(1))
+            if old not in f.needs and old.replace("-lem", "") in f.needs:
+                old = old.replace("-lem", "")
             if old not in f.needs:
                 b = " ".join(body[1:])
                 if not re.search(r"= search rules$", b):

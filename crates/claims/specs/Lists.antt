@@ -103,7 +103,7 @@ pub one_store_lem : StoresOne (index_after start shift 2) (index_after start shi
 one_store_lem = promised.demand2.one_store 2 Root 2 (inr (refl, computed.turn))
 
 pub third-linked : standing_at (index_after start shift 3) 3 ≡ standing_linked
-third-linked = one_store.apart 3 computed.apart3
+third-linked = one_store_lem.apart 3 computed.apart3
 
 left_out : (st : State) (x : Plain) (n : ℕ) → ApartRight st x → x.made ≢ 0 → standing_at st n ≢ standing_apart
 left_out st x n h d e = d (h.otherwise n e).2.1

@@ -1,3 +1,2 @@
 // No code: what the promise excludes, by runs that are computed.
 #![tactic(auto)]
-

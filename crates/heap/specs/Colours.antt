@@ -1,6 +1,6 @@
 -- Colours read off the pool, and the coloured tree: what painting does to it.
 use Rattle.std.specs.Prelude.{ℕ, ◌<◌, ◌≡◌, refl, ◌≢◌, Bool, true, false, List, [], ◌∷◌, eqb}
-use Rattle.std.proofs.Common.{ap, ◌∙◌, inl, inr, arith}
+use Rattle.std.proofs.Common.{sym, ap, ◌∙◌, subst, inl, inr, arith}
 use Rattle.datatypes.specs.declared.Link.{Link}
 use Rattle.datatypes.specs.declared.Link.TheVariants.{Root, Left, Right}
 use Rattle.spec.specs.Pool.{word, set_word, is_red, paint, colour_word, red_colour, left_word, right_word}
@@ -94,11 +94,10 @@ pub erase-top : (p : List ℕ) (a c : ℕ) (t : Linked) → Rep p a t → erase 
 erase-top p a c nil h = refl
 erase-top p a c (cell N l r) h =
     let b = not-below p a N l r h in
-    let i = h.0.is in
     let e = erase-paint p N.num c l b.0 in
     let f = erase-paint p N.num c r b.1 in
     let g = paint-same p N.num c h.0.within in
-    rw (i, e, f, g)
+    subst (λ n. erase (colours (paint p n c)) (cell N l r) ≡ Seq.paint (hue c) (erase (colours p) (cell N l r))) (sym h.0.is) (rw (e, f, g))
 
 -- what a test of a link's node says of the tree there
 pub red-tree : (p : List ℕ) (a : ℕ) (t : Linked) → Rep p a t → is_red p a ≡ redly (colour_of (erase (colours p) t))

@@ -3,7 +3,9 @@
 use Rattle.std.specs.Prelude.{ℕ, ◌+◌, ◌≤◌, ◌*◌, ◌≡◌, refl, Bool, true, false, List, [], ◌∷◌, length}
 use Rattle.std.proofs.Common.{sym, ap, ◌∙◌, inl, inr, ⊎_elim, arith, zero-add}
 use Rattle.datatypes.specs.declared.Side.{Side}
+use Rattle.datatypes.specs.declared.Side.TheVariants.{L, R}
 use Rattle.datatypes.specs.Side.{other, same_side, owner_at}
+use Rattle.spec.specs.Pool.{child}
 use Rattle.spec.specs.Numbers.{node_words, most_nodes, path_bound}
 use Rattle.spec.specs.Register.{State}
 use Rattle.spec.specs.Plan.{fixup_result, ending_stores, missing, fixup_after_insert}
@@ -36,7 +38,7 @@ Small p = length p ≤ most_nodes * node_words
 pub rep-range : (p : List ℕ) (a : ℕ) (t : Linked) (n : ℕ) → Rep p a t → n ∈ nodes t → InPool p n
 rep-range p a nil n h i = absurd i
 rep-range p a (cell N l r) n h (inl e) = rw e h.0.within
-rep-range p a (cell N l r) n h (inr i) = ⊎_elim (λ j. rep-range p _ l n h.1 j) (λ j. rep-range p _ r n h.2 j) ((in-append n (nodes l) (nodes r)).0 i)
+rep-range p a (cell N l r) n h (inr i) = ⊎_elim (λ j. rep-range p (child p L N.num) l n h.1 j) (λ j. rep-range p (child p R N.num) r n h.2 j) ((in-append n (nodes l) (nodes r)).0 i)
 
 -- so a way of a sound tree of the pool's nodes has at most most_height nodes
 pub way-bound : (p : List ℕ) (f : ℕ → Colour) (fs : List Frame) (t : Linked) → Small p → Once (plug fs t) → RedBlack (erase f (plug fs t)) → ((n : ℕ) → n ∈ nodes (plug fs t) → InPool p n)

@@ -6,7 +6,7 @@ use Rattle.datatypes.specs.declared.Side.{Side}
 use Rattle.datatypes.specs.declared.Link.{Link}
 use Rattle.datatypes.specs.declared.Link.TheVariants.{Root, Left, Right}
 use Rattle.datatypes.specs.declared.Register.{Register}
-use Rattle.spec.specs.Pool.{paint, black_colour, left_word, right_word}
+use Rattle.spec.specs.Pool.{black_colour, left_word, right_word}
 use Rattle.spec.specs.Register.{State, set_link, with_root, with_held}
 use Rattle.spec.specs.Free.{take_node}
 use Rattle.spec.specs.Turn.{painted, black_root}

@@ -12,7 +12,7 @@ use Rattle.spec.specs.Calls.{place_of}
 use Rattle.sequential.specs.Tree.{Colour, red, black, Tree}
 use Rattle.sequential.specs.Insert as SeqInsert
 use Rattle.tree.specs.Order.{here_of}
-use Rattle.tree.specs.Linked.{Node, Linked, nil, cell, at, find}
+use Rattle.tree.specs.Linked.{Node, Linked, nil, cell, find}
 use Rattle.tree.specs.Zipper.{Frame, plug, Into, find-into}
 use Rattle.tree.specs.Erase.{erase, erase_way, erase-plug}
 use Rattle.tree.specs.Ways.{insert-fixup-finds}

@@ -1,6 +1,6 @@
 -- The first store of delete's third form, publish, from phase to phase: with the renaming of the stores still to come.
 use Rattle.std.specs.Prelude.{ℕ, zero, suc, ◌+◌, ◌<◌, ◌≤◌, ◌≡◌, refl, true, List, [], ◌∷◌, ◌++◌, map, length}
-use Rattle.std.proofs.Common.{sym, ap, ap₂, ◌∙◌, length-append, arith}
+use Rattle.std.proofs.Common.{sym, ap, ap₂, ◌∙◌, subst, length-append, arith}
 use Rattle.datatypes.specs.declared.Side.TheVariants.{L, R}
 use Rattle.datatypes.specs.declared.Register.{Register}
 use Rattle.datatypes.specs.declared.Write.{Write}
@@ -205,7 +205,9 @@ module _ (st : State) (G : Tree) (d : Double) (gs : List Frame) (h : At st d.way
   stores-of black red q = let z : ◌≡◌ {A = ℕ} 0 1 = cc in absurd (omega arith)
 
   stores : map (moved_store (link_node st (link_to fs)) n) (store (link_to fs) (Detach B.key) ∷ removal_stores f C y old) ≡ store (link_to fs) (Detach B.key) ∷ removal_stores g C y W
-  stores = rw (top.is, moved-link B.num n top.words.within.low ren-fs, stores-of (g C.num) (f C.num) g_c)
+  stores =
+      subst (λ b. map (moved_store b n) (store (link_to fs) (Detach B.key) ∷ removal_stores f C y old) ≡ store (link_to fs) (Detach B.key) ∷ removal_stores g C y W) (sym top.is)
+      (rw (moved-link B.num n top.words.within.low ren-fs) (ap (λ xs. store (link_to fs) (Detach B.key) ∷ xs) (stores-of (g C.num) (f C.num) g_c)))
 
   told : Told G (plug fs (published d gs n))
   told =

@@ -5,7 +5,7 @@ use Rattle.datatypes.specs.declared.Purpose.{Purpose}
 use Rattle.datatypes.specs.declared.Purpose.TheVariants.{ForInsert, RedSibling, BlackSibling}
 use Rattle.datatypes.specs.declared.Step.TheVariants.{DiagRaise}
 use Rattle.datatypes.specs.Side.{other}
-use Rattle.spec.specs.Pool.{child, paint, black_colour, red_colour}
+use Rattle.spec.specs.Pool.{child, black_colour, red_colour}
 use Rattle.spec.specs.Register.{State, set_link}
 use Rattle.spec.specs.Free.{retire}
 use Rattle.spec.specs.Turn.{made, painted, black_root, risen_colour, colour_of, end_diag, diag_raise, end_diag_finds, step_finds}

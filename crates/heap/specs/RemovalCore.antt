@@ -8,7 +8,7 @@ use Rattle.datatypes.specs.declared.Link.{Link}
 use Rattle.datatypes.specs.declared.Link.TheVariants.{Root, Left, Right}
 use Rattle.datatypes.specs.declared.Ending.{Ending}
 use Rattle.datatypes.specs.declared.Ending.TheVariants.{Balanced, Blacken, Rotate, RotateTwice, Missing}
-use Rattle.spec.specs.Pool.{paint, left_word, right_word}
+use Rattle.spec.specs.Pool.{left_word, right_word}
 use Rattle.spec.specs.Register.{State, state, node_at, link_node}
 use Rattle.spec.specs.Plan.{fixup_result, ending_stores, paint_delete_levels, paint_end, paint_delete_fixup}
 use Rattle.sequential.specs.Tree as Seq

@@ -6,7 +6,6 @@ use Rattle.spec.specs.Register.{State}
 use Rattle.spec.specs.Plan.{store}
 use Rattle.spec.specs.Turn.{copy_colour, diag_lower, zig_lower_a, zig_lower_c, step_finds}
 use Rattle.sequential.specs.Tree.{Colour, Tree}
-use Rattle.tree.specs.Sorted.{parts}
 use Rattle.tree.specs.Linked.{Linked, at, nodes}
 use Rattle.tree.specs.Zipper.{Frame, plug}
 use Rattle.tree.specs.Erase.{erase, erase_way}

@@ -4,7 +4,7 @@ use Rattle.std.proofs.Common.{ap, ◌∙◌, arith}
 use Rattle.datatypes.specs.declared.Purpose.{Purpose}
 use Rattle.datatypes.specs.declared.Purpose.TheVariants.{ForInsert, BlackSibling}
 use Rattle.datatypes.specs.declared.Step.TheVariants.{ZigRaise}
-use Rattle.spec.specs.Pool.{paint, black_colour}
+use Rattle.spec.specs.Pool.{black_colour}
 use Rattle.spec.specs.Register.{State, set_link}
 use Rattle.spec.specs.Free.{retire_two}
 use Rattle.spec.specs.Turn.{made, black_root, risen_colour, colour_of, end_zig, zig_raise, step_finds}

@@ -1,7 +1,6 @@
 // Document 01's numbers in code, each named once; their definitions: crate spec, Numbers.
 #![tactic(auto)]
 
-
 // words a node (document 02, C-18), and the least and the largest number of nodes
 pub const NODE_WORDS: usize = 9;
 

@@ -1,6 +1,6 @@
 -- No node is compared twice: the nodes seen so far and those still to come are distinct, through a store too. Asked is the way on the root's
 -- before the store (R2, (c)), not what the store does to it: so it outlives a publish and holds of awaited slots. Of both kinds of search, for C-17.
-use Rattle.std.specs.Prelude.{ℕ, ◌≡◌, refl, ◌≢◌, ◌⊎◌, ◌↔◌, List, [], ◌∷◌, ◌++◌}
+use Rattle.std.specs.Prelude.{ℕ, ◌≡◌, refl, ◌≢◌, ◌↔◌, List, [], ◌∷◌, ◌++◌}
 use Rattle.std.proofs.Common.{sym, ap, ◌∙◌, subst, inl, inr, ⊎_elim, append_assoc}
 use Rattle.std.proofs.Math.Option.{Option, none}
 use Rattle.base.specs.Lists.{◌∈◌, in-append, Distinct}

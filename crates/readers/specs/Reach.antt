@@ -19,7 +19,7 @@ use Rattle.promise.specs.Demands.{Leads, arrived, onward}
 use Rattle.laws.specs.Slots.{no-bit}
 use Rattle.readers.specs.Words.{node-high, node-length, whole-kept, stands-node}
 use Rattle.readers.specs.QueueExact.{QueueExact}
-use Rattle.readers.specs.Release.{retired, freed_by, end-released}
+use Rattle.readers.specs.Release.{freed_by, end-released}
 
 abbrev pub HasStanding : List ℕ → ℕ → ℕ → Type 0
 HasStanding p n a = word p n standing_word ≡ a

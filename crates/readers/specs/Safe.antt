@@ -12,7 +12,6 @@ use Rattle.spec.specs.Numbers.{slots}
 use Rattle.spec.specs.Pool.{standing_word, standing_linked}
 use Rattle.spec.specs.Register.{State, state, no_reader, reader_of, with_reader, with_awaited, with_write}
 use Rattle.spec.specs.Free.{end_reading}
-use Rattle.spec.specs.Calls.{reading}
 use Rattle.promise.specs.Demands.{Leads, Reaches}
 use Rattle.promise.specs.Run.{Reads}
 use Rattle.laws.specs.Reading.{reading_in, reader-same, reader-other}

@@ -1,5 +1,5 @@
 -- More on lists thinned (tree: Thin): up to a node that stays, and with the same end; and each lookup visits a node once.
-use Rattle.std.specs.Prelude.{ℕ, ◌+◌, ◌≡◌, refl, ◌⊎◌, List, [], ◌∷◌, ◌++◌}
+use Rattle.std.specs.Prelude.{ℕ, ◌≡◌, refl, List, [], ◌∷◌, ◌++◌}
 use Rattle.std.proofs.Common.{sym, ap, ◌∙◌, subst, inl, inr, ⊎_elim, arith}
 use Rattle.datatypes.specs.declared.Side.TheVariants.{L}
 use Rattle.tree.specs.Order.{tri-case}

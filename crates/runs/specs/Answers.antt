@@ -23,7 +23,7 @@ use Rattle.runs.specs.Writer.{Writer, after_store}
 use Rattle.spec.specs.Bulk.{grown_tree}
 use Rattle.spec.specs.Calls.{inserting_list}
 use Rattle.runs.specs.Sound.{Sound, taken-by}
-use Rattle.runs.specs.Slot.{Stand, StandAt, EmptyRight, stand-begin, load_fields, stand-absent, stand-next-ticket, stand-found}
+use Rattle.runs.specs.Slot.{StandAt, EmptyRight, stand-begin, load_fields, stand-absent, stand-next-ticket, stand-found}
 use Rattle.runs.specs.Follow.{BeginsBy, EndsBy, stand-own}
 
 -- which slot a call names, and which call it is

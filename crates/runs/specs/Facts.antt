@@ -32,7 +32,6 @@ use Rattle.spec.specs.Calls.{first_of, list_tests}
 use Rattle.readers.specs.Apart.{not-apart, same-words}
 use Rattle.readers.specs.Reach.{HasStanding, Kept, kept-use, retired-end, NodeChange, comes, leaves, rests, goes}
 use Rattle.readers.specs.Turns.{Turn}
-use Rattle.readers.specs.CallCase as CallCase
 use Rattle.readers.specs.CallCase.{CallCase, call-case, refuses, plans_insert, plans_delete, plans_list, waits, stores, begins, loads, misses, meets, finds}
 use Rattle.readers.specs.Safe.{Safe}
 use Rattle.runs.specs.Writer.{Writer, first_made, after_store}

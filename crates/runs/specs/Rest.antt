@@ -1,6 +1,6 @@
 -- The other promises about runs: the free queue, waits, writes done within seven stores, the tree at rest, and that 1, 2 and 12 are never met.
 -- What of them is the writer's side alone is asked as `Completes`.
-use Rattle.std.specs.Prelude.{ℕ, ◌+◌, ◌-◌, ◌*◌, ◌^◌, ◌%◌, ◌<◌, ◌≤◌, ◌≡◌, refl, Bool, true, false, cond, not, ◌&&◌, List, [], ◌∷◌, ◌≢◌, ◌⊎◌, eqb, drop, length}
+use Rattle.std.specs.Prelude.{ℕ, ◌+◌, ◌*◌, ◌^◌, ◌%◌, ◌<◌, ◌≤◌, ◌≡◌, refl, Bool, true, false, cond, not, ◌&&◌, List, [], ◌∷◌, ◌≢◌, ◌⊎◌, eqb, drop, length}
 use Rattle.std.proofs.Common.{sym, ap, ◌∙◌, inl, inr, ⊎_elim, arith, eqb-true, eq-eqb, le-leb, ltb-false}
 use Rattle.std.proofs.lemmas.Bool.{false≢true, not-false, eqb-false, lt-leb}
 use Rattle.sequential.specs.Delete.{changed_by}
@@ -22,7 +22,7 @@ use Rattle.laws.specs.Slots.{no_slot, some-slot}
 use Rattle.laws.specs.Turns.{and-false}
 use Rattle.tree.specs.Linked.{Linked, nodes as tree_nodes}
 use Rattle.tree.specs.Erase.{tall}
-use Rattle.promise.specs.Run.{Reads, after}
+use Rattle.promise.specs.Run.{Reads}
 use Rattle.promise.specs.Demands.{Stands, ApartRight}
 use Rattle.spec.specs.Calls.{insert_tests, delete_tests, writer_tests, reader_tests, give_up_tests, first_finds, waiting}
 use Rattle.readers.specs.CallCase.{CallCase, refuses, plans_insert, plans_delete, plans_list, waits, stores, begins, loads, misses, meets, finds, leaves, tests_of}

@@ -1,5 +1,5 @@
 -- A sound start (promise: Starts) has the readers' side of the invariant and is in range.
-use Rattle.std.specs.Prelude.{ℕ, ◌≡◌, refl, false, List, ◌≢◌}
+use Rattle.std.specs.Prelude.{ℕ, ◌≡◌, refl, List}
 use Rattle.std.proofs.Common.{sym, ◌∙◌, arith}
 use Rattle.std.proofs.lemmas.Bool.{false≢true}
 use Rattle.spec.specs.Numbers.{slots}

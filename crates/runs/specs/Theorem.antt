@@ -1,6 +1,6 @@
 -- Demand 3 of every list of calls from a start, from what the writer's side gives (Writer).
 use Prim.Native.Nat.{ℕ, zero, suc, ◌+◌, ◌-◌, ◌<◌, ◌≤◌}
-use Rattle.std.specs.Prelude.{◌≡◌, false, List, [], ◌⊎◌, length}
+use Rattle.std.specs.Prelude.{◌≡◌, false, List, [], ◌⊎◌}
 use Rattle.std.proofs.Math.Path.{refl, ap, subst}
 use Rattle.std.proofs.Common.{sym, ◌∙◌, inl, inr, lt-ltb, le-ltb}
 use Rattle.std.proofs.Math.Option.{Option, none, some}
@@ -20,7 +20,7 @@ use Rattle.readers.specs.Reach.{Kept, kept-stands}
 use Rattle.readers.specs.NextSearches.{nothing, ticket, Answered}
 use Rattle.readers.specs.Descends.{going-root}
 use Rattle.readers.specs.NextDescends.{going_next}
-use Rattle.readers.specs.CallCase.{kind_number, call-case, begins, finds}
+use Rattle.readers.specs.CallCase.{kind_number, call-case}
 use Rattle.readers.specs.Safe.{safe-reach}
 use Rattle.ranges.specs.Calls.{Ranged, ranged-next}
 use Rattle.runs.specs.Writer.{Writer}

@@ -1,3 +1,2 @@
 // No code: the definitions of the sequential red-black tree stand in specs/.
 #![tactic(auto)]
-

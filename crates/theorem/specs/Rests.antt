@@ -1,5 +1,5 @@
 -- The writer's side through readers' calls; at rest, an accepted insert.
-use Rattle.std.specs.Prelude.{ℕ, ◌+◌, ◌-◌, ◌/◌, ◌≤◌, ◌≡◌, refl, ◌≢◌, true, false, cond, not, ◌&&◌, List, [], ◌∷◌, ◌++◌, eqb, length}
+use Rattle.std.specs.Prelude.{ℕ, ◌+◌, ◌-◌, ◌/◌, ◌≤◌, ◌≡◌, refl, true, false, cond, not, ◌&&◌, List, [], ◌∷◌, ◌++◌, eqb, length}
 use Rattle.std.proofs.Common.{sym, ap, ◌∙◌, subst, arith, eq-eqb, ne_eqb, ltb-false, leb-false, lt-ltb}
 use Rattle.std.proofs.lemmas.Bool.{false≢true}
 use Rattle.std.proofs.Math.Option.{Option, none, some}
@@ -33,7 +33,7 @@ use Rattle.spec.specs.Plan.{fixup_result, insert_fixup, fixup_after_insert, stor
 use Rattle.spec.specs.Calls.{first_of, write_in_hand, place_of, is_held, too_deep, full, insert_at}
 use Rattle.spec.specs.PlainList.{Ticket, Plain, record_for, Unique, updated, accepted_writes, begun}
 use Rattle.tree.specs.Changes.{Single, changed_by-proper, find-insert, find-insert-other}
-use Rattle.tree.specs.Linked.{Linked, find}
+use Rattle.tree.specs.Linked.{Linked}
 use Rattle.tree.specs.Erase.{erase, erase-find}
 use Rattle.heap.specs.Colours.{colours}
 use Rattle.heap.specs.Shift.{is_list_store, held_after}

@@ -8,7 +8,8 @@ use Rattle.tree.specs.Linked.{Linked, nil, cell}
 use Rattle.tree.specs.LinkedOrder.{bare, ordered-bare}
 use Rattle.tree.specs.Zipper.{plug}
 use Rattle.tree.specs.Tickets.{True}
-use Rattle.tree.specs.Steady.{Steady, Sure, steady, steady-sure, steady-true, steady-diag₁, steady-zig₁, steady-zig₂, steady-form₁, steady-third₁}
+use Rattle.tree.specs.Steady.{Steady, Sure, steady, steady-sure, steady-true, steady-zig₁, steady-zig₂, steady-form₁, steady-third₁}
+use Rattle.tree.proofs.Steady.{steady-diag₁}
 use Rattle.heap.specs.Places.{diag_tree, zig_tree, single_tree, double_tree}
 use Rattle.heap.specs.Phase.{SoundBy, Phases, at_rest_lem, diag-0, diag-1, zig-0, zig-1, zig-2, insert-0, replace-0, unlink-0, adopt-0, promote-0, publish-0, detach-0}
 

@@ -3,6 +3,7 @@ use Rattle.std.specs.Prelude.{ℕ, ◌≡◌, ◌↔◌, List, [], ◌∷◌}
 use Rattle.std.proofs.Common.{sym, ◌∙◌}
 use Rattle.std.proofs.Math.Option.{none}
 use Rattle.datatypes.specs.declared.Side.{Side}
+use Rattle.datatypes.specs.declared.Side.TheVariants.{L, R}
 use Rattle.datatypes.specs.Side.{other}
 use Rattle.sequential.specs.Tree.{Colour, black, Tree}
 use Rattle.sequential.specs.Proper.{Ord, Below, Ordered}
@@ -22,7 +23,7 @@ below-bare f g s k (cell N l r) h = (h.0, below-bare f g s k l h.1, below-bare f
 
 pub ordered-bare : (f g : ℕ → Colour) (t : Linked) → Ordered (erase f t) → Ordered (erase g t)
 ordered-bare f g nil h = tt
-ordered-bare f g (cell N l r) h = (below-bare f g _ N.key l h.0, below-bare f g _ N.key r h.1, ordered-bare f g l h.2, ordered-bare f g r h.3)
+ordered-bare f g (cell N l r) h = (below-bare f g L N.key l h.0, below-bare f g R N.key r h.1, ordered-bare f g l h.2, ordered-bare f g r h.3)
 
 pub below_at : (s z : Side) (k : ℕ) (N : Node) (x y : Linked) → Below s k (bare (at z N x y)) ↔ (Ord s N.key k × Below s k (bare x) × Below s k (bare y))
 below_at s z k N x y = rw (erase-at (λ n. black) z N x y) (below-mk s z k black N.key N.val (bare x) (bare y))

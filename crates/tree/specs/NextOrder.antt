@@ -8,7 +8,7 @@ use Rattle.sequential.specs.Proper.{Below, Ordered}
 use Rattle.tree.specs.Linked.{Linked, nil, cell, find}
 use Rattle.tree.specs.LinkedOrder.{bare}
 use Rattle.tree.specs.Marked.{◌≼◌, ◌≺◌, ≼_refl, ≼-lt, ≺-≼}
-use Rattle.tree.specs.NextWay.{goes, goes_case, above}
+use Rattle.tree.specs.NextWay.{goes_case, above}
 
 -- it ends with what it began with, or with a key of the tree
 above-below : (t : Linked) (g k : ℕ) (m : Option ℕ) → Below L k (bare t) → m ≼ some k → above t g m ≼ some k

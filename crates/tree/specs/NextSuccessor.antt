@@ -6,7 +6,7 @@ use Rattle.datatypes.specs.declared.Side.TheVariants.{L, R}
 use Rattle.tree.specs.Linked.{Node, Linked, nil, cell}
 use Rattle.tree.specs.Zipper.{Frame}
 use Rattle.tree.specs.Successor.{third₁, third₂}
-use Rattle.tree.specs.Marked.{◌≼◌, ≼_refl, ThinM, keep}
+use Rattle.tree.specs.Marked.{≼_refl, ThinM, keep}
 use Rattle.tree.specs.NextWay.{noted, goes_case, way, above, way-cell, above-cell}
 use Rattle.tree.specs.NextLift.{trim, trim-any, above-lift}
 use Rattle.tree.specs.NextStores.{unlink-way}

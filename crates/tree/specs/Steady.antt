@@ -9,17 +9,17 @@ use Rattle.sequential.specs.Proper.{Ord, Ordered}
 use Rattle.tree.specs.Linked.{Node, Linked, nil, at, find}
 use Rattle.tree.specs.Zipper.{Frame, plug, Along, Same, same-lift}
 use Rattle.tree.specs.LinkedOrder.{bare, ordered-within, into-top}
-use Rattle.tree.specs.Rotations.{diag₀, diag₁, zig₀, zig₁, zig₂, diag-lower-find, zig-order, zig-lower-A-find, zig-lower-C-find}
+use Rattle.tree.specs.Rotations.{zig₀, zig₁, zig₂, zig-order, zig-lower-A-find, zig-lower-C-find}
 use Rattle.tree.specs.Stores.{form₀, form₁, form-order, adopt-find}
 use Rattle.tree.specs.Successor.{third₀, third₁, third₂, third-order, detach-find}
 use Rattle.tree.specs.Phases.{writes-whole, third-writes}
 use Rattle.tree.specs.Tickets.{Tickets, True, true-ordered, true_same, tickets-lift}
-use Rattle.tree.specs.Tickets.{diag-lower-tickets, zig-lower-A-tickets, zig-lower-C-tickets, adopt-tickets, publish-tickets}
+use Rattle.tree.specs.Tickets.{zig-lower-A-tickets, zig-lower-C-tickets, adopt-tickets, publish-tickets}
 use Rattle.tree.specs.Marked.{◌≺◌}
 use Rattle.tree.specs.NextWay.{above}
 use Rattle.tree.specs.NextOrder.{next-none}
 use Rattle.tree.specs.NextLift.{Ends, ends-lift}
-use Rattle.tree.specs.NextRotations.{diag-lower-above, zig-lower-A-above, zig-lower-C-above}
+use Rattle.tree.specs.NextRotations.{zig-lower-A-above, zig-lower-C-above}
 use Rattle.tree.specs.NextStores.{adopt-above}
 use Rattle.tree.specs.NextSuccessor.{detach-above}
 
@@ -52,17 +52,12 @@ steady-true {U} s = true_same s.tree U s.like.same s.like.tickets (true-ordered 
 pub steady : (U : Linked) → Ordered (bare U) → Steady U
 steady U o = record { tree = U; ordered = o; like = record { same = λ q. refl; ends = λ g m. refl; tickets = λ Q h. h } }
 
-steady-lift : (fs : List Frame) (t u : Linked) → Like t u → Ordered (bare (plug fs t)) → Steady (plug fs u)
+pub steady-lift : (fs : List Frame) (t u : Linked) → Like t u → Ordered (bare (plug fs t)) → Steady (plug fs u)
 steady-lift fs t u a o = record {
   tree = plug fs t;
   ordered = o;
   like = record { same = same-lift fs t u a.same; ends = ends-lift fs t u a.ends; tickets = λ Q. tickets-lift Q fs t u (a.tickets Q) };
 }
-
-pub steady-diag₁ : (fs : List Frame) (s : Side) (B C : Node) (n : ℕ) (o x r : Linked) → Ordered (bare (plug fs (diag₀ s B C n o x r))) → Steady (plug fs (diag₁ s B C n o x r))
-steady-diag₁ fs s B C n o x r h =
-    steady-lift fs (diag₀ s B C n o x r) (diag₁ s B C n o x r)
-    (record { same = diag-lower-find s B C n o x r; ends = diag-lower-above s B C n o x r; tickets = diag-lower-tickets s B C n o x r }) h
 
 module _ (fs : List Frame) (s : Side) (A B C : Node) (m n : ℕ) (a x y r : Linked) (h : Ordered (bare (plug fs (zig₀ s A B C m n a x y r)))) where
   rising : Ord s A.key B.key × Ord s B.key C.key

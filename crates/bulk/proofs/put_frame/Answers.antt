@@ -1,0 +1,19 @@
+use Prim.Native.Nat.{◌-◌}
+use mathlib.Core.Path.{refl}
+use native.Mathlib.Omega.{arith}
+use lib.ListN.{length-set}
+use Rattle.bulk.specs.Growing.{set_frame}
+use Rattle.bulk.proofs.put_frame.Goals as goal
+
+pub bounds-stack-at-2 : goal.bounds-stack-at-2
+bounds-stack-at-2 c = simp length-set (omega arith)
+
+pub bounds-stack-at-3 : goal.bounds-stack-at-3
+bounds-stack-at-3 c = simp length-set (omega arith)
+
+pub bounds-stack-at-4 : goal.bounds-stack-at-4
+bounds-stack-at-4 c = simp length-set (omega arith)
+
+pub returns : goal.returns
+unfolding set_frame
+returns c = refl

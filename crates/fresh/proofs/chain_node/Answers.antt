@@ -1,0 +1,21 @@
+use mathlib.Core.Path.{refl, sym, ◌∙◌}
+use native.Mathlib.Omega.{arith}
+use borrow.Author.Rules.{rules}
+use Prim.Native.Nat.{◌-◌}
+use Rattle.fresh.specs.Chained.{chained, chain-low, chain-last}
+use Rattle.fresh.proofs.chain_node.Goals as goal
+
+pub loop-f-init : goal.loop-f-init
+unfolding chained
+loop-f-init c = (search rules, refl, refl)
+
+pub loop-f-preserved : goal.loop-f-preserved
+loop-f-preserved c =
+    let l = c.loop-f in
+    let n = c.args.n in
+    (search rules, search rules, sym (chain-low n l.f l.pool c.loop-f-test.true) ∙ l.invariant.2)
+
+pub returns : goal.returns
+returns c =
+    let l = c.loop-f in
+    sym (chain-last c.args.n l.f l.pool (omega arith)) ∙ l.invariant.2

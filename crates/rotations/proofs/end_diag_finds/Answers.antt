@@ -1,0 +1,11 @@
+
+use Rattle.rotations.proofs.end_diag_finds.Goals as goal
+
+pub returns-in-ForInsert : goal.returns-in-ForInsert
+returns-in-ForInsert c = λ q. rw c.in-ForInsert.is
+
+pub returns-in-RedSibling : goal.returns-in-RedSibling
+returns-in-RedSibling c = λ q. rw (c.in-RedSibling.is, c.child-in-RedSibling.ensures, c.child.ensures, c.other.ensures)
+
+pub returns-in-BlackSibling : goal.returns-in-BlackSibling
+returns-in-BlackSibling c = λ q. rw (c.in-BlackSibling.is, c.child-in-BlackSibling.ensures)
