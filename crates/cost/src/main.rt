@@ -40,14 +40,10 @@ const BUFFER: usize = 65_536;
 fn argument(rt: &(impl Env + AllocGlobal), i: usize) -> io::Result<u8> {
     for (place, text) in env::args(rt)?.enumerate() {
         if place == i {
-            return Ok(first_byte(text.as_bytes()));
+            return Ok(text.as_bytes().first().copied().unwrap_or(0));
         }
     }
     Ok(0)
-}
-
-fn first_byte(text: &[u8]) -> u8 {
-    if 0 < text.len() { text[0] } else { 0 }
 }
 
 fn size_of(letter: u8) -> usize
