@@ -4,7 +4,6 @@ use Rattle.base.specs.Walk.{all_from, all_in}
 use Rattle.datatypes.specs.declared.Link.TheVariants.{Left}
 use Rattle.datatypes.specs.declared.Step.TheVariants.{Insert}
 use Rattle.datatypes.specs.declared.Kind.TheVariants as kind
-use Rattle.datatypes.specs.declared.Reader.{Reader}
 use Rattle.datatypes.specs.declared.Register.{Register}
 use Rattle.spec.specs.Numbers.{word_limit}
 use Rattle.spec.specs.Pool.{word, node_in_range, pool_in_range, length_right, fresh_nodes, fresh_pool}

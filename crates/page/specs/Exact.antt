@@ -12,9 +12,10 @@ use Rattle.spec.specs.Register.{State, register_in_range}
 use Rattle.laws.specs.Tests.{and_left, and_right, lent_number, lent}
 use Rattle.texts.specs.Ascii.{blank}
 use Rattle.texts.specs.Decimal.{decimal}
-use Rattle.texts.specs.Column.{right_in, right-number}
+use Rattle.texts.specs.Column.{right_in}
+use Rattle.texts.proofs.Column.{right-number}
 use Rattle.page_order.specs.Listed.{listed}
-use Rattle.page_order.specs.Order.{listed-order}
+use Rattle.page_order.proofs.Order.{listed-order}
 use Rattle.page.specs.Page.{node_width, key_width, record_width, link_width}
 
 -- in the column stand blanks and then all digits of the number

@@ -5,7 +5,8 @@ use Rattle.texts.specs.Ascii.{text}
 use Rattle.texts.specs.Decimal.{digits, decimal, twenty-digits}
 use Rattle.texts.specs.Column.{right_in}
 use Rattle.page_order.specs.Listed.{before, with_node, listed_to, listed}
-use Rattle.page_order.specs.Large.{large_pool, large-listed}
+use Rattle.page_order.specs.Large.{large_pool}
+use Rattle.page_order.proofs.Large.{large-listed}
 use Rattle.page.specs.Page.{column, columns, head_line, page_line, page_lines, page}
 
 head : List ℕ

@@ -11,12 +11,14 @@ use Rattle.spec.specs.Numbers.{pool_limit}
 use Rattle.datatypes.specs.declared.Side.TheVariants.{L, R}
 use Rattle.spec.specs.Pool.{word, key_word, record_at, child, nodes}
 use Rattle.texts.specs.Ascii.{blank, newline}
-use Rattle.texts.specs.Column.{right_in, right-length}
+use Rattle.texts.specs.Column.{right_in}
+use Rattle.texts.proofs.Column.{right-length}
 use Rattle.texts.specs.Decimal.{decimal}
 use Rattle.texts.specs.Put.{Put, PutPart, put_as, put_both, part_none, part-put, part-all}
 use Rattle.page_order.specs.Listed.{listed}
 use Rattle.page_order.specs.Ranks.{rank_base, node_of, Rising, ranks_after}
-use Rattle.page_order.specs.Laws.{last_or, last-least, after-rising, after_next, ranks-listed, lines-most}
+use Rattle.page_order.specs.Laws.{last_or, last-least, lines-most}
+use Rattle.page_order.proofs.Laws.{after-rising, after_next, ranks-listed}
 use Rattle.page.specs.Page.{node_width, key_width, record_width, colour_width, link_width, gap_width, column, columns, head_line, colour_letter, page_line, sheet_lines, form_feed, page_lines, page}
 
 -- the lines of these nodes

@@ -1,27 +1,39 @@
 // Runs stored inputs of trace and compares what comes out with the stored outputs. The arguments are pairs of files: an input, its output.
 #![tactic(auto)]
 
-ghost use Rattle.std.specs.Prelude.{◌≤◌, ◌<◌, ◌≡◌, length};
-ghost use Rattle.io.specs.Counts.{IsPrefixLen};
+ghost use Rattle.std.specs.Prelude.{◌≤◌, ◌<◌, ◌≡◌, length, IfOk};
 ghost use Rattle.spec.specs.Numbers.{pool_limit};
 
-use libc::STDOUT_FILENO;
+use std::io::Read;
+use std::rt::Files;
+use std::{env, fs, io};
 
 const NEWLINE: u8 = b'\n';
 
-// the file that an argument names, as far as there is room for it
-fn load(argument: usize, buf: &mut [u8]) -> usize
-    ensures { IsPrefixLen result buf.new }
+// The most bytes of an input or of an output.
+const BUFFER_BYTES: usize = 65536;
+
+// Reads until the buffer is full or the input ends, and answers how many bytes it has put there.
+fn read_full<R: Read>(from: &mut R, buf: &mut [u8]) -> io::Result<usize>
+    ensures { IfOk result (λ n. n ≤ length buf.new) }
 {
-    let mut path = io::buffer();
-    let n = os::arg(argument, &mut path);
-    let fd = os::open_read(&path[..n]);
-    if fd < 0 {
-        os::fail(&path[..n]);
+    let mut done: usize = 0;
+    while done < buf.len() {
+        let n = from.read(&mut buf[done..])?;
+        if n == 0 {
+            return Ok(done);
+        }
+        done += n;
     }
-    let count = io::read_full(fd, buf);
-    libc::close(fd);
-    count
+    Ok(done)
+}
+
+// the file of a name, as far as there is room for it
+fn load<H: Files>(rt: &H, name: &str, buf: &mut [u8]) -> io::Result<usize>
+    ensures { IfOk result (λ n. n ≤ length buf.new) }
+{
+    let mut file = fs::open(rt, name)?;
+    read_full(&mut file, buf)
 }
 
 // the output of a stored input, as far as there is room for it; a last line without a newline is run too
@@ -66,36 +78,32 @@ fn difference(a: &[u8], b: &[u8]) -> u64 {
 }
 
 // a run's line: its input's name, and `same` or the first line that differs
-fn report(argument: usize, line: u64) {
-    let mut name = io::buffer();
-    let n = os::arg(argument, &mut name);
-    io::write_all(STDOUT_FILENO, &name[..n]);
+fn report<H: Print>(rt: &H, name: &str, line: u64) -> io::Result<()> {
     if line == 0 {
-        io::write_all(STDOUT_FILENO, b"\tsame\n");
-        return;
+        return println!(rt; "{name}\tsame");
     }
-    io::write_all(STDOUT_FILENO, b"\tdiffers in line\t");
-    io::print_decimal(STDOUT_FILENO, line);
-    io::write_all(STDOUT_FILENO, b"\n");
+    println!(rt; "{name}\tdiffers in line\t{line}")
 }
 
-// one stored run; 1 if it is the same
-fn compare(
+// one stored run, of an input and the output that is wanted; 1 if it is the same
+fn compare<H: Files + Print>(
+    rt: &H,
     words: &mut [u32],
     input: &mut [u8],
     want: &mut [u8],
     out: &mut [u8],
-    argument: usize,
-) -> u64
-    requires { (length words.old ≡ pool_limit) × (argument < 18446744073709551615) }
-    ensures { result ≤ 1 }
+    name: &str,
+    wanted: &str,
+) -> io::Result<u64>
+    requires { length words.old ≡ pool_limit }
+    ensures { IfOk result (λ n. n ≤ 1) }
 {
-    let n = load(argument, input);
+    let n = load(rt, name, input)?;
     let end = output(words, out, &input[..n]);
-    let m = load(argument + 1, want);
+    let m = load(rt, wanted, want)?;
     let line = part_difference(out, end, &want[..m]);
-    report(argument, line);
-    if line == 0 { 1 } else { 0 }
+    report(rt, name, line)?;
+    Ok(if line == 0 { 1 } else { 0 })
 }
 
 fn part_difference(out: &[u8], end: usize, want: &[u8]) -> u64
@@ -105,32 +113,40 @@ fn part_difference(out: &[u8], end: usize, want: &[u8]) -> u64
 }
 
 // the total's line
-fn total(runs: u64, same: u64) {
-    io::print_decimal(STDOUT_FILENO, runs);
-    io::write_all(STDOUT_FILENO, b"\truns\t");
-    io::print_decimal(STDOUT_FILENO, same);
-    io::write_all(STDOUT_FILENO, b"\tsame\n");
+fn total<H: Print>(rt: &H, runs: u64, same: u64) -> io::Result<()> {
+    println!(rt; "{runs}\truns\t{same}\tsame")
 }
 
-// all runs that the arguments name; the program's own name is the first of `count`
-fn compare_all(words: &mut [u32], input: &mut [u8], want: &mut [u8], out: &mut [u8], count: usize)
+// all runs that the arguments name; the program's own name is the first of them
+fn compare_all<H: Files + Print>(
+    rt: &H,
+    words: &mut [u32],
+    input: &mut [u8],
+    want: &mut [u8],
+    out: &mut [u8],
+    names: &[String],
+) -> io::Result<()>
     requires { length words.old ≡ pool_limit }
 {
-    let mut left = count;
+    let mut left = names.len();
     let mut runs: u64 = 0;
     let mut same: u64 = 0;
     while 2 < left {
-        same += compare(words, input, want, out, count - left + 1);
+        let at = names.len() - left + 1;
+        let name = names[at].as_str();
+        let wanted = names[at + 1].as_str();
+        same += compare(rt, words, input, want, out, name, wanted)?;
         runs += 1;
         left -= 2;
     }
-    total(runs, same);
+    total(rt, runs, same)
 }
 
-fn main() {
+fn main(rt: HostRuntime) -> io::Result<()> {
+    let names: Vec<String> = env::args(&rt)?.collect(rt.alloc())?;
     let mut words = [0u32; numbers::POOL_WORDS];
-    let mut input = io::large_buffer();
-    let mut want = io::large_buffer();
-    let mut out = io::large_buffer();
-    compare_all(&mut words, &mut input, &mut want, &mut out, os::arg_count());
+    let mut input = [0u8; BUFFER_BYTES];
+    let mut want = [0u8; BUFFER_BYTES];
+    let mut out = [0u8; BUFFER_BYTES];
+    compare_all(&rt, &mut words, &mut input, &mut want, &mut out, &names)
 }

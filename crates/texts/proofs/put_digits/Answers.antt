@@ -1,5 +1,5 @@
-use Prim.Native.Nat.{◌-◌}
-use Rattle.texts.specs.Column.{digits-start, digits_more, digits_last, digits-full}
+use Rattle.texts.specs.Column.{digits-start}
+use Rattle.texts.proofs.Column.{digits_more, digits_last, digits-full}
 use Rattle.texts.proofs.put_digits.Goals as goal
 
 pub loop-i-init : goal.loop-i-init

@@ -1,4 +1,3 @@
-use Prim.Native.Nat.{◌-◌}
 use Rattle.texts.specs.Column.{Digits}
 use Rattle.texts.proofs.put_digits.Given as goal
 

@@ -1,6 +1,7 @@
 use mathlib.Core.Path.{◌∙◌}
 use native.Mathlib.Omega.{arith}
-use Rattle.texts.specs.Column.{put-gap, right-length}
+use Rattle.texts.specs.Column.{put-gap}
+use Rattle.texts.proofs.Column.{right-length}
 use Rattle.texts.specs.Put.{put_both}
 use borrow.Author.Rules.{rules}
 use Rattle.texts.proofs.put_right.Goals as goal

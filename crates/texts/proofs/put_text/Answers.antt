@@ -1,4 +1,3 @@
-use Prim.Native.Nat.{◌-◌}
 use native.Mathlib.Nat.{add-zero}
 use Rattle.texts.specs.Put.{put-nothing, put_next, put_all}
 use mathlib.Core.Path.{refl}
