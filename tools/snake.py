@@ -43,7 +43,8 @@ def main():
                 m = re.match(r"^\s*(?:(?:abbrev|unfoldable|pub|pattern) )*((?:[a-z][\w'-]* )+):(?!=)", line)
                 if m:
                     declared.update(m.group(1).split())
-    taken = sorted({snake(w) for w in camel} & declared)
+    # `key_of` was `keyOf` too: port.py had respelled it
+    taken = sorted({snake(w) for w in camel} & declared - {"key_of"})
     print("gets _lem:", ", ".join(taken))
     for f in antt:
         t = texts[f]

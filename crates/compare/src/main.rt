@@ -13,6 +13,7 @@ use checks::{aims, draws, lengths, model, rows};
 use comparisons::{Said, writing};
 use datatypes::{Register, Tally};
 use lists::drawn;
+use std::io;
 
 // the words of 1,023 nodes
 const POOL_WORDS: usize = numbers::MOST_NODES * numbers::NODE_WORDS;
@@ -161,10 +162,19 @@ fn make_calls(
 }
 
 // the line of a run; a short one has none
-fn print_run(run: u32, nodes: u32, calls: u64, most: u32, later: u64, lengths: &[u32]) {
+fn print_run(
+    rt: &impl Print,
+    run: u32,
+    nodes: u32,
+    calls: u64,
+    most: u32,
+    later: u64,
+    lengths: &[u32],
+) -> io::Result<()> {
     if run < SHORT_RUNS {
-        count_lines::run(nodes, calls, most, later, lengths);
+        count_lines::run(rt, nodes, calls, most, later, lengths)?;
     }
+    Ok(())
 }
 
 fn clear_all(tree: &mut [u32], model: &mut [u32], lengths: &mut [u32]) {
@@ -174,6 +184,7 @@ fn clear_all(tree: &mut [u32], model: &mut [u32], lengths: &mut [u32]) {
 }
 
 fn run(
+    rt: &impl Print,
     pool: &mut [u32],
     tree: &mut [u32],
     model: &mut [u32],
@@ -181,17 +192,18 @@ fn run(
     counts: &mut [u64],
     calls: u64,
     seed: u32,
-) {
+) -> io::Result<()> {
     clear_all(tree, model, lengths);
     let before = rows::get(counts, rows::LISTS_LATER);
     let most = make_calls(pool, tree, model, lengths, counts, calls, seed);
     rows::same(counts, reference::overruns(tree) == 0);
     let later = rows::growth(counts, rows::LISTS_LATER, before);
-    print_run(seed, walks::nodes(pool), calls, most, later, lengths);
+    print_run(rt, seed, walks::nodes(pool), calls, most, later, lengths)
 }
 
 // a run on the first so many nodes of the words lent
 fn run_on(
+    rt: &impl Print,
     nodes: u32,
     pool: &mut [u32],
     tree: &mut [u32],
@@ -200,10 +212,11 @@ fn run_on(
     counts: &mut [u64],
     calls: u64,
     seed: u32,
-) {
+) -> io::Result<()> {
     let words = nodes as usize * numbers::NODE_WORDS;
     if words <= pool.len() {
         run(
+            rt,
             &mut pool[0..words],
             tree,
             model,
@@ -211,8 +224,9 @@ fn run_on(
             counts,
             calls,
             seed,
-        );
+        )?;
     }
+    Ok(())
 }
 
 // The runs, by number: their nodes, and how many calls. From SHORT_RUNS on they are short, for what a list at a run's start leads to, and are
@@ -242,15 +256,17 @@ fn calls_of(run: u32) -> u64 {
 
 // a run's number is its seed
 fn all_runs(
+    rt: &impl Print,
     pool: &mut [u32],
     tree: &mut [u32],
     model: &mut [u32],
     lengths: &mut [u32],
     counts: &mut [u64],
-) {
+) -> io::Result<()> {
     let mut n: u32 = 1;
     while n < RUNS {
         run_on(
+            rt,
             nodes_of(n),
             pool,
             tree,
@@ -259,17 +275,25 @@ fn all_runs(
             counts,
             calls_of(n),
             n,
-        );
+        )?;
         n += 1;
     }
+    Ok(())
 }
 
-fn main() {
+fn main(rt: HostRuntime) -> io::Result<()> {
     let mut pool = [0u32; POOL_WORDS];
     let mut tree = [0u32; reference::WORDS];
     let mut model = [0u32; model::WORDS];
     let mut lengths = [0u32; lengths::WORDS];
     let mut counts = [0u64; rows::ROWS];
-    all_runs(&mut pool, &mut tree, &mut model, &mut lengths, &mut counts);
-    count_lines::all(&counts);
+    all_runs(
+        &rt,
+        &mut pool,
+        &mut tree,
+        &mut model,
+        &mut lengths,
+        &mut counts,
+    )?;
+    count_lines::all(&rt, &counts)
 }

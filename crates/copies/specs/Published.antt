@@ -8,7 +8,6 @@ use Rattle.datatypes.specs.declared.Head.{Head}
 use Rattle.datatypes.specs.declared.Register.{Register}
 use Rattle.datatypes.specs.declared.StepResult.{StepResult}
 use Rattle.datatypes.specs.declared.Step.TheVariants.{Publish}
-use Rattle.spec.specs.Numbers.{slots}
 use Rattle.spec.specs.Pool.{child}
 use Rattle.spec.specs.Register.{State, state, node_at, set_link, with_held, with_awaited, with_write, count_down, reading_slots}
 use Rattle.spec.specs.Free.{retire}

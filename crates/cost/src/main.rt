@@ -17,7 +17,8 @@ ghost use Rattle.std.specs.Prelude.{◌≡◌, ◌<◌, ◌≤◌, length};
 ghost use Rattle.spec.specs.Numbers.{least_nodes, most_nodes, slots};
 
 use datatypes::{Link, Register, Step, Store};
-use libc::STDOUT_FILENO;
+use std::rt::Env;
+use std::{env, io};
 
 const MOST_WORDS: usize = numbers::MOST_NODES * numbers::NODE_WORDS;
 
@@ -32,10 +33,17 @@ const DEEP: u32 = 64;
 // no call, or no write in hand
 const NONE: u8 = b'-';
 
-fn argument(i: usize) -> u8 {
-    let mut one = [0u8; 1];
-    os::arg(i, &mut one);
-    one[0]
+// the bytes of the buffer that the page is put into
+const BUFFER: usize = 65_536;
+
+// the first byte of an argument, 0 where there is none
+fn argument(rt: &(impl Env + AllocGlobal), i: usize) -> io::Result<u8> {
+    for (place, text) in env::args(rt)?.enumerate() {
+        if place == i {
+            return Ok(text.as_bytes().first().copied().unwrap_or(0));
+        }
+    }
+    Ok(0)
 }
 
 fn size_of(letter: u8) -> usize
@@ -498,23 +506,26 @@ fn seen(out: &[u8], place: usize) -> u32 {
     if out[i] == 0 { 0 } else { 1 }
 }
 
-fn main() {
-    let size = argument(2);
+fn main(rt: HostRuntime) -> io::Result<()> {
+    let size = argument(&rt, 2)?;
     let n = size_of(size) * numbers::NODE_WORDS;
     let keys = keys_of(size);
+    let call = argument(&rt, 1)?;
+    let mode = argument(&rt, 3)?;
+    let slot = argument(&rt, 4)?;
     let mut words = [0u32; MOST_WORDS];
     let mut kept = [0u32; MOST_WORDS];
-    let mut out = io::large_buffer();
+    let mut out = [0u8; BUFFER];
     let sum = run_on(
         &mut words,
         &mut kept,
         &mut out,
         n,
-        argument(1),
+        call,
         keys,
-        argument(3),
-        (argument(4) % 2) as u32,
+        mode,
+        (slot % 2) as u32,
     );
     let told = std::num::wrapping_add_u32(sum, seen(&out, sum as usize));
-    io::print_decimal(STDOUT_FILENO, told as u64);
+    print!(rt; "{told}")
 }

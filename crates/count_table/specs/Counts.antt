@@ -1,5 +1,5 @@
 -- 02, C-17: how many nodes a reading has compared, in the slot's record and in the replies of its turns.
-use Rattle.std.specs.Prelude.{ℕ, zero, suc, ◌+◌, ◌*◌, ◌-◌, List, [], ◌∷◌, ◌++◌, replicate}
+use Rattle.std.specs.Prelude.{ℕ, zero, suc, ◌+◌, ◌*◌, List, [], ◌∷◌, ◌++◌, replicate}
 use Prim.Native.String.{String}
 use Rattle.datatypes.specs.declared.Link.TheVariants.{Root, Left, Right}
 use Rattle.datatypes.specs.declared.Kind.TheVariants as kind

@@ -40,7 +40,7 @@ erase-back f L N x y = refl
 erase-back f R N x y = refl
 
 red_sibling-tree : (o : Nephew) (s : Side) (f : ℕ → Colour) (B : Node) (k v : ℕ) (x z : Linked) (u : Tree)
-    → (let w = erase f (at (other s) B x z) in mk s black (Seq.key_of_lem w) (Seq.record_of w) (under o s k v u (Seq.child s w)) (Seq.child (other s) w))
+    → (let w = erase f (at (other s) B x z) in mk s black (Seq.key_of w) (Seq.record_of w) (under o s k v u (Seq.child s w)) (Seq.child (other s) w))
     ≡ mk (other s) black B.key B.val (erase f x) (under_red_copy o (other s) k v (erase f z) u)
 red_sibling-tree o L f B k v x z u = rw (under-copy o L k v u (erase f z))
 red_sibling-tree o R f B k v x z u = rw (under-copy o R k v u (erase f z))

@@ -1,5 +1,5 @@
 -- A word after a word is set, once over node and word; with its conditions as tests, so that `simp` applies it at numerals.
-use Rattle.std.specs.Prelude.{◌≡◌, refl, List, true, cond, ◌&&◌, ◌≢◌, ◌⊎◌, eqb, leb, ltb, length, get_or, set, ℕ, ◌-◌, ◌*◌, ◌<◌, ◌≤◌}
+use Rattle.std.specs.Prelude.{◌≡◌, refl, List, true, cond, ◌&&◌, ◌≢◌, ◌⊎◌, eqb, leb, ltb, length, get_or, set, ℕ, ◌*◌, ◌<◌, ◌≤◌}
 use Rattle.std.proofs.Common.{sym, inl, inr, length-set, get_or-set_same, get_or-set_other, eq-eqb, ne_eqb, leb-true, ltb-true, arith}
 use Rattle.std.proofs.Math.Decide.{ℕ_discrete}
 use Rattle.spec.specs.Numbers.{node_words}

@@ -6,7 +6,7 @@ use Rattle.datatypes.specs.declared.Link.TheVariants.{Root, Left, Right}
 use Rattle.datatypes.specs.declared.Step.TheVariants.{LinkAll, Insert, Unlink, Promote}
 use Rattle.spec.specs.Register.{State}
 use Rattle.spec.specs.Calls.{ok, go, absent, wait, found, more, done, refused}
-use Rattle.table.specs.Picture.{row, none, ◌on◌, key, record_low, left, right, colour, standing, holders, next_free, Change, ◌of◌:=◌, root:=◌, first:=◌, last:=◌}
+use Rattle.table.specs.Picture.{row, ◌on◌, key, record_low, left, colour, standing, holders, next_free, Change, ◌of◌:=◌, root:=◌, first:=◌, last:=◌}
 use Rattle.table.specs.Picture.{free:=◌, held:=◌, awaited:=◌, count:=◌, hand, at_rest, reader◌:=◌, store◌:=◌, reads, idle, ◌counting◌, ◌but◌}
 use Rattle.table.specs.Entry.{I, D, W, B, S, R, E, ◌⇒◌, leaves, Entry, entry}
 use Rattle.table.specs.Lent.{three}

@@ -6,7 +6,7 @@ use Rattle.datatypes.specs.declared.Link.TheVariants.{Root}
 use Rattle.datatypes.specs.declared.Step.TheVariants.{Insert, Unlink}
 use Rattle.spec.specs.Register.{State, state}
 use Rattle.spec.specs.Calls.{ok, refused}
-use Rattle.table.specs.Picture.{none, ◌on◌, left, right, colour, standing, next_free, Change, ◌of◌:=◌, root:=◌, first:=◌, last:=◌, free:=◌, held:=◌, count:=◌, hand}
+use Rattle.table.specs.Picture.{◌on◌, left, right, colour, standing, next_free, Change, ◌of◌:=◌, root:=◌, first:=◌, last:=◌, free:=◌, held:=◌, count:=◌, hand}
 use Rattle.table.specs.Picture.{reader◌:=◌, store◌:=◌, idle, ◌but◌, words}
 use Rattle.table.specs.Entry.{◌⇒◌, Entry, entry}
 use Rattle.table.specs.Lent.{three, single}

@@ -3,13 +3,13 @@ use Rattle.std.specs.Prelude.{ℕ, Bool, true, false, cond, ◌&&◌, List, [], 
 use Rattle.datatypes.specs.declared.Side.{Side}
 use Rattle.datatypes.specs.declared.Side.TheVariants.{L, R}
 use Rattle.datatypes.specs.Side.{other}
-use Rattle.sequential.specs.Tree.{Colour, red, black, Tree, leaf, node, if_red, mk, child, key_of_lem, record_of, colour_of, paint, red_child, Frame, frame, plug, descend, diag, zig}
+use Rattle.sequential.specs.Tree.{Colour, red, black, Tree, leaf, node, if_red, mk, child, key_of, record_of, colour_of, paint, red_child, Frame, frame, plug, descend, diag, zig}
 use Rattle.sequential.specs.Insert.{insert}
 use Rattle.sequential.specs.Balanced.{balanced_tree, list_right}
 
 -- w with its child on the side z black
 abbrev pub black_outer : Side → Tree → Tree
-black_outer z w = mk z (colour_of w) (key_of_lem w) (record_of w) (paint black (child z w)) (child (other z) w)
+black_outer z w = mk z (colour_of w) (key_of w) (record_of w) (paint black (child z w)) (child (other z) w)
 
 -- x lacks a black node and is on the side s of its parent (c, k, v); its sibling w is black and has a red child.
 -- The outer child red: case 4, a diag. Only the inner one: cases 3 and 4, a zig.
@@ -29,7 +29,7 @@ rb_delete_fixup (frame s c k v w ∷ fs) x =
     if_red (colour_of x)
     (plug fs (mk s c k v (paint black x) w))
     (if_red (colour_of w)
-    (plug fs (mk s black (key_of_lem w) (record_of w) (under_red s k v x (child s w)) (child (other s) w)))
+    (plug fs (mk s black (key_of w) (record_of w) (under_red s k v x (child s w)) (child (other s) w)))
     (if_red (red_child w)
     (plug fs (sibling_turn s c k v x w))
     (rb_delete_fixup fs (mk s c k v x (paint red w)))))

@@ -51,9 +51,9 @@ child s leaf = leaf
 child L (node c k v l r) = l
 child R (node c k v l r) = r
 
-abbrev pub key_of_lem : Tree → ℕ
-key_of_lem leaf = 0
-key_of_lem (node c k v l r) = k
+abbrev pub key_of : Tree → ℕ
+key_of leaf = 0
+key_of (node c k v l r) = k
 
 abbrev pub record_of : Tree → ℕ
 record_of leaf = 0
@@ -101,10 +101,10 @@ descend (node c k v l r) q fs =
 -- diag: the child b on the side z rises.
 abbrev pub diag : Side → Colour → Colour → ℕ → ℕ → Tree → Tree → Tree
 diag z risen low k v b y =
-    mk z risen (key_of_lem b) (record_of b) (child z b) (mk z low k v (child (other z) b) y)
+    mk z risen (key_of b) (record_of b) (child z b) (mk z low k v (child (other z) b) y)
 
 -- zig: the inner child of the child a on the side z rises.
 abbrev pub zig : Side → Colour → Colour → ℕ → ℕ → Tree → Tree → Tree
 zig z risen low k v a y =
     let b = child (other z) a in
-    mk z risen (key_of_lem b) (record_of b) (mk z low (key_of_lem a) (record_of a) (child z a) (child z b)) (mk z low k v (child (other z) b) y)
+    mk z risen (key_of b) (record_of b) (mk z low (key_of a) (record_of a) (child z a) (child z b)) (mk z low k v (child (other z) b) y)

@@ -17,7 +17,7 @@ use Rattle.spec.specs.Register.{State, state, set_link}
 use Rattle.spec.specs.Free.{take_node, queue_empty}
 use Rattle.spec.specs.Search.{path_to}
 use Rattle.spec.specs.Plan.{insert_fixup, paint_insert_fixup, fixup_after_insert, missing}
-use Rattle.spec.specs.Turn.{Made, made, one_more, end_insert, insert_store, nodes_found, step_finds, step_made}
+use Rattle.spec.specs.Turn.{made, one_more, end_insert, insert_store, nodes_found, step_finds, step_made}
 use Rattle.laws.specs.Turns.{and-false}
 
 end-insert-register : (e : Ending) (st : State) → (end_insert e st).register ≡ st.register

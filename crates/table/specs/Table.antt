@@ -1,22 +1,11 @@
--- Every entry of the tables of crate table passes. It is computed over the definitions of crate spec, each named below.
-use Rattle.std.specs.Prelude.{◌≡◌, refl, true}
-use Rattle.base.specs.Walk.{all_from, all_in, fold_from, fold_in}
-use Rattle.spec.specs.Pool.{word, set_word, record_at, node_in_range, pool_in_range, length_right, fresh_nodes, fresh_pool}
-use Rattle.spec.specs.Register.{with_root, with_queue, with_held, with_reader, with_awaited, with_write, node_at, set_link}
-use Rattle.spec.specs.Register.{put_slot, drop_slot, reading_slots, store_in_range, register_in_range, fresh_register, fresh, write_of, less_first}
-use Rattle.spec.specs.Free.{take_free, fill_as, take_as, free_node, retire, retire_two, release, end_reading}
-use Rattle.spec.specs.Search.{seek, trail, leftmost}
-use Rattle.spec.specs.Plan.{insert_fixup, fixup_after_insert, paint_insert_fixup, red_sibling, delete_fixup, fixup_after_removal, paint_delete_levels}
-use Rattle.spec.specs.Plan.{paint_delete_fixup, insert_plan, unlink_plan, delete_plan}
-use Rattle.spec.specs.Turn.{insert_store, replace_store, diag_lower, diag_raise, zig_lower_a, zig_lower_c, zig_raise, unlink_store, adopt_store, promote_store}
-use Rattle.spec.specs.Turn.{moved_write, publish_store, detach_store, step_finds, link_all_store, step_made}
-use Rattle.spec.specs.Calls.{set_up, insert, delete, stored, writer_turn, begin, reader_step, reader_turn, give_up}
+-- Every entry of the tables of crate table passes.
+use Rattle.std.specs.Prelude.{◌≡◌, true}
 use Rattle.table.specs.Entry.{all_pass}
 use Rattle.table.specs.Starred.{starred}
 use Rattle.table.specs.Readers.{readers}
 use Rattle.table.specs.NextTickets.{next_tickets}
 use Rattle.table.specs.Turns.{turns}
-use Rattle.table.specs.Answers.{Answers, answers}
+use Rattle.table.specs.Answers.{Answers}
 
 pub record TablesPass : Type 0 where
   pub starred : all_pass starred ≡ true
@@ -24,12 +13,3 @@ pub record TablesPass : Type 0 where
   pub next_tickets : all_pass next_tickets ≡ true
   pub turns : all_pass turns ≡ true
   pub answers : Answers
-
-pub tables-pass : TablesPass
-unfolding all_from all_in fold_from fold_in word set_word record_at node_in_range pool_in_range length_right fresh_nodes fresh_pool with_root with_queue with_held with_reader
-    with_awaited with_write node_at set_link put_slot drop_slot reading_slots store_in_range register_in_range fresh_register fresh write_of less_first take_free
-    fill_as take_as free_node retire retire_two release end_reading seek trail leftmost insert_fixup fixup_after_insert paint_insert_fixup red_sibling
-    delete_fixup fixup_after_removal paint_delete_levels paint_delete_fixup insert_plan unlink_plan delete_plan insert_store replace_store diag_lower diag_raise
-    zig_lower_a zig_lower_c zig_raise unlink_store adopt_store promote_store moved_write publish_store detach_store link_all_store step_finds step_made set_up insert delete stored
-    writer_turn begin reader_step reader_turn give_up
-tables-pass = record { starred = refl; readers = refl; next_tickets = refl; turns = refl; answers = answers }

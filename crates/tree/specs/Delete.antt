@@ -6,7 +6,7 @@ use Rattle.std.proofs.Math.Option.{none, some}
 use Rattle.datatypes.specs.declared.Side.{Side}
 use Rattle.datatypes.specs.declared.Side.TheVariants.{L, R}
 use Rattle.datatypes.specs.Side.{other}
-use Rattle.sequential.specs.Tree.{Colour, red, black, Tree, leaf, node, if_red, mk, child, key_of_lem, record_of, colour_of, red_child, find, Frame, frame, plug, descend, diag, zig}
+use Rattle.sequential.specs.Tree.{Colour, red, black, Tree, leaf, node, if_red, mk, child, key_of, record_of, colour_of, red_child, find, Frame, frame, plug, descend, diag, zig}
 use Rattle.sequential.specs.Proper.{Ord, Below, Ordered}
 use Rattle.sequential.specs.Delete.{black_outer, sibling_turn, under_red, rb_delete_fixup, after_removal, least_key, least_record, remove_least, remove, delete}
 use Rattle.tree.specs.Order.{ord-trans, ord-anti, ord-apart, near_of, here_of, tri-case}
@@ -20,7 +20,7 @@ use Rattle.tree.specs.DeleteShape.{red_child-inner, red_child-there}
 -- The fix-up keeps the tickets.
 black_outer-keeps : (z : Side) (w : Tree) → NotLeaf w → Keeps w (black_outer z w)
 black_outer-keeps z w n =
-    let at-w : Keeps (mk z (colour_of w) (key_of_lem w) (record_of w) (child z w) (child (other z) w)) (black_outer z w) = keeps-mk z _ _ _ _ (keeps-paint black (child z w)) (keeps-refl _) in
+    let at-w : Keeps (mk z (colour_of w) (key_of w) (record_of w) (child z w) (child (other z) w)) (black_outer z w) = keeps-mk z _ _ _ _ (keeps-paint black (child z w)) (keeps-refl _) in
     subst (λ t. Keeps t (black_outer z w)) (whole z w n) at-w
 
 nephew-keeps : (z : Side) (c : Colour) (k v : ℕ) (x w : Tree) → red_child w ≡ red
@@ -39,15 +39,15 @@ under_red-keeps s c k v x w =
 
 -- Case 1 of the fix-up, a red sibling, is a diag, whose lower node has x and the sibling's inner child
 pub red_sibling-diag : (s : Side) (k v : ℕ) (x w : Tree)
-    → diag (other s) black red k v w x ≡ mk s black (key_of_lem w) (record_of w) (mk s red k v x (child s w)) (child (other s) w)
+    → diag (other s) black red k v w x ≡ mk s black (key_of w) (record_of w) (mk s red k v x (child s w)) (child (other s) w)
 red_sibling-diag L k v x w = refl
 red_sibling-diag R k v x w = refl
 
 red_sibling-keeps : (s : Side) (c : Colour) (k v : ℕ) (x w : Tree) → colour_of w ≡ red
-    → Keeps (mk s c k v x w) (mk s black (key_of_lem w) (record_of w) (under_red s k v x (child s w)) (child (other s) w))
+    → Keeps (mk s c k v x w) (mk s black (key_of w) (record_of w) (under_red s k v x (child s w)) (child (other s) w))
 red_sibling-keeps s c k v x w e =
     let turn = keeps-diag (other s) c black red k v w x (red-there w e) in
-    let turned : Keeps (mk s c k v x w) (mk s black (key_of_lem w) (record_of w) (mk s red k v x (child s w)) (child (other s) w)) = rw (mk-other s c k v x w, red_sibling-diag s k v x w) at turn in
+    let turned : Keeps (mk s c k v x w) (mk s black (key_of w) (record_of w) (mk s red k v x (child s w)) (child (other s) w)) = rw (mk-other s c k v x w, red_sibling-diag s k v x w) at turn in
     keeps-trans turned (keeps-mk s black black _ _ (under_red-keeps s red k v x (child s w)) (keeps-refl _))
 
 pub rb_delete_fixup-keeps : (fs : List Frame) (x : Tree) → Keeps (plug fs x) (rb_delete_fixup fs x)

@@ -5,7 +5,7 @@ use Rattle.std.specs.Prelude.{ℕ, zero, suc, ◌≡◌, refl, Bool, true, false
 use Rattle.std.proofs.Common.{ap, ◌∙◌, arith}
 use Rattle.datatypes.specs.declared.Side.{Side}
 use Rattle.datatypes.specs.Side.{other}
-use Rattle.sequential.specs.Tree.{Colour, red, black, Tree, if_red, mk, child, key_of_lem, record_of, colour_of, paint, red_child, Frame, frame, plug, diag, zig}
+use Rattle.sequential.specs.Tree.{Colour, red, black, Tree, if_red, mk, child, key_of, record_of, colour_of, paint, red_child, Frame, frame, plug, diag, zig}
 use Rattle.sequential.specs.Delete.{black_outer, sibling_turn, under_red, rb_delete_fixup}
 use Rattle.tree.specs.Sorted.{NotLeaf, colour-case, colour_of-mk}
 use Rattle.tree.specs.RedBlack.{Fit, fit-top, fit-red, fit-black, red-child, root_is, tall-there}
@@ -69,7 +69,7 @@ delete_ended darken fs x = plug fs (paint black x)
 delete_ended (at_black_sibling b) [] x = x
 delete_ended (at_black_sibling b) (frame s c k v w ∷ fs) x = plug fs (nephew_turn b s c k v x w)
 delete_ended (at_red_sibling l) [] x = x
-delete_ended (at_red_sibling l) (frame s c k v w ∷ fs) x = plug fs (mk s black (key_of_lem w) (record_of w) (under l s k v x (child s w)) (child (other s) w))
+delete_ended (at_red_sibling l) (frame s c k v w ∷ fs) x = plug fs (mk s black (key_of w) (record_of w) (under l s k v x (child s w)) (child (other s) w))
 
 -- a sibling's nephew, as the fix-up tests for it and as `nephew_of` names it
 nephew-case : {A : Type 0} (s : Side) (w : Tree)
@@ -92,7 +92,7 @@ delete_fixup-ends (frame s c k v w ∷ fs) x =
     colour-case (colour_of x)
     (λ e. rw e)
     (λ e. rw e (colour-case (colour_of w)
-    (λ f. rw f (ap (λ t. plug fs (mk s black (key_of_lem w) (record_of w) t (child (other s) w))) (under_red-nephew s k v x (child s w))))
+    (λ f. rw f (ap (λ t. plug fs (mk s black (key_of w) (record_of w) t (child (other s) w))) (under_red-nephew s k v x (child s w))))
     (λ f. nephew-case s w (λ b l r h. rw (l, r, h c k v x, f)) (λ l r. rw (l, r, f) (rw colour_of-mk at (delete_fixup-ends fs (mk s c k v x (paint red w))))))))
 
 -- In a red-black tree the delete fix-up never names a node that is missing: siblings are there, and so is a red sibling's child next to x.

@@ -4,7 +4,7 @@ use Rattle.std.proofs.Common.{sym, ap, ◌∙◌, arith}
 use Rattle.datatypes.specs.declared.Side.{Side}
 use Rattle.datatypes.specs.declared.Side.TheVariants.{L, R}
 use Rattle.datatypes.specs.Side.{other}
-use Rattle.sequential.specs.Tree.{Colour, red, black, Tree, leaf, node, if_red, mk, child, key_of_lem, record_of, colour_of, paint, red_child, Frame, frame, plug, diag, zig}
+use Rattle.sequential.specs.Tree.{Colour, red, black, Tree, leaf, node, if_red, mk, child, key_of, record_of, colour_of, paint, red_child, Frame, frame, plug, diag, zig}
 use Rattle.sequential.specs.Proper.{RB, rb-leaf, rb-red, rb-black, RedBlack}
 use Rattle.sequential.specs.Delete.{black_outer, sibling_turn, under_red, rb_delete_fixup, after_removal, remove_least, remove, delete}
 use Rattle.tree.specs.Sorted.{if_red-case, NotLeaf, parts, colour_of-mk, paint-mk}
@@ -49,7 +49,7 @@ nephew-good z c k v {h} {x} {w} rx rw' e = go (black-child z rw').0 (black-child
   where
     go : (d e : Colour) → RB d h (child z w) → RB e h (child (other z) w)
         → RB c (above c (suc h)) (if_red (colour_of (child z w)) (diag z c black k v (black_outer z w) x) (zig z c black k v w x))
-    go red e o i = rw (root_is o) (simp parts (mk-any z c (key_of_lem w) (record_of w) (blacken o) (mk-black z k v i rx)))
+    go red e o i = rw (root_is o) (simp parts (mk-any z c (key_of w) (record_of w) (blacken o) (mk-black z k v i rx)))
     go black red o i = rw (root_is o) (mk-any z c _ _ (mk-black z _ _ o (red-child z i)) (mk-black z k v (red-child (other z) i) rx))
     go black black o i = absurd (not-both (red_child-inner z w e (root_is o)) (root_is i))
 

@@ -6,7 +6,7 @@ use Rattle.std.proofs.Math.Option.{none, some}
 use Rattle.datatypes.specs.declared.Side.{Side}
 use Rattle.datatypes.specs.declared.Side.TheVariants.{L}
 use Rattle.datatypes.specs.Side.{other}
-use Rattle.sequential.specs.Tree.{Colour, red, black, Tree, leaf, node, mk, key_of_lem, record_of, colour_of, paint, find, Frame, frame, plug, descend}
+use Rattle.sequential.specs.Tree.{Colour, red, black, Tree, leaf, node, mk, key_of, record_of, colour_of, paint, find, Frame, frame, plug, descend}
 use Rattle.sequential.specs.Proper.{RB, rb-leaf, rb-red, rb-black, RedBlack}
 use Rattle.sequential.specs.Insert.{turn_up, rb_insert_fixup, inserted_at, insert}
 use Rattle.tree.specs.Order.{here_of, tri-case}
@@ -21,7 +21,7 @@ turn_up-good : {z s : Side} {b : Bool} → OuterOrInner z s b → (k v j w : ℕ
     → RB black (suc h) (turn_up b z j w (mk s red k v x y) a)
 turn_up-good {z} outer k v j w r ry ra = simp parts (mk-black z k v r (mk-red z j w ry ra))
 turn_up-good {z} inner k v j w {x = x} {y = y} r ry ra =
-    rw (mk-other z red k v y x) (simp parts (mk-black z (key_of_lem x) (record_of x) (mk-red z k v ry (red-child z r)) (mk-red z j w (red-child (other z) r) ra)))
+    rw (mk-other z red k v y x) (simp parts (mk-black z (key_of x) (record_of x) (mk-red z k v ry (red-child z r)) (mk-red z j w (red-child (other z) r) ra)))
 
 -- the fix-up can end with a red root, which `inserted_at` paints black
 pub rb_insert_fixup-good : {fs : List Frame} {h : ℕ} {x : Tree} → Fit fs black h → RB red h x → RedBlack (paint black (rb_insert_fixup fs x))

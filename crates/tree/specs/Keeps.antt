@@ -5,7 +5,7 @@ use Rattle.std.proofs.Common.{◌∙◌, arith}
 use Rattle.datatypes.specs.declared.Side.{Side}
 use Rattle.datatypes.specs.declared.Side.TheVariants.{L}
 use Rattle.datatypes.specs.Side.{other}
-use Rattle.sequential.specs.Tree.{Colour, Tree, leaf, node, mk, child, key_of_lem, record_of, colour_of, paint, find, Frame, frame, plug, diag, zig}
+use Rattle.sequential.specs.Tree.{Colour, Tree, leaf, node, mk, child, key_of, record_of, colour_of, paint, find, Frame, frame, plug, diag, zig}
 use Rattle.sequential.specs.Proper.{Below, Ordered}
 use Rattle.tree.specs.Order.{ord-other, other-ord, cut-case, cut3-case}
 use Rattle.tree.specs.Sorted.{size, NotLeaf, find-mk, below-mk, ordered-mk, size-mk, below-trans, whole}
@@ -70,14 +70,14 @@ keeps-zig-parts z k v j w i u c d e f g a x b y = record {
 -- the top's child on the side z rises, whatever the colours
 pub keeps-diag : (z : Side) (c e f : Colour) (k v : ℕ) (b y : Tree) → NotLeaf b → Keeps (mk z c k v b y) (diag z e f k v b y)
 keeps-diag z c e f k v b y n =
-    let at_b : Keeps (mk z c k v (mk z (colour_of b) (key_of_lem b) (record_of b) (child z b) (child (other z) b)) y) (diag z e f k v b y) =
-    keeps-diag-parts z k v (key_of_lem b) (record_of b) c (colour_of b) e f (child z b) (child (other z) b) y in
+    let at_b : Keeps (mk z c k v (mk z (colour_of b) (key_of b) (record_of b) (child z b) (child (other z) b)) y) (diag z e f k v b y) =
+    keeps-diag-parts z k v (key_of b) (record_of b) c (colour_of b) e f (child z b) (child (other z) b) y in
     rw (whole z b n) at at_b
 
 -- the inner child of that child rises
 pub keeps-zig : (z : Side) (c e f : Colour) (k v : ℕ) (a y : Tree) → NotLeaf a → NotLeaf (child (other z) a) → Keeps (mk z c k v a y) (zig z e f k v a y)
 keeps-zig z c e f k v a y n m =
     let b = child (other z) a in
-    let at_b : Keeps (mk z c k v (mk z (colour_of a) (key_of_lem a) (record_of a) (child z a) (mk z (colour_of b) (key_of_lem b) (record_of b) (child z b) (child (other z) b))) y) (zig z e f k v a y) =
-    keeps-zig-parts z k v (key_of_lem a) (record_of a) (key_of_lem b) (record_of b) c (colour_of a) (colour_of b) e f (child z a) (child z b) (child (other z) b) y in
+    let at_b : Keeps (mk z c k v (mk z (colour_of a) (key_of a) (record_of a) (child z a) (mk z (colour_of b) (key_of b) (record_of b) (child z b) (child (other z) b))) y) (zig z e f k v a y) =
+    keeps-zig-parts z k v (key_of a) (record_of a) (key_of b) (record_of b) c (colour_of a) (colour_of b) e f (child z a) (child z b) (child (other z) b) y in
     rw (whole z b m, whole z a n) at at_b

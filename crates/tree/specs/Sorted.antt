@@ -6,7 +6,7 @@ use Rattle.std.proofs.Common.{arith}
 use Rattle.datatypes.specs.declared.Side.{Side}
 use Rattle.datatypes.specs.declared.Side.TheVariants.{L, R}
 use Rattle.datatypes.specs.Side.{other, same_side}
-use Rattle.sequential.specs.Tree.{Colour, red, black, Tree, leaf, node, if_red, Rel, near, here, far, turned, rel, pick, mk, child, key_of_lem, record_of, colour_of, paint, find}
+use Rattle.sequential.specs.Tree.{Colour, red, black, Tree, leaf, node, if_red, Rel, near, here, far, turned, rel, pick, mk, child, key_of, record_of, colour_of, paint, find}
 use Rattle.sequential.specs.Proper.{Ord, Below, Ordered}
 use Rattle.tree.specs.Order.{ord-trans, ord-past, near_of, far-of}
 
@@ -63,7 +63,7 @@ pub colour_of-mk : (s : Side) (c : Colour) (k v : ℕ) (x y : Tree) → colour_o
 colour_of-mk L c k v x y = refl
 colour_of-mk R c k v x y = refl
 
-pub key_of-mk : (s : Side) (c : Colour) (k v : ℕ) (x y : Tree) → key_of_lem (mk s c k v x y) ≡ k
+pub key_of-mk : (s : Side) (c : Colour) (k v : ℕ) (x y : Tree) → key_of (mk s c k v x y) ≡ k
 key_of-mk L c k v x y = refl
 key_of-mk R c k v x y = refl
 
@@ -87,7 +87,7 @@ paint-mk R d c k v x y = refl
 pub ruleset parts = (key_of-mk, record_of-mk, colour_of-mk, child-mk, child-other-mk, paint-mk)
 
 -- a node is made of its parts, from each side
-pub whole : (s : Side) (t : Tree) → NotLeaf t → mk s (colour_of t) (key_of_lem t) (record_of t) (child s t) (child (other s) t) ≡ t
+pub whole : (s : Side) (t : Tree) → NotLeaf t → mk s (colour_of t) (key_of t) (record_of t) (child s t) (child (other s) t) ≡ t
 whole s leaf n = absurd n
 whole L (node c k v l r) n = refl
 whole R (node c k v l r) n = refl

@@ -1,7 +1,6 @@
 // The index's pool beside the reference tree, node by node.
 #![tactic(auto)]
 
-
 // a node's words in a pool
 const KEY: usize = 0;
 

@@ -1,3 +1,2 @@
 // No code: the examples of wide records stand in specs/.
 #![tactic(auto)]
-

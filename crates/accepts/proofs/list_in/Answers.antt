@@ -1,4 +1,3 @@
-use Prim.Native.Nat.{◌-◌}
 use mathlib.Core.Path.{sym, ap, ◌∙◌}
 use native.Mathlib.Omega.{arith}
 use lib.ListN.{length}
@@ -23,6 +22,9 @@ overflow_cast-keys c =
 pub returns : goal.returns
 unfolding with_write
 returns c =
-    let a = c.args in let st = state a.pool.now a.reg in let e = list-goes st a.keys.now a.records.now c.requires.0 c.requires.1 c.requires.2 in let g = c.grow-grown in record { answer_value = c.accepted.ensures.0 ∙ sym (ap (λ (o : Outcome). o.answer) e); register_after = rw (c.accepted.ensures.1, c.with_head.ensures, c.list_write-write.ensures)
+    let a = c.args in let st = state a.pool.now a.reg in let e = list-goes st a.keys.now a.records.now c.requires.0 c.requires.1 c.requires.2 in let g = c.grow-grown in record {
+      answer_value = c.accepted.ensures.0 ∙ sym (ap (λ (o : Outcome). o.answer) e);
+      register_after = rw (c.accepted.ensures.1, c.with_head.ensures, c.list_write-write.ensures)
           (ap (λ k. (accepted_list k (length a.keys.now)).after) (g.ensures a.reg ∙ ap (λ h. grown_tree (at a.pool.now h a.reg) a.keys.now a.records.now) c.head_of.ensures)
-          ∙ sym (ap (λ (o : Outcome). o.after) e)) }
+          ∙ sym (ap (λ (o : Outcome). o.after) e));
+    }

@@ -1,9 +1,7 @@
-use Prim.Native.Nat.{◌-◌}
 use Rattle.bulk.specs.Growing.{levels-less, levels-here}
 use mathlib.Core.Path.{refl, sym, ◌∙◌}
 use native.Mathlib.Omega.{arith}
 use borrow.Author.Rules.{rules}
-use Prim.Native.Nat.{◌-◌}
 use Rattle.bulk.proofs.black_levels.Goals as goal
 
 pub loop-p-init : goal.loop-p-init

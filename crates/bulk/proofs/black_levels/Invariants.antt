@@ -1,7 +1,7 @@
-use Prim.Native.Nat.{◌≤◌, ◌-◌, ◌^◌}
+use Prim.Native.Nat.{◌≤◌, ◌^◌}
 use Rattle.sequential.specs.Balanced.{levels_to}
 use mathlib.Core.Path.{◌≡◌}
-use Prim.Native.Nat.{◌≤◌, ◌-◌, ◌^◌}
+use Prim.Native.Nat.{◌≤◌, ◌^◌}
 use Rattle.bulk.proofs.black_levels.Given as goal
 
 abbrev pub invariant-loop-p : goal.invariant-loop-p

@@ -1,4 +1,4 @@
-use Prim.Native.Nat.{◌+◌, ◌-◌}
+use Prim.Native.Nat.{◌+◌}
 use borrow.Author.Tests.{lt-leb, le-leb}
 use Rattle.bulk.proofs.held_more.Goals as goal
 

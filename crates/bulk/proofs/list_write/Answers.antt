@@ -1,4 +1,3 @@
-use Prim.Native.Nat.{◌-◌}
 use Rattle.spec.specs.Register.{write_of}
 use Rattle.bulk.proofs.list_write.Goals as goal
 

@@ -1,4 +1,3 @@
-
 use Rattle.copies.proofs.moved_link.Goals as goal
 
 pub returns-in-Right : goal.returns-in-Right

@@ -1,4 +1,3 @@
-
 use Rattle.copies.proofs.moved_store.Goals as goal
 
 pub returns : goal.returns

@@ -1,7 +1,6 @@
 use Rattle.spec.specs.Turn.{moved_store, moved_write}
 use Rattle.copies.specs.Moved.{map-all, map_next, map-none}
-use lib.ListN.{length-map, length-set}
-use Prim.Native.Nat.{◌-◌}
+use lib.ListN.{length-set}
 use mathlib.Core.Path.{refl, sym, ◌∙◌}
 use native.Mathlib.Omega.{arith}
 use borrow.Author.Rules.{rules}

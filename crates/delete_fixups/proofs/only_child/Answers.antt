@@ -1,4 +1,3 @@
-
 use Rattle.delete_fixups.proofs.only_child.Goals as goal
 
 pub returns : goal.returns

@@ -1,4 +1,3 @@
-
 use Rattle.delete_fixups.proofs.paint_end.Goals as goal
 
 pub returns-in-Balanced : goal.returns-in-Balanced

@@ -1,4 +1,3 @@
-
 use Rattle.delete_fixups.proofs.two_children.Goals as goal
 
 pub returns : goal.returns

@@ -1,4 +1,3 @@
-
 use Rattle.fixups.proofs.black_sibling.Goals as goal
 
 pub returns : goal.returns

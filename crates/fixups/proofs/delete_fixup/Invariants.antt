@@ -1,4 +1,4 @@
-use Prim.Native.Nat.{◌≤◌, ◌-◌, ◌+◌}
+use Prim.Native.Nat.{◌≤◌, ◌+◌}
 use lib.ListN.{length}
 use Rattle.paths.specs.Upward.{most_links, upward}
 use Rattle.spec.specs.Plan.{delete_fixup}

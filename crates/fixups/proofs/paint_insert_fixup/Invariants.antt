@@ -1,4 +1,4 @@
-use Prim.Native.Nat.{◌≤◌, ◌-◌}
+use Prim.Native.Nat.{◌≤◌}
 use lib.ListN.{length}
 use Rattle.paths.specs.Upward.{upward}
 use Rattle.spec.specs.Plan.{paint_insert_fixup}

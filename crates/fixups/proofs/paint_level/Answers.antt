@@ -1,4 +1,3 @@
-
 use Rattle.fixups.proofs.paint_level.Goals as goal
 
 pub returns : goal.returns

@@ -1,4 +1,3 @@
-
 use Rattle.fixups.proofs.red_child.Goals as goal
 
 pub returns : goal.returns

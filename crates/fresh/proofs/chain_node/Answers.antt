@@ -1,7 +1,6 @@
 use mathlib.Core.Path.{refl, sym, ◌∙◌}
 use native.Mathlib.Omega.{arith}
 use borrow.Author.Rules.{rules}
-use Prim.Native.Nat.{◌-◌}
 use Rattle.fresh.specs.Chained.{chained, chain-low, chain-last}
 use Rattle.fresh.proofs.chain_node.Goals as goal
 

@@ -1,4 +1,3 @@
-
 use Rattle.heads.proofs.await_readers.Goals as goal
 
 pub returns : goal.returns

@@ -41,5 +41,8 @@ returns c =
     let w : c.slot_refusal-why.result ≡ first_of (give_up_tests st s) = c.slot_refusal-why.ensures ∙ rw c.lent_refusal-lent.ensures (slot-tests st s i.result (not) 5 i.ensures.0) in
     let z = sym w ∙ c.if-why-ne0.false in
     let j : i.result ≡ s = index_of s i.result i.ensures.0 (slot_of s (wrong_length st) (out_of_range st) (not (reading st s)) 5 (omega arith) z) in
-    let e = unless-done (give_up_tests st s) st (outcome ok (end_reading st s)) z in record { answer_value = c.accepted.ensures.0 ∙ sym (ap (λ (o : Outcome). o.answer) e); register_after = rw (c.accepted.ensures.1, c.register_of-register.ensures, j, c.no_reader.ensures)
-          (rw c.head_of.ensures at (c.end_reading-left.ensures a.reg) ∙ sym (ap (λ (o : Outcome). o.after) e)) }
+    let e = unless-done (give_up_tests st s) st (outcome ok (end_reading st s)) z in record {
+      answer_value = c.accepted.ensures.0 ∙ sym (ap (λ (o : Outcome). o.answer) e);
+      register_after = rw (c.accepted.ensures.1, c.register_of-register.ensures, j, c.no_reader.ensures)
+          (rw c.head_of.ensures at (c.end_reading-left.ensures a.reg) ∙ sym (ap (λ (o : Outcome). o.after) e));
+    }

@@ -4,7 +4,6 @@ use Rattle.spec.specs.Pool.{length_right}
 use Rattle.laws.specs.Tests.{right-length, whole_length}
 use mathlib.Core.Bool.{true, false}
 use mathlib.Core.Path.{◌≡◌, refl, sym, ◌∙◌}
-use borrow.Author.Tests.{not-true, not-false}
 use Rattle.index.proofs.set_up.Goals as goal
 
 pub returns-then-not-length_right : goal.returns-then-not-length_right

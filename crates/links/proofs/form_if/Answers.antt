@@ -1,4 +1,3 @@
-
 use Rattle.links.proofs.form_if.Goals as goal
 
 pub returns-then-outer : goal.returns-then-outer

@@ -1,4 +1,3 @@
-
 use Rattle.links.proofs.link_at.Goals as goal
 
 pub returns-in-L : goal.returns-in-L

@@ -1,4 +1,3 @@
-
 use Rattle.lookups.proofs.empty_answer.Goals as goal
 
 pub returns-in-Next : goal.returns-in-Next

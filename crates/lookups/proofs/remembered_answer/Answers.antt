@@ -1,4 +1,3 @@
-
 use Rattle.lookups.proofs.remembered_answer.Goals as goal
 
 pub returns-then-x : goal.returns-then-x

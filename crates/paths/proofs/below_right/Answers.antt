@@ -11,5 +11,8 @@ returns-then-depth-eq0 c = let a = c.args in record { result_after = upward-none
 pub returns : goal.returns
 returns c =
     let a = c.args in
-    let d = c.if-depth-eq0.false in record { result_after = rw c.code_of.ensures
-          (upward-push a.path.now a.depth (Right a.b) (omega (arith, c.requires)) (omega (arith, c.ranges.b)) ∙ sym (below-link a.path.now a.depth a.b (omega arith))); upper_bound = omega (arith, c.requires) }
+    let d = c.if-depth-eq0.false in record {
+      result_after = rw c.code_of.ensures
+          (upward-push a.path.now a.depth (Right a.b) (omega (arith, c.requires)) (omega (arith, c.ranges.b)) ∙ sym (below-link a.path.now a.depth a.b (omega arith)));
+      upper_bound = omega (arith, c.requires);
+    }

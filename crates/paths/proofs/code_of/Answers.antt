@@ -1,4 +1,3 @@
-
 use Rattle.paths.proofs.code_of.Goals as goal
 
 pub returns-in-Left : goal.returns-in-Left

@@ -22,9 +22,12 @@ pub returns-then-same_link : goal.returns-then-same_link
 returns-then-same_link c =
     let l = c.loop-t in
     let a = c.args in
-    let e : same_link l.at a.t ≡ true = sym c.same_link.ensures ∙ c.if-same_link.true in record { result_after = rw c.code_of.ensures
+    let e : same_link l.at a.t ≡ true = sym c.same_link.ensures ∙ c.if-same_link.true in record {
+      result_after = rw c.code_of.ensures
           (upward-push l.path l.d l.at (omega arith) l.invariant.1
-          ∙ (sym (trail-here a.pool.now a.k a.t l.at l.node (upward l.path l.d) (path_bound - l.d) e) ∙ l.invariant.4)); upper_bound = omega arith }
+          ∙ (sym (trail-here a.pool.now a.k a.t l.at l.node (upward l.path l.d) (path_bound - l.d) e) ∙ l.invariant.4));
+      upper_bound = omega arith;
+    }
 
 pub shape_of-path-then-node-eq0 : goal.shape_of-path-then-node-eq0
 shape_of-path-then-node-eq0 c =

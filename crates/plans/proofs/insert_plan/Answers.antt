@@ -17,5 +17,8 @@ unfolding insert_plan fixup_after_insert
 returns c =
     let a = c.args in
     let st = state a.pool.now a.reg in
-    let h = insert-short st a.k a.l in record { possible_value = rw (c.plan.ensures.possible_value, c.fixup_after_insert-fix.ensures); write_value = rw (c.plan.ensures.write_value, c.one_store.ensures, c.fixup_after_insert-fix.ensures)
-          (push-write (store a.l (Insert a.k a.v) ∷ []) (ending_stores (fixup_after_insert st a.k a.l).ending) (omega arith)) }
+    let h = insert-short st a.k a.l in record {
+      possible_value = rw (c.plan.ensures.possible_value, c.fixup_after_insert-fix.ensures);
+      write_value = rw (c.plan.ensures.write_value, c.one_store.ensures, c.fixup_after_insert-fix.ensures)
+          (push-write (store a.l (Insert a.k a.v) ∷ []) (ending_stores (fixup_after_insert st a.k a.l).ending) (omega arith));
+    }

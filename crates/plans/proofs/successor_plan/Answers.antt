@@ -48,5 +48,8 @@ returns c =
     let i : c.fixup_after_removal-fix.result.ending ≡ next_removal st path = rw (c.fixup_after_removal-fix.ensures, c.child.ensures, n) in
     let z : child p L (child p R a.b) ≡ 0 → ⊥ = rw (← c.child-right.ensures, ← c.child-2.ensures) c.if-child-eq0.false in
     let h = removal-short p (next_node st path) (child p R (next_node st path)) path in
-    rw (successor-far st a.l a.b path (upward-some a.path.now a.depth c.if-depth-eq0.false) z) record { possible_value = rw (c.plan-2.ensures.possible_value, i); write_value = rw (c.plan-2.ensures.write_value, c.two_stores-2.ensures, c.word-key.ensures, n, i)
-          (push-write (store a.l (Publish (next_node st path)) ∷ store a.l (Detach (word p a.b key_word)) ∷ []) (ending_stores (next_removal st path)) (omega arith)) }
+    rw (successor-far st a.l a.b path (upward-some a.path.now a.depth c.if-depth-eq0.false) z) record {
+      possible_value = rw (c.plan-2.ensures.possible_value, i);
+      write_value = rw (c.plan-2.ensures.write_value, c.two_stores-2.ensures, c.word-key.ensures, n, i)
+          (push-write (store a.l (Publish (next_node st path)) ∷ store a.l (Detach (word p a.b key_word)) ∷ []) (ending_stores (next_removal st path)) (omega arith));
+    }

@@ -19,5 +19,8 @@ unfolding unlink_plan
 returns c =
     let a = c.args in
     let p = a.pool.now in
-    let h = removal-short p a.b (only_child p a.b) (upward a.path.now a.depth) in record { possible_value = rw (c.plan.ensures.possible_value, c.fixup_after_removal-fix.ensures, c.only_child-x.ensures); write_value = rw (c.plan.ensures.write_value, c.one_store.ensures, c.fixup_after_removal-fix.ensures, c.only_child-x.ensures)
-          (push-write (store a.l Unlink ∷ []) (ending_stores (fixup_after_removal p a.b (only_child p a.b) (upward a.path.now a.depth)).ending) (omega arith)) }
+    let h = removal-short p a.b (only_child p a.b) (upward a.path.now a.depth) in record {
+      possible_value = rw (c.plan.ensures.possible_value, c.fixup_after_removal-fix.ensures, c.only_child-x.ensures);
+      write_value = rw (c.plan.ensures.write_value, c.one_store.ensures, c.fixup_after_removal-fix.ensures, c.only_child-x.ensures)
+          (push-write (store a.l Unlink ∷ []) (ending_stores (fixup_after_removal p a.b (only_child p a.b) (upward a.path.now a.depth)).ending) (omega arith));
+    }

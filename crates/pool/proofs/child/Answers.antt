@@ -1,4 +1,3 @@
-
 use Rattle.pool.proofs.child.Goals as goal
 
 pub returns : goal.returns

@@ -1,4 +1,3 @@
-
 use Rattle.pool.proofs.is_red.Goals as goal
 
 pub returns : goal.returns

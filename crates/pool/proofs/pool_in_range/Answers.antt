@@ -1,7 +1,7 @@
 use borrow.Author.Rules.{rules}
 use Rattle.pool.specs.Faults.{part-bad, part-ok, all_one}
 use Rattle.base.specs.Walk.{all_end_lem}
-use Prim.Native.Nat.{◌+◌, ◌-◌}
+use Prim.Native.Nat.{◌+◌}
 use Rattle.spec.specs.Pool.{node_in_range, pool_in_range}
 use native.Mathlib.Omega.{arith}
 use mathlib.Core.Path.{sym, ◌∙◌}

@@ -1,4 +1,3 @@
-
 use Rattle.pool.proofs.set_words.Goals as goal
 
 pub returns : goal.returns

@@ -1,4 +1,3 @@
-use Prim.Native.Nat.{◌-◌}
 use Rattle.reading_ends.specs.Retired.{skip, release-next}
 use Rattle.base.specs.Walk.{fold_end}
 use Rattle.spec.specs.Register.{no_reader, with_reader, with_awaited}

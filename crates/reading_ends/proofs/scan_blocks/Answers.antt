@@ -1,4 +1,4 @@
-use Prim.Native.Nat.{◌+◌, ◌-◌}
+use Prim.Native.Nat.{◌+◌}
 use native.Mathlib.Omega.{arith}
 use Rattle.reading_ends.specs.Retired.{none_more, quiet}
 use borrow.Author.Rules.{rules}

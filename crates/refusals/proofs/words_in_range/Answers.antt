@@ -1,4 +1,3 @@
-
 use Rattle.refusals.proofs.words_in_range.Goals as goal
 
 pub returns-in-All : goal.returns-in-All

@@ -1,4 +1,3 @@
-
 use Rattle.register.proofs.counting.Goals as goal
 
 pub returns : goal.returns

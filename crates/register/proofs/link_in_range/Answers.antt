@@ -1,4 +1,3 @@
-
 use Rattle.register.proofs.link_in_range.Goals as goal
 
 pub returns-in-Left : goal.returns-in-Left

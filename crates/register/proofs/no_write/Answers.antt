@@ -1,4 +1,3 @@
-
 use Rattle.register.proofs.no_write.Goals as goal
 
 pub returns : goal.returns

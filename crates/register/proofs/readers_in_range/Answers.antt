@@ -1,7 +1,6 @@
 use Rattle.spec.specs.Numbers.{slots}
 use Rattle.spec.specs.Register.{reader_in_range}
 use Rattle.base.specs.Walk.{all-and, all_end_lem, and_assoc, and-true}
-use Prim.Native.Nat.{◌-◌}
 use mathlib.Core.Path.{refl, sym, ◌∙◌}
 use borrow.Author.Rules.{rules}
 use Rattle.register.proofs.readers_in_range.Goals as goal

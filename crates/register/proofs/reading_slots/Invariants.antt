@@ -1,7 +1,7 @@
 use Rattle.spec.specs.Numbers.{slots}
 use Rattle.spec.specs.Register.{reading_slots}
 use mathlib.Core.Path.{◌≡◌}
-use Prim.Native.Nat.{◌-◌, ◌/◌, ◌^◌, ◌≤◌}
+use Prim.Native.Nat.{◌/◌, ◌^◌, ◌≤◌}
 use Rattle.register.proofs.reading_slots.Given as goal
 
 abbrev pub invariant-loop-s : goal.invariant-loop-s

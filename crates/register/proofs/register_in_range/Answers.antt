@@ -5,7 +5,6 @@ use Rattle.register.specs.Ranges.{stops, goes}
 use Rattle.spec.specs.Numbers.{slots, most_stores}
 use Rattle.spec.specs.Register.{register_in_range, reader_in_range, store_in_range}
 use mathlib.Core.Path.{◌≡◌, sym, ◌∙◌}
-use borrow.Author.Tests.{not-true, not-false}
 use Rattle.register.proofs.register_in_range.Goals as goal
 
 pub returns-then-not-a-b : goal.returns-then-not-a-b

@@ -1,4 +1,3 @@
-
 use Rattle.register.proofs.step_in_range.Goals as goal
 
 pub returns-in-Publish : goal.returns-in-Publish

@@ -1,4 +1,3 @@
-
 use Rattle.register.proofs.store_in_range.Goals as goal
 
 pub returns-then-coming : goal.returns-then-coming

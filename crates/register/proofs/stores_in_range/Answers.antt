@@ -1,9 +1,7 @@
 use Rattle.spec.specs.Numbers.{most_stores}
 use Rattle.spec.specs.Register.{store_in_range}
 use Rattle.base.specs.Walk.{all-bad, all-ok, all_end_lem}
-use Prim.Native.Nat.{◌-◌}
 use mathlib.Core.Path.{refl, sym, ◌∙◌}
-use borrow.Author.Tests.{not-true, not-false}
 use borrow.Author.Rules.{rules}
 use Rattle.register.proofs.stores_in_range.Goals as goal
 

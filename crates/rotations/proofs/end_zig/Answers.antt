@@ -1,4 +1,3 @@
-
 use Rattle.rotations.proofs.end_zig.Goals as goal
 
 pub returns-in-ForInsert : goal.returns-in-ForInsert

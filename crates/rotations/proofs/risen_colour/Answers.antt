@@ -1,4 +1,3 @@
-
 use Rattle.rotations.proofs.risen_colour.Goals as goal
 
 pub returns-in-ForInsert : goal.returns-in-ForInsert

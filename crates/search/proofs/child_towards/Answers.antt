@@ -1,4 +1,3 @@
-
 use Rattle.search.proofs.child_towards.Goals as goal
 
 pub returns : goal.returns

@@ -1,4 +1,3 @@
-
 use Rattle.stores.proofs.end_insert.Goals as goal
 
 pub returns-in-Balanced : goal.returns-in-Balanced

@@ -1,4 +1,3 @@
-use Prim.Native.Nat.{◌-◌}
 use mathlib.Core.Path.{◌≡◌}
 use Rattle.spec.specs.Bulk.{next_free, free_after}
 use Rattle.takings.proofs.free_after.Given as goal

@@ -1,4 +1,3 @@
-
 use Rattle.tallies.proofs.counted.Goals as goal
 
 pub returns : goal.returns

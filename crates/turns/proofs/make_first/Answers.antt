@@ -35,9 +35,9 @@ returns-then-renames c =
     let f : step_finds st x.link x.step ≡ true = sym z.0 ∙ not-false _ c.if-not-t.false in
     let e = ap stored (z.1 (not-false _ c.if-not-t.false)) ∙ sym (writer-stores st c.requires.0 c.requires.1 c.requires.2 f) in
     let r =
-      turn-made t.new.pool t.result a.reg x.step (node_at a.pool.now a.reg.root x.link) a.reg.first c.moved_write.result (writer_says c.stored.result.answer)
-      (state t.new.pool c.stored.result.register) (writer_turn st) e
-      (rw (← c.renames.ensures, c.if-renames.true) (c.moved_write.ensures ∙ rw c.node_at-b.ensures)) (c.stored.ensures t.new.pool) in
+    turn-made t.new.pool t.result a.reg x.step (node_at a.pool.now a.reg.root x.link) a.reg.first c.moved_write.result (writer_says c.stored.result.answer)
+    (state t.new.pool c.stored.result.register) (writer_turn st) e
+    (rw (← c.renames.ensures, c.if-renames.true) (c.moved_write.ensures ∙ rw c.node_at-b.ensures)) (c.stored.ensures t.new.pool) in
     record { answer_value = r.0; register_after = r.1 }
 
 pub first_step-t-requires-2 : goal.first_step-t-requires-2
@@ -63,7 +63,7 @@ returns c =
     let f : step_finds st x.link x.step ≡ true = sym z.0 ∙ not-false _ c.if-not-t-2.false in
     let e = ap stored (z.1 (not-false _ c.if-not-t-2.false)) ∙ sym (writer-stores st c.requires.0 c.requires.1 c.requires.2 f) in
     let r =
-      turn-made t.new.pool t.result a.reg x.step (node_at a.pool.now a.reg.root x.link) a.reg.first a.reg.write (writer_says c.stored-2.result.answer)
-      (state t.new.pool c.stored-2.result.register) (writer_turn st) e
-      (rw (← c.renames.ensures, c.if-renames.false)) (c.stored-2.ensures t.new.pool) in
+    turn-made t.new.pool t.result a.reg x.step (node_at a.pool.now a.reg.root x.link) a.reg.first a.reg.write (writer_says c.stored-2.result.answer)
+    (state t.new.pool c.stored-2.result.register) (writer_turn st) e
+    (rw (← c.renames.ensures, c.if-renames.false)) (c.stored-2.ensures t.new.pool) in
     record { answer_value = r.0; register_after = r.1 }

@@ -1,0 +1,8 @@
+use Rattle.std.proofs.Common.{arith}
+use Rattle.page.specs.Sheets.{page-room}
+use Rattle.cost.proofs.printed.Goals as goal
+
+pub put_page-end-requires : goal.put_page-end-requires
+put_page-end-requires c =
+    let small = c.if-pool-gt-POOL_WORDS.false in
+    (small, omega (arith, page-room c.args.pool.now small, c.if-out-lt-PAGE_ROOM.false))
