@@ -1,4 +1,4 @@
-// Runs the commands of standard input on the ticket index and prints a line for each.
+// Runs the commands of standard input on the ticket index and prints a line for each call.
 #![tactic(auto)]
 
 ghost use Rattle.std.specs.Prelude.{◌≤◌, ◌<◌, ◌≡◌, length, IfOk};

@@ -2,6 +2,7 @@
 #![tactic(auto)]
 
 ghost use Rattle.std.specs.Prelude.{◌≤◌, ◌<◌, ◌≡◌, length, IfOk};
+ghost use Rattle.std.specs.Io.{ReadsAtMost};
 ghost use Rattle.spec.specs.Numbers.{pool_limit};
 
 use std::io::Read;
@@ -15,7 +16,7 @@ const BUFFER_BYTES: usize = 65536;
 
 // Reads until the buffer is full or the input ends, and answers how many bytes it has put there.
 fn read_full<R: Read>(from: &mut R, buf: &mut [u8]) -> io::Result<usize>
-    ensures { IfOk result (λ n. n ≤ length buf.new) }
+    ensures { ReadsAtMost result buf.new }
 {
     let mut done: usize = 0;
     while done < buf.len() {
@@ -30,7 +31,7 @@ fn read_full<R: Read>(from: &mut R, buf: &mut [u8]) -> io::Result<usize>
 
 // the file of a name, as far as there is room for it
 fn load<H: Files>(rt: &H, name: &str, buf: &mut [u8]) -> io::Result<usize>
-    ensures { IfOk result (λ n. n ≤ length buf.new) }
+    ensures { ReadsAtMost result buf.new }
 {
     let mut file = fs::open(rt, name)?;
     read_full(&mut file, buf)
