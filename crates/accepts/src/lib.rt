@@ -25,14 +25,14 @@ pub fn insert_at(pool: &[u32], reg: Register, k: u32, v: u64, l: Link) -> Reply
 {
     let capacity = pool::nodes(pool);
     if capacity as u64 <= reg.held as u64 + numbers::RESERVE {
-        return replies::refused(10, reg);
+        return replies::refused(numbers::INDEX_FULL, reg);
     }
     if reg.free < numbers::FREE_FOR_INSERT {
-        return replies::refused(11, reg);
+        return replies::refused(numbers::TOO_FEW_FREE, reg);
     }
     let plan = plans::insert_plan(pool, reg, k, v, l);
     if !plan.possible {
-        return replies::refused(12, reg);
+        return replies::refused(numbers::NODE_MISSING, reg);
     }
     let write = plan.write;
     accepted(reg, write)
@@ -47,7 +47,7 @@ pub fn replace_at(pool: &[u32], reg: Register, k: u32, v: u64, l: Link) -> Reply
 {
     let free = reg.free;
     if free < numbers::FREE_FOR_INSERT {
-        return replies::refused(11, reg);
+        return replies::refused(numbers::TOO_FEW_FREE, reg);
     }
     let plan = plans::replace_plan(v, l);
     let write = plan.write;
@@ -61,11 +61,11 @@ pub fn delete_at(pool: &[u32], reg: Register, k: u32, l: Link, n: u32) -> Reply
     ensures register_value { state pool.now result.register ≡ (delete (state pool.now reg) k).after }
 {
     if reg.free < numbers::FREE_FOR_DELETE {
-        return replies::refused(11, reg);
+        return replies::refused(numbers::TOO_FEW_FREE, reg);
     }
     let plan = plans::delete_plan(pool, reg, l, n);
     if !plan.possible {
-        return replies::refused(12, reg);
+        return replies::refused(numbers::NODE_MISSING, reg);
     }
     let write = plan.write;
     accepted(reg, write)
@@ -78,21 +78,21 @@ pub fn list_refusal(pool: &[u32], reg: Register, keys: &[u32], records: &[u64]) 
     ensures { result ≡ list_number (state pool.now reg) keys.now records.now }
 {
     if bulk::list_right(keys, records) {} else {
-        return 18;
+        return numbers::LIST_WRONG;
     }
     if reg.root != 0 {
-        return 19;
+        return numbers::INDEX_NOT_EMPTY;
     }
     let m = keys.len();
     let room = pool::nodes(pool) - numbers::RESERVE as u32;
     if (room as usize) < m {
-        return 10;
+        return numbers::INDEX_FULL;
     }
     if (reg.free as usize) < m {
-        return 11;
+        return numbers::TOO_FEW_FREE;
     }
     if takings::runs_out(pool, reg.first, m) {
-        return 12;
+        return numbers::NODE_MISSING;
     }
     0
 }

@@ -15,7 +15,7 @@ pub fn begin(pool: &[u32], mut reg: Register, kind: Kind, s: u32, k: u32) -> Rep
 {
     let lent = refusals::lent_refusal(pool, reg, Tested::All);
     let i = refusals::slot_index(s);
-    let why = refusals::slot_refusal(lent, s, reg.readers[i].reading, 4);
+    let why = refusals::slot_refusal(lent, s, reg.readers[i].reading, numbers::SLOT_READING);
     if why != 0 {
         return replies::refused(why, reg);
     }

@@ -8,10 +8,10 @@ const LAST_SLOT: u32 = 31;
 
 fn begin_foretold(model: &[u32], s: u32) -> u32 {
     if LAST_SLOT < s {
-        return 3;
+        return numbers::SLOT_TOO_HIGH;
     }
     if model::reading(model, s) {
-        return 4;
+        return numbers::SLOT_READING;
     }
     answers::ACCEPTED
 }
@@ -19,12 +19,12 @@ fn begin_foretold(model: &[u32], s: u32) -> u32 {
 // of a reader's turn and of a give up
 fn slot_foretold(model: &[u32], s: u32) -> u32 {
     if LAST_SLOT < s {
-        return 3;
+        return numbers::SLOT_TOO_HIGH;
     }
     if model::reading(model, s) {
         return answers::ACCEPTED;
     }
-    5
+    numbers::SLOT_NOT_READING
 }
 
 // Compares the answer of a begin, and begins the lookup in the model.

@@ -54,13 +54,13 @@ fn full(nodes: u32, tree: &[u32]) -> bool {
 
 fn insert_foretold(nodes: u32, tree: &[u32], model: &[u32], kind: u32, free: u32) -> u32 {
     if model::kind_in_hand(model) != model::NONE {
-        return 6;
+        return numbers::WRITE_IN_HAND;
     }
     if (kind == model::INSERT) & full(nodes, tree) {
-        return 10;
+        return numbers::INDEX_FULL;
     }
     if free < 3 {
-        return 11;
+        return numbers::TOO_FEW_FREE;
     }
     answers::ACCEPTED
 }
@@ -89,7 +89,7 @@ fn count_replacement(model: &[u32], counts: &mut [u64], call: Call, full: bool, 
         rows::HIGH_REPLACED,
         accepted & model::differ_high(old, call.record),
     );
-    rows::one_if(counts, rows::REPLACED_FEW, number == 11);
+    rows::one_if(counts, rows::REPLACED_FEW, number == numbers::TOO_FEW_FREE);
 }
 
 fn count_insert(model: &[u32], counts: &mut [u64], call: Call, kind: u32, full: bool, number: u32) {
@@ -119,13 +119,13 @@ pub fn insert(
 
 fn delete_foretold(tree: &mut [u32], model: &[u32], key: u32, free: u32) -> u32 {
     if model::kind_in_hand(model) != model::NONE {
-        return 6;
+        return numbers::WRITE_IN_HAND;
     }
     if reference::find(tree, key) == reference::NIL {
-        return 9;
+        return numbers::KEY_NOT_HELD;
     }
     if free < 4 {
-        return 11;
+        return numbers::TOO_FEW_FREE;
     }
     answers::ACCEPTED
 }
@@ -157,7 +157,7 @@ pub fn delete(
 
 fn turn_foretold(model: &[u32]) -> u32 {
     if model::kind_in_hand(model) == model::NONE {
-        return 7;
+        return numbers::NO_WRITE_IN_HAND;
     }
     if model::awaited(model) != 0 {
         return answers::WAIT;

@@ -23,7 +23,7 @@ pub fn set_up(pool: &mut [u32], reg: Register) -> Reply
     ensures register_after { state pool.new result.register ≡ (set_up (state pool.old reg)).after }
 {
     if !pool::length_right(pool) {
-        return replies::refused(1, reg);
+        return replies::refused(numbers::WRONG_LENGTH, reg);
     }
     let register = fresh::fresh_register(pool::nodes(pool));
     fresh::fresh_pool(pool);
@@ -47,13 +47,13 @@ pub fn insert(pool: &[u32], reg: Register, k: u32, v: u64) -> Reply
     }
     let hand = reg.write;
     if hand.count != 0 {
-        return replies::refused(6, reg);
+        return replies::refused(numbers::WRITE_IN_HAND, reg);
     }
     let place = search::seek(pool, k, Link::Root, reg.root, numbers::PATH_BOUND);
     match place {
         Place::Held(l, _) => accepts::replace_at(pool, reg, k, v, l),
         Place::Empty(l) => accepts::insert_at(pool, reg, k, v, l),
-        Place::TooDeep => replies::refused(12, reg),
+        Place::TooDeep => replies::refused(numbers::NODE_MISSING, reg),
     }
 }
 
@@ -73,13 +73,13 @@ pub fn delete(pool: &[u32], reg: Register, k: u32) -> Reply
     }
     let hand = reg.write;
     if hand.count != 0 {
-        return replies::refused(6, reg);
+        return replies::refused(numbers::WRITE_IN_HAND, reg);
     }
     let place = search::seek(pool, k, Link::Root, reg.root, numbers::PATH_BOUND);
     match place {
         Place::Held(l, n) => accepts::delete_at(pool, reg, k, l, n),
-        Place::Empty(_) => replies::refused(9, reg),
-        Place::TooDeep => replies::refused(12, reg),
+        Place::Empty(_) => replies::refused(numbers::KEY_NOT_HELD, reg),
+        Place::TooDeep => replies::refused(numbers::NODE_MISSING, reg),
     }
 }
 
@@ -100,7 +100,7 @@ pub fn insert_list(pool: &mut [u32], reg: Register, keys: &[u32], records: &[u64
     }
     let hand = reg.write;
     if hand.count != 0 {
-        return replies::refused(6, reg);
+        return replies::refused(numbers::WRITE_IN_HAND, reg);
     }
     let wrong = accepts::list_refusal(pool, reg, keys, records);
     if wrong != 0 {
@@ -126,7 +126,7 @@ pub fn writer_turn(pool: &mut [u32], reg: Register) -> WriterReply
     }
     let hand = reg.write;
     if hand.count == 0 {
-        return replies::refuses_writer(7, reg);
+        return replies::refuses_writer(numbers::NO_WRITE_IN_HAND, reg);
     }
     if heads::some_awaited(reg.awaited) {
         return replies::waits(reg);
@@ -204,7 +204,7 @@ pub fn give_up(pool: &mut [u32], reg: Register, s: u32) -> Reply
     let lent = refusals::lent_refusal(pool, reg, Tested::All);
     let i = refusals::slot_index(s);
     let mut readers = reg.readers;
-    let why = refusals::slot_refusal(lent, s, !readers[i].reading, 5);
+    let why = refusals::slot_refusal(lent, s, !readers[i].reading, numbers::SLOT_NOT_READING);
     if why != 0 {
         return replies::refused(why, reg);
     }

@@ -20,32 +20,44 @@ pub struct Said {
 
 fn foretold(nodes: u32, model: &[u32], list: List, free: u32) -> u32 {
     if model::kind_in_hand(model) != model::NONE {
-        return 6;
+        return numbers::WRITE_IN_HAND;
     }
     if list.fault != drawn::RIGHT {
-        return 18;
+        return numbers::LIST_WRONG;
     }
     if model::held(model) != 0 {
-        return 19;
+        return numbers::INDEX_NOT_EMPTY;
     }
     if nodes < list.keys % 4096 + 4 {
-        return 10;
+        return numbers::INDEX_FULL;
     }
     if free < list.keys {
-        return 11;
+        return numbers::TOO_FEW_FREE;
     }
     answers::ACCEPTED
 }
 
 // counts a refused list by its answer, and a wrong one by its fault
 fn count_refused(counts: &mut [u64], list: List, number: u32) {
-    rows::one_if(counts, rows::LISTS_REFUSED, number == 6);
-    rows::one_if(counts, rows::LISTS_REFUSED + 1, number == 10);
-    rows::one_if(counts, rows::LISTS_REFUSED + 2, number == 11);
+    rows::one_if(
+        counts,
+        rows::LISTS_REFUSED,
+        number == numbers::WRITE_IN_HAND,
+    );
+    rows::one_if(
+        counts,
+        rows::LISTS_REFUSED + 1,
+        number == numbers::INDEX_FULL,
+    );
+    rows::one_if(
+        counts,
+        rows::LISTS_REFUSED + 2,
+        number == numbers::TOO_FEW_FREE,
+    );
     rows::one_if(
         counts,
         rows::LISTS_WRONG + (list.fault % 16) as usize,
-        number == 18,
+        number == numbers::LIST_WRONG,
     );
 }
 

@@ -34,11 +34,11 @@ pub fn lent_refusal(pool: &[u32], reg: Register, tested: Tested) -> u32
     ensures { result ≡ tested_number tested (state pool.now reg) }
 {
     if !pool::length_right(pool) {
-        return 1;
+        return numbers::WRONG_LENGTH;
     }
     let capacity = pool::nodes(pool);
     if !(words_in_range(pool, tested) & register::register_in_range(reg, capacity)) {
-        return 2;
+        return numbers::OUT_OF_RANGE;
     }
     0
 }
@@ -69,7 +69,7 @@ pub fn slot_refusal(lent: u32, s: u32, cause: bool, number: u32) -> u32
         return lent;
     }
     if slot_too_high(s) {
-        return 3;
+        return numbers::SLOT_TOO_HIGH;
     }
     counts::choose(cause, number, 0)
 }
@@ -84,10 +84,10 @@ pub fn turn_refusal(pool: &[u32], lent: u32, s: u32, x: Reader) -> u32
         return lent;
     }
     if slot_too_high(s) {
-        return 3;
+        return numbers::SLOT_TOO_HIGH;
     }
     if pool::out_of_range(pool, x.node) {
-        return 2;
+        return numbers::OUT_OF_RANGE;
     }
-    counts::choose(!x.reading, 5, 0)
+    counts::choose(!x.reading, numbers::SLOT_NOT_READING, 0)
 }

@@ -161,13 +161,13 @@ pub fn make_first(pool: &mut [u32], reg: Register) -> WriterReply
         let b = pool::node_at(pool, reg.root, link);
         let t = first_step(pool, reg);
         if !t.found {
-            return replies::refuses_writer(12, reg);
+            return replies::refuses_writer(numbers::NODE_MISSING, reg);
         }
         return stored(reg, t, copies::moved_write(b, reg.first, hand));
     }
     let t = first_step(pool, reg);
     if !t.found {
-        return replies::refuses_writer(12, reg);
+        return replies::refuses_writer(numbers::NODE_MISSING, reg);
     }
     stored(reg, t, hand)
 }
