@@ -12,6 +12,7 @@ import os
 import re
 import subprocess
 import sys
+import tempfile
 
 STEM = re.compile(r"(?<![\w'.-])(%s)((?:\.before)*)((?:\.(?!before\b)[\w'«»-]+)*)")
 
@@ -21,8 +22,7 @@ def norm(name):
 
 
 def names_of(crate):
-    to = f"/tmp/names-{crate}"
-    subprocess.run(["rm", "-rf", to])
+    to = os.path.join(tempfile.mkdtemp(), "names")
     out = subprocess.run(["rt", "check", "--generated", to, "--old-names"], cwd=f"crates/{crate}", capture_output=True, text=True)
     path = f"{to}/names.json"
     if not os.path.exists(path):
