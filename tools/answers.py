@@ -50,13 +50,13 @@ def params():
 class Function:
     def __init__(self, crate, folder, lts, lent):
         self.crate, self.folder, self.lent = crate, folder, lent
+        self.goal = None
         self.places = lts["places"]
         self.arms = lts["arms"]
         self.index = {p[0]: i for i, p in enumerate(self.places)}
         self.needs = {}
         for (old, new), at in zip(lts["needs"], lts["asked_at"]):
             self.needs[norm(old)] = (new, at[0])
-        self.settled = lts["settled"]
         self.loops = lts["loops"]
         self.said = []
 
@@ -94,18 +94,17 @@ class Function:
             step = self.places[i][2]
             arm = self.arms[i]
             if arm:
-                for a in [arm]:
-                    best = None
-                    for new, ostep, path in a[2]:
-                        if norm(ostep) == old and fields[1 : 1 + len(path)] == path:
-                            if best is None or len(path) > len(best[1]):
-                                best = (new, path)
-                    if best is not None:
-                        new, path = best
-                        rest = fields[1 + len(path) :]
-                        if path == [] and new.endswith("-own"):
-                            return ["c", new] + rest
-                        return ["c", a[0], new] + rest
+                best = None
+                for new, ostep, path in arm[2]:
+                    if norm(ostep) == old and fields[1 : 1 + len(path)] == path:
+                        if best is None or len(path) > len(best[1]):
+                            best = (new, path)
+                if best is not None:
+                    new, path = best
+                    rest = fields[1 + len(path) :]
+                    if path == [] and new.endswith("-own"):
+                        return ["c", new] + rest
+                    return ["c", arm[0], new] + rest
             if norm(step[0]) == old and step[0] != "":
                 rest = fields[1:]
                 if rest[:1] == ["new"] and len(rest) > 1 and rest[1].isdigit():

@@ -11,7 +11,6 @@ import subprocess
 import sys
 
 CLAUSE = re.compile(r"(?m)^(\S+\.antt):(\d+):(\d+): error: `[^`]*`: write the clause `([^`]+)`")
-MORE = re.compile(r"(?m)^(\S+\.antt):(\d+):(\d+): error: `[^`]*`: write (?:these|the) \d* ?clauses")
 RECORD = re.compile(r"(?m)^(\S+\.antt):(\d+):(\d+): error: `[^`]*`: a value of .*\n\s*is built with `record \{ ([^`]*) \}`,? not as a tuple")
 
 
@@ -100,5 +99,5 @@ for crate in sys.argv[1:]:
         done, said = mend(crate)
         n += 1
     skip = re.compile(r"^(statements|logic /|checked |library |fn \S+: proved|(enum|struct) \S+: proved|rt: (chose|rt )|note: )")
-    at = said.rfind(f"rt: chose --jobs")
+    at = said.rfind("rt: chose --jobs")
     print("\n".join(x[:700] for x in said[at:].split("\n") if not skip.match(x)))

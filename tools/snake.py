@@ -11,7 +11,6 @@ import glob
 import re
 
 CAMEL = re.compile(r"(?<![A-Za-z0-9_'])([a-z][a-z0-9_']*(?:[A-Z][A-Za-z0-9_']*)+)")
-DECLARED = re.compile(r"^\s*(?:(?:abbrev|unfoldable|pub|pattern) )*([a-z][\w'-]*)(?: [a-z][\w'-]*)* :(?!=)", re.M)
 # data of table and readers whose constructors had capitals, and a type with a dash
 REMEMBERED = re.compile(r"use Rattle\.(?:table\.specs\.Picture|readers\.specs\.NextSearches)\.\{[^}]*\b(?:Ticket|Stale|Nothing)\b|^pub data Remembered ", re.M)
 

@@ -12,7 +12,10 @@ returns-then-reg-lt-FREE_FOR_DELETE c =
     let a = c.args in
     let st = state a.pool.now a.reg in
     let e = delete-few st a.k c.requires.0 c.requires.1 a.l a.n c.requires.2 (lt-ltb _ _ c.if-reg-lt-FREE_FOR_DELETE.true) in
-    record { answer_value = c.refused.ensures.0 ∙ sym (ap (λ (o : Outcome). o.answer) e); register_value = rw c.refused.ensures.1 (sym (ap (λ (o : Outcome). o.after) e)) }
+    record {
+      answer_value = c.refused.ensures.0 ∙ sym (ap (λ (o : Outcome). o.answer) e);
+      register_value = rw c.refused.ensures.1 (sym (ap (λ (o : Outcome). o.after) e));
+    }
 
 pub returns-then-not-plan : goal.returns-then-not-plan
 returns-then-not-plan c =
@@ -20,7 +23,10 @@ returns-then-not-plan c =
     let st = state a.pool.now a.reg in
     let p : (delete_plan st a.l a.n).possible ≡ false = sym c.delete_plan-plan.ensures.possible_value ∙ not-true _ c.if-not-plan.true in
     let e = delete-missing st a.k c.requires.0 c.requires.1 a.l a.n c.requires.2 (le-ltb _ _ c.if-reg-lt-FREE_FOR_DELETE.false) p in
-    record { answer_value = c.refused-then-not-plan.ensures.0 ∙ sym (ap (λ (o : Outcome). o.answer) e); register_value = rw c.refused-then-not-plan.ensures.1 (sym (ap (λ (o : Outcome). o.after) e)) }
+    record {
+      answer_value = c.refused-then-not-plan.ensures.0 ∙ sym (ap (λ (o : Outcome). o.answer) e);
+      register_value = rw c.refused-then-not-plan.ensures.1 (sym (ap (λ (o : Outcome). o.after) e));
+    }
 
 pub returns : goal.returns
 returns c =
@@ -28,4 +34,7 @@ returns c =
     let st = state a.pool.now a.reg in
     let p : (delete_plan st a.l a.n).possible ≡ true = sym c.delete_plan-plan.ensures.possible_value ∙ not-false _ c.if-not-plan.false in
     let e = delete-goes st a.k c.requires.0 c.requires.1 a.l a.n c.requires.2 (le-ltb _ _ c.if-reg-lt-FREE_FOR_DELETE.false) p in
-    record { answer_value = c.accepted.ensures.0 ∙ sym (ap (λ (o : Outcome). o.answer) e); register_value = rw (c.accepted.ensures.1, c.delete_plan-plan.ensures.write_value) (sym (ap (λ (o : Outcome). o.after) e)) }
+    record {
+      answer_value = c.accepted.ensures.0 ∙ sym (ap (λ (o : Outcome). o.answer) e);
+      register_value = rw (c.accepted.ensures.1, c.delete_plan-plan.ensures.write_value) (sym (ap (λ (o : Outcome). o.after) e));
+    }

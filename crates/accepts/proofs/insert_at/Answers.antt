@@ -19,7 +19,10 @@ returns-then-capacity-reg c =
     let st = state a.pool.now a.reg in
     let f : full st ≡ true = reserve-true (nodes a.pool.now) a.reg.held (rw (← c.nodes-capacity.ensures) c.if-capacity-reg.true) in
     let e = insert-full st a.k a.v c.requires.0 c.requires.1 (Empty a.l) c.requires.2 refl f in
-    record { answer_value = c.refused.ensures.0 ∙ sym (ap (λ (o : Outcome). o.answer) e); register_value = rw c.refused.ensures.1 (sym (ap (λ (o : Outcome). o.after) e)) }
+    record {
+      answer_value = c.refused.ensures.0 ∙ sym (ap (λ (o : Outcome). o.answer) e);
+      register_value = rw c.refused.ensures.1 (sym (ap (λ (o : Outcome). o.after) e));
+    }
 
 pub returns-then-reg-lt-FREE_FOR_INSERT : goal.returns-then-reg-lt-FREE_FOR_INSERT
 returns-then-reg-lt-FREE_FOR_INSERT c =
@@ -27,7 +30,10 @@ returns-then-reg-lt-FREE_FOR_INSERT c =
     let st = state a.pool.now a.reg in
     let f : full st ≡ false = reserve-false (nodes a.pool.now) a.reg.held (rw (← c.nodes-capacity.ensures) c.if-capacity-reg.false) in
     let e = insert-few st a.k a.v c.requires.0 c.requires.1 (Empty a.l) c.requires.2 refl f (lt-ltb _ _ c.if-reg-lt-FREE_FOR_INSERT.true) in
-    record { answer_value = c.refused-then-reg-lt-FREE_FOR_INSERT.ensures.0 ∙ sym (ap (λ (o : Outcome). o.answer) e); register_value = rw c.refused-then-reg-lt-FREE_FOR_INSERT.ensures.1 (sym (ap (λ (o : Outcome). o.after) e)) }
+    record {
+      answer_value = c.refused-then-reg-lt-FREE_FOR_INSERT.ensures.0 ∙ sym (ap (λ (o : Outcome). o.answer) e);
+      register_value = rw c.refused-then-reg-lt-FREE_FOR_INSERT.ensures.1 (sym (ap (λ (o : Outcome). o.after) e));
+    }
 
 pub returns-then-not-plan : goal.returns-then-not-plan
 returns-then-not-plan c =
@@ -36,7 +42,10 @@ returns-then-not-plan c =
     let f : full st ≡ false = reserve-false (nodes a.pool.now) a.reg.held (rw (← c.nodes-capacity.ensures) c.if-capacity-reg.false) in
     let p : (insert_plan st a.k a.v a.l).possible ≡ false = sym c.insert_plan-plan.ensures.possible_value ∙ not-true _ c.if-not-plan.true in
     let e = insert-missing st a.k a.v c.requires.0 c.requires.1 (Empty a.l) c.requires.2 refl f (le-ltb _ _ c.if-reg-lt-FREE_FOR_INSERT.false) p in
-    record { answer_value = c.refused-then-not-plan.ensures.0 ∙ sym (ap (λ (o : Outcome). o.answer) e); register_value = rw c.refused-then-not-plan.ensures.1 (sym (ap (λ (o : Outcome). o.after) e)) }
+    record {
+      answer_value = c.refused-then-not-plan.ensures.0 ∙ sym (ap (λ (o : Outcome). o.answer) e);
+      register_value = rw c.refused-then-not-plan.ensures.1 (sym (ap (λ (o : Outcome). o.after) e));
+    }
 
 pub returns : goal.returns
 returns c =
@@ -45,4 +54,7 @@ returns c =
     let f : full st ≡ false = reserve-false (nodes a.pool.now) a.reg.held (rw (← c.nodes-capacity.ensures) c.if-capacity-reg.false) in
     let p : (insert_plan st a.k a.v a.l).possible ≡ true = sym c.insert_plan-plan.ensures.possible_value ∙ not-false _ c.if-not-plan.false in
     let e = insert-goes st a.k a.v c.requires.0 c.requires.1 (Empty a.l) c.requires.2 refl f (le-ltb _ _ c.if-reg-lt-FREE_FOR_INSERT.false) p in
-    record { answer_value = c.accepted.ensures.0 ∙ sym (ap (λ (o : Outcome). o.answer) e); register_value = rw (c.accepted.ensures.1, c.insert_plan-plan.ensures.write_value) (sym (ap (λ (o : Outcome). o.after) e)) }
+    record {
+      answer_value = c.accepted.ensures.0 ∙ sym (ap (λ (o : Outcome). o.answer) e);
+      register_value = rw (c.accepted.ensures.1, c.insert_plan-plan.ensures.write_value) (sym (ap (λ (o : Outcome). o.after) e));
+    }

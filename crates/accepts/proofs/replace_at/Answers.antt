@@ -11,11 +11,17 @@ returns-then-free-lt-FREE_FOR_INSERT c =
     let a = c.args in
     let st = state a.pool.now a.reg in
     let e = insert-few st a.k a.v c.requires.0 c.requires.1 (Held a.l c.requires.2.0) c.requires.2.1 refl refl (lt-ltb _ _ c.if-free-lt-FREE_FOR_INSERT.true) in
-    record { answer_value = c.refused.ensures.0 ∙ sym (ap (λ (o : Outcome). o.answer) e); register_value = rw c.refused.ensures.1 (sym (ap (λ (o : Outcome). o.after) e)) }
+    record {
+      answer_value = c.refused.ensures.0 ∙ sym (ap (λ (o : Outcome). o.answer) e);
+      register_value = rw c.refused.ensures.1 (sym (ap (λ (o : Outcome). o.after) e));
+    }
 
 pub returns : goal.returns
 returns c =
     let a = c.args in
     let st = state a.pool.now a.reg in
     let e = insert-goes st a.k a.v c.requires.0 c.requires.1 (Held a.l c.requires.2.0) c.requires.2.1 refl refl (le-ltb _ _ c.if-free-lt-FREE_FOR_INSERT.false) refl in
-    record { answer_value = c.accepted.ensures.0 ∙ sym (ap (λ (o : Outcome). o.answer) e); register_value = rw (c.accepted.ensures.1, c.replace_plan-plan.ensures.write_value) (sym (ap (λ (o : Outcome). o.after) e)) }
+    record {
+      answer_value = c.accepted.ensures.0 ∙ sym (ap (λ (o : Outcome). o.answer) e);
+      register_value = rw (c.accepted.ensures.1, c.replace_plan-plan.ensures.write_value) (sym (ap (λ (o : Outcome). o.after) e));
+    }

@@ -15,4 +15,7 @@ text_field-requires c = omega (arith, c.put_number-next.ensures.ends, short-leng
 
 pub returns : goal.returns
 returns c =
-    record { put = put_as (sym (append_assoc (decimal c.args.n) c.args.side.now _)) (put_both c.put_number-next.ensures c.text_field.ensures); upper_bound = omega (arith, c.put_number-next.ensures.ends, simp length-append at c.text_field.ensures.ends, short-length c.args.n (search rules)) }
+    record {
+      put = put_as (sym (append_assoc (decimal c.args.n) c.args.side.now _)) (put_both c.put_number-next.ensures c.text_field.ensures);
+      upper_bound = omega (arith, c.put_number-next.ensures.ends, simp length-append at c.text_field.ensures.ends, short-length c.args.n (search rules));
+    }

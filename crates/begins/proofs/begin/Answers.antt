@@ -17,7 +17,10 @@ returns-then-why-ne0 c =
     c.slot_refusal-why.ensures ∙ rw c.lent_refusal-lent.ensures (slot-tests st a.s i.result (λ (b : Bool). b) 4 i.ensures.0) in
     let e = unless-refused (begin_tests st a.s) st (outcome ok (state st.pool (with_reader st.register a.s (begun_reader a.kind a.k)))) c.slot_refusal-why.result (sym w)
     c.if-why-ne0.true in
-    record { answer_value = c.refused.ensures.0 ∙ sym (ap (λ (o : Outcome). o.answer) e); register_value = rw c.refused.ensures.1 (sym (ap (λ (o : Outcome). o.after) e)) }
+    record {
+      answer_value = c.refused.ensures.0 ∙ sym (ap (λ (o : Outcome). o.answer) e);
+      register_value = rw c.refused.ensures.1 (sym (ap (λ (o : Outcome). o.after) e));
+    }
 
 pub returns : goal.returns
 unfolding begin with_reader
@@ -29,4 +32,8 @@ returns c =
     c.slot_refusal-why.ensures ∙ rw c.lent_refusal-lent.ensures (slot-tests st a.s i.result (λ (b : Bool). b) 4 i.ensures.0) in
     let z = sym w ∙ c.if-why-ne0.false in
     let j = index_of a.s i.result i.ensures.0 (slot_of a.s (wrong_length st) (out_of_range st) (reading st a.s) 4 (omega arith) z) in
-    let e = unless-done (begin_tests st a.s) st (outcome ok (state st.pool (with_reader st.register a.s (begun_reader a.kind a.k)))) z in record { answer_value = c.accepted.ensures.0 ∙ sym (ap (λ (o : Outcome). o.answer) e); register_value = rw (c.accepted.ensures.1, c.begun_reader.ensures, j) (sym (ap (λ (o : Outcome). o.after) e)) }
+    let e = unless-done (begin_tests st a.s) st (outcome ok (state st.pool (with_reader st.register a.s (begun_reader a.kind a.k)))) z in
+    record {
+      answer_value = c.accepted.ensures.0 ∙ sym (ap (λ (o : Outcome). o.answer) e);
+      register_value = rw (c.accepted.ensures.1, c.begun_reader.ensures, j) (sym (ap (λ (o : Outcome). o.after) e));
+    }

@@ -14,7 +14,9 @@ pub loop-p-smaller : goal.loop-p-smaller
 loop-p-smaller c = let l = levels-less c.loop-p.b c.args.m (rw c.loop-p.invariant.0 at c.loop-p-test.true) in omega arith
 
 pub loop-p-preserved : goal.loop-p-preserved
-loop-p-preserved c = let l = levels-less c.loop-p.b c.args.m (rw c.loop-p.invariant.0 at c.loop-p-test.true) in (rw c.loop-p.invariant.0 l.2, search rules, sym l.1 ∙ c.loop-p.invariant.2)
+loop-p-preserved c =
+    let l = levels-less c.loop-p.b c.args.m (rw c.loop-p.invariant.0 at c.loop-p-test.true) in
+    (rw c.loop-p.invariant.0 l.2, search rules, sym l.1 ∙ c.loop-p.invariant.2)
 
 pub returns : goal.returns
 returns c = let i = c.loop-p.invariant in sym (levels-here c.loop-p.b c.args.m (rw i.0 at c.loop-p-test.false)) ∙ i.2

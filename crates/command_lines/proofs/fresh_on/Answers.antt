@@ -11,8 +11,11 @@ pub returns-then-b-eq-NEWLINE : goal.returns-then-b-eq-NEWLINE
 returns-then-b-eq-NEWLINE c = let a = c.args in sym (cut_line a.input.now a.from Fresh (omega arith) c.if-b-eq-NEWLINE.true)
 
 pub returns-then-b-eq-TAB : goal.returns-then-b-eq-TAB
-returns-then-b-eq-TAB c = let a = c.args in c.ill_on.ensures ∙ sym (cut-tab a.input.now a.from Fresh (omega arith) c.if-b-eq-TAB.true)
+returns-then-b-eq-TAB c =
+    let a = c.args in
+    c.ill_on.ensures ∙ sym (cut-tab a.input.now a.from Fresh (omega arith) c.if-b-eq-TAB.true)
 
 pub returns : goal.returns
 returns c =
-    let a = c.args in c.letter_on.ensures ∙ sym (cut-byte a.input.now a.from Fresh (omega arith) c.if-b-eq-NEWLINE.false c.if-b-eq-TAB.false)
+    let a = c.args in
+    c.letter_on.ensures ∙ sym (cut-byte a.input.now a.from Fresh (omega arith) c.if-b-eq-NEWLINE.false c.if-b-eq-TAB.false)

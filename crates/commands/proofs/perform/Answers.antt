@@ -23,4 +23,9 @@ returns c =
     let a = c.args in
     let t = c.tried_words-tried in
     let k = c.call-done in
-    let q = performed-on a.words.now a.lent a.reg a.c t.result t.ensures in record { said_value = k.ensures.said_value ∙ ap (λ (o : Outcome). o.answer) q; register_value = ap (λ (st : State). st.register) k.ensures.register_after ∙ ap (λ (o : Outcome). o.after.register) q; lent_value = c.kept_words-kept.ensures ∙ ap (λ (n : ℕ). kept_words a.lent n (says k.result.said)) t.ensures; words_after = rw t.ensures (ap (λ (st : State). st.pool ++ drop (tried_words a.lent a.c) a.words.now) (k.ensures.register_after ∙ ap (λ (o : Outcome). o.after) q)) }
+    let q = performed-on a.words.now a.lent a.reg a.c t.result t.ensures in record {
+      said_value = k.ensures.said_value ∙ ap (λ (o : Outcome). o.answer) q;
+      register_value = ap (λ (st : State). st.register) k.ensures.register_after ∙ ap (λ (o : Outcome). o.after.register) q;
+      lent_value = c.kept_words-kept.ensures ∙ ap (λ (n : ℕ). kept_words a.lent n (says k.result.said)) t.ensures;
+      words_after = rw t.ensures (ap (λ (st : State). st.pool ++ drop (tried_words a.lent a.c) a.words.now) (k.ensures.register_after ∙ ap (λ (o : Outcome). o.after) q));
+    }

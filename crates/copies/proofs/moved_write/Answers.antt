@@ -12,7 +12,8 @@ loop-i-init c = (search rules, refl, search rules, map-all (moved_store c.args.b
 pub loop-i-preserved : goal.loop-i-preserved
 loop-i-preserved c =
     let l = c.loop-i in
-    let f = moved_store c.args.b c.args.n in (search rules, l.invariant.1, rw length-set l.invariant.2, rw c.moved_store.ensures (map_next f l.i l.r.stores ∙ l.invariant.3))
+    let f = moved_store c.args.b c.args.n in
+    (search rules, l.invariant.1, rw length-set l.invariant.2, rw c.moved_store.ensures (map_next f l.i l.r.stores ∙ l.invariant.3))
 
 pub returns : goal.returns
 unfolding moved_write

@@ -20,7 +20,8 @@ returns-then-is_red c =
     let a = c.args in
     let p = a.pool.now in
     let q = a.path.now in
-    let e : is_red p l.node ≡ true = sym c.is_red.ensures ∙ c.if-is_red.true in c.fixup_result.ensures ∙ (sym (delete_fixup-red p l.e l.node q l.d e) ∙ l.invariant.2)
+    let e : is_red p l.node ≡ true = sym c.is_red.ensures ∙ c.if-is_red.true in
+    c.fixup_result.ensures ∙ (sym (delete_fixup-red p l.e l.node q l.d e) ∙ l.invariant.2)
 
 pub returns-then-d-eq0 : goal.returns-then-d-eq0
 returns-then-d-eq0 c =

@@ -53,10 +53,12 @@ loop-d-preserved c =
 pub returns-then-d-eq0 : goal.returns-then-d-eq0
 returns-then-d-eq0 c =
     let l = c.loop-d in
-    let a = c.args in c.fixup_result-then-d-eq0.ensures ∙ (sym (insert_fixup-none a.pool.now l.e a.path.now l.d c.if-d-eq0.true) ∙ l.invariant.2)
+    let a = c.args in
+    c.fixup_result-then-d-eq0.ensures ∙ (sym (insert_fixup-none a.pool.now l.e a.path.now l.d c.if-d-eq0.true) ∙ l.invariant.2)
 
 pub returns : goal.returns
 returns c =
     let l = c.loop-d in
     let a = c.args in
-    let h = c.if-d-eq0.false in c.fixup_result-2.ensures ∙ (sym (insert_fixup-root a.pool.now l.e a.path.now l.d (omega arith)) ∙ l.invariant.2)
+    let h = c.if-d-eq0.false in
+    c.fixup_result-2.ensures ∙ (sym (insert_fixup-root a.pool.now l.e a.path.now l.d (omega arith)) ∙ l.invariant.2)

@@ -10,7 +10,9 @@ pub loop-e-init : goal.loop-e-init
 loop-e-init c = (search rules, refl, refl)
 
 pub returns-then-d-lt2 : goal.returns-then-d-lt2
-returns-then-d-lt2 c = let l = c.loop-e in sym (paint-insert_fixup-out l.e l.pool c.args.path.now l.d c.if-d-lt2.true) ∙ l.invariant.2
+returns-then-d-lt2 c =
+    let l = c.loop-e in
+    sym (paint-insert_fixup-out l.e l.pool c.args.path.now l.d c.if-d-lt2.true) ∙ l.invariant.2
 
 pub loop-e-preserved : goal.loop-e-preserved
 loop-e-preserved c =
@@ -36,4 +38,5 @@ loop-e-preserved c =
 pub returns : goal.returns
 returns c =
     let l = c.loop-e in
-    let h = c.loop-e-test.false in sym (paint-insert_fixup-done l.e (upward c.args.path.now l.d) l.pool (omega arith)) ∙ l.invariant.2
+    let h = c.loop-e-test.false in
+    sym (paint-insert_fixup-done l.e (upward c.args.path.now l.d) l.pool (omega arith)) ∙ l.invariant.2

@@ -10,7 +10,8 @@ pub returns-then-inner-eq0 : goal.returns-then-inner-eq0
 unfolding red_sibling
 returns-then-inner-eq0 c =
     let a = c.args in
-    let e : child a.pool.now (other a.z) a.w ≡ 0 = rw (← c.other-s.ensures, ← c.child-inner.ensures) c.if-inner-eq0.true in rw (eq-eqb _ _ e)
+    let e : child a.pool.now (other a.z) a.w ≡ 0 = rw (← c.other-s.ensures, ← c.child-inner.ensures) c.if-inner-eq0.true in
+    rw (eq-eqb _ _ e)
 
 pub returns-then-red_child : goal.returns-then-red_child
 unfolding red_sibling

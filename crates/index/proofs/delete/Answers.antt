@@ -11,7 +11,10 @@ returns-then-why-ne0 c =
     let a = c.args in
     let st = state a.pool.now a.reg in
     let e = delete-lent st a.k (λ z. c.if-why-ne0.true (c.lent_refusal-why.ensures ∙ z)) in
-    record { answer_value = c.refused.ensures.0 ∙ rw c.lent_refusal-why.ensures (sym (ap (λ (o : Outcome). o.answer) e)); register_value = rw c.refused.ensures.1 (sym (ap (λ (o : Outcome). o.after) e)) }
+    record {
+      answer_value = c.refused.ensures.0 ∙ rw c.lent_refusal-why.ensures (sym (ap (λ (o : Outcome). o.answer) e));
+      register_value = rw c.refused.ensures.1 (sym (ap (λ (o : Outcome). o.after) e));
+    }
 
 pub returns-then-hand-ne0 : goal.returns-then-hand-ne0
 returns-then-hand-ne0 c =
@@ -19,13 +22,17 @@ returns-then-hand-ne0 c =
     let st = state a.pool.now a.reg in
     let w : write_in_hand st ≡ true = rw (ne_eqb _ _ c.if-hand-ne0.true) in
     let e = delete-writing st a.k (sym c.lent_refusal-why.ensures ∙ c.if-why-ne0.false) w in
-    record { answer_value = c.refused-then-hand-ne0.ensures.0 ∙ sym (ap (λ (o : Outcome). o.answer) e); register_value = rw c.refused-then-hand-ne0.ensures.1 (sym (ap (λ (o : Outcome). o.after) e)) }
+    record {
+      answer_value = c.refused-then-hand-ne0.ensures.0 ∙ sym (ap (λ (o : Outcome). o.answer) e);
+      register_value = rw c.refused-then-hand-ne0.ensures.1 (sym (ap (λ (o : Outcome). o.after) e));
+    }
 
 pub delete_at-requires : goal.delete_at-requires
 delete_at-requires c =
     let a = c.args in
     let st = state a.pool.now a.reg in
-    let w : write_in_hand st ≡ false = rw (eq-eqb _ _ c.if-hand-ne0.false) in (sym c.lent_refusal-why.ensures ∙ c.if-why-ne0.false, w, sym c.seek-place.ensures ∙ c.in-Held.is)
+    let w : write_in_hand st ≡ false = rw (eq-eqb _ _ c.if-hand-ne0.false) in
+    (sym c.lent_refusal-why.ensures ∙ c.if-why-ne0.false, w, sym c.seek-place.ensures ∙ c.in-Held.is)
 
 pub returns-in-Held : goal.returns-in-Held
 returns-in-Held c = c.delete_at.ensures
@@ -36,7 +43,10 @@ returns-in-Empty c =
     let st = state a.pool.now a.reg in
     let w : write_in_hand st ≡ false = rw (eq-eqb _ _ c.if-hand-ne0.false) in
     let e = delete-absent st a.k (sym c.lent_refusal-why.ensures ∙ c.if-why-ne0.false) w c.in-Empty.field-0 (sym c.seek-place.ensures ∙ c.in-Empty.is) in
-    record { answer_value = c.refused-in-Empty.ensures.0 ∙ sym (ap (λ (o : Outcome). o.answer) e); register_value = rw c.refused-in-Empty.ensures.1 (sym (ap (λ (o : Outcome). o.after) e)) }
+    record {
+      answer_value = c.refused-in-Empty.ensures.0 ∙ sym (ap (λ (o : Outcome). o.answer) e);
+      register_value = rw c.refused-in-Empty.ensures.1 (sym (ap (λ (o : Outcome). o.after) e));
+    }
 
 pub returns-in-TooDeep : goal.returns-in-TooDeep
 returns-in-TooDeep c =
@@ -44,4 +54,7 @@ returns-in-TooDeep c =
     let st = state a.pool.now a.reg in
     let w : write_in_hand st ≡ false = rw (eq-eqb _ _ c.if-hand-ne0.false) in
     let e = delete-deep st a.k (sym c.lent_refusal-why.ensures ∙ c.if-why-ne0.false) w (sym c.seek-place.ensures ∙ c.in-TooDeep.is) in
-    record { answer_value = c.refused-in-TooDeep.ensures.0 ∙ sym (ap (λ (o : Outcome). o.answer) e); register_value = rw c.refused-in-TooDeep.ensures.1 (sym (ap (λ (o : Outcome). o.after) e)) }
+    record {
+      answer_value = c.refused-in-TooDeep.ensures.0 ∙ sym (ap (λ (o : Outcome). o.answer) e);
+      register_value = rw c.refused-in-TooDeep.ensures.1 (sym (ap (λ (o : Outcome). o.after) e));
+    }

@@ -18,7 +18,10 @@ returns-then-why-ne0 c =
     let why = c.slot_refusal-why in
     let w : why.result ≡ first_of (give_up_tests st a.s) = why.ensures ∙ rw c.lent_refusal-lent.ensures (slot-tests st a.s i.result (not) 5 i.ensures.0) in
     let e = unless-refused (give_up_tests st a.s) st (outcome ok (end_reading st a.s)) why.result (sym w) c.if-why-ne0.true in
-    record { answer_value = c.refused.ensures.0 ∙ sym (ap (λ (o : Outcome). o.answer) e); register_after = rw c.refused.ensures.1 (sym (ap (λ (o : Outcome). o.after) e)) }
+    record {
+      answer_value = c.refused.ensures.0 ∙ sym (ap (λ (o : Outcome). o.answer) e);
+      register_after = rw c.refused.ensures.1 (sym (ap (λ (o : Outcome). o.after) e));
+    }
 
 pub end_reading-left-requires : goal.end_reading-left-requires
 end_reading-left-requires c =

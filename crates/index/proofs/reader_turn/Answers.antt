@@ -27,7 +27,11 @@ returns-then-why-ne0 c =
     let why = c.turn_refusal-why in
     let w : why.result ≡ first_of (reader_tests st a.s) = why.ensures ∙ rw c.lent_refusal-lent.ensures (turn-tests st a.s i.result i.ensures.0) in
     let e = unless-refused (reader_tests st a.s) st (reader_step st a.s) why.result (sym w) c.if-why-ne0.true in
-    let r = c.refuses_reader.ensures in record { answer_value = r.0 ∙ sym (ap (λ (o : Outcome). o.answer) e); register_after = rw r.1 (sym (ap (λ (o : Outcome). o.after) e)); compared_value = rw (ne_eqb (first_of (reader_tests st a.s)) 0 (λ z. c.if-why-ne0.true (w ∙ z))) r.2 }
+    let r = c.refuses_reader.ensures in record {
+      answer_value = r.0 ∙ sym (ap (λ (o : Outcome). o.answer) e);
+      register_after = rw r.1 (sym (ap (λ (o : Outcome). o.after) e));
+      compared_value = rw (ne_eqb (first_of (reader_tests st a.s)) 0 (λ z. c.if-why-ne0.true (w ∙ z))) r.2;
+    }
 
 pub leave-left-requires : goal.leave-left-requires
 leave-left-requires c =
@@ -53,4 +57,9 @@ returns c =
     let e = unless-done (reader_tests st s) st (reader_step st s) z in
     let l = c.leave-left in
     let k = c.look-looked in
-    let f = turn-looked a.pool.now l.new.pool a.reg l.result s i.result (look_of k.result) j k.ensures (rw c.head_of.ensures at l.ensures) in record { answer_value = c.answers_reader.ensures.0 ∙ f.0 ∙ sym (ap (λ (o : Outcome). o.answer) e); register_after = rw (c.answers_reader.ensures.1, c.register_of-register.ensures) (f.1 ∙ sym (ap (λ (o : Outcome). o.after) e)); compared_value = rw (eq-eqb (first_of (reader_tests st s)) 0 z) (c.answers_reader.ensures.2 ∙ f.2) }
+    let f = turn-looked a.pool.now l.new.pool a.reg l.result s i.result (look_of k.result) j k.ensures (rw c.head_of.ensures at l.ensures) in
+    record {
+      answer_value = c.answers_reader.ensures.0 ∙ f.0 ∙ sym (ap (λ (o : Outcome). o.answer) e);
+      register_after = rw (c.answers_reader.ensures.1, c.register_of-register.ensures) (f.1 ∙ sym (ap (λ (o : Outcome). o.after) e));
+      compared_value = rw (eq-eqb (first_of (reader_tests st s)) 0 z) (c.answers_reader.ensures.2 ∙ f.2);
+    }

@@ -16,10 +16,14 @@ nodes-requires c = right-length c.args.pool.now (sym c.length_right.ensures ∙ 
 
 pub fresh_pool-requires : goal.fresh_pool-requires
 fresh_pool-requires c =
-    let e : length_right c.args.pool.now ≡ true = sym c.length_right.ensures ∙ c.if-not-length_right.false in (right-length c.args.pool.now e, whole_length c.args.pool.now e)
+    let e : length_right c.args.pool.now ≡ true = sym c.length_right.ensures ∙ c.if-not-length_right.false in
+    (right-length c.args.pool.now e, whole_length c.args.pool.now e)
 
 pub returns : goal.returns
 unfolding set_up fresh
 returns c =
     let e : length_right c.args.pool.now ≡ true = sym c.length_right.ensures ∙ c.if-not-length_right.false in
-    rw (e, c.accepted.ensures.1) record { answer_value = c.accepted.ensures.0; register_after = rw (c.fresh_register-register.ensures, c.fresh_pool.ensures, c.nodes.ensures) }
+    rw (e, c.accepted.ensures.1) record {
+      answer_value = c.accepted.ensures.0;
+      register_after = rw (c.fresh_register-register.ensures, c.fresh_pool.ensures, c.nodes.ensures);
+    }

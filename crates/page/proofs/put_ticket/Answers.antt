@@ -8,4 +8,7 @@ pub returns : goal.returns
 unfolding column ticket_columns
 returns c =
     let last = c.put_right.ensures in
-    record { put = put_both c.put_right-second.ensures.put (put_both c.put_right-third.ensures.put last.put); value = omega (arith, last.value, c.put_right-third.ensures.value, c.put_right-second.ensures.value) }
+    record {
+      put = put_both c.put_right-second.ensures.put (put_both c.put_right-third.ensures.put last.put);
+      value = omega (arith, last.value, c.put_right-third.ensures.value, c.put_right-second.ensures.value);
+    }

@@ -16,7 +16,10 @@ pub returns-then-next-eq0 : goal.returns-then-next-eq0
 returns-then-next-eq0 c =
     let l = c.loop-d in
     let h = c.loop-d-test.true in
-    record { result_after = sym (leftmost-here c.args.pool.now l.node (upward l.path l.d) (path_bound + 1 - l.d) (omega arith) (sym c.child-next.ensures ∙ c.if-next-eq0.true)) ∙ l.invariant.3; upper_bound = omega arith }
+    record {
+      result_after = sym (leftmost-here c.args.pool.now l.node (upward l.path l.d) (path_bound + 1 - l.d) (omega arith) (sym c.child-next.ensures ∙ c.if-next-eq0.true)) ∙ l.invariant.3;
+      upper_bound = omega arith;
+    }
 
 pub loop-d-preserved : goal.loop-d-preserved
 loop-d-preserved c =
@@ -35,4 +38,7 @@ loop-d-preserved c =
 pub returns : goal.returns
 returns c =
     let l = c.loop-d in
-    let h = c.loop-d-test.false in record { result_after = upward-none _ ∙ (sym (leftmost-deep c.args.pool.now l.node (upward l.path l.d) (path_bound + 1 - l.d) (omega arith)) ∙ l.invariant.3); upper_bound = omega arith }
+    let h = c.loop-d-test.false in record {
+      result_after = upward-none _ ∙ (sym (leftmost-deep c.args.pool.now l.node (upward l.path l.d) (path_bound + 1 - l.d) (omega arith)) ∙ l.invariant.3);
+      upper_bound = omega arith;
+    }

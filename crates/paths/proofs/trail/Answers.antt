@@ -38,7 +38,10 @@ returns-then-node-eq0 c =
     let l = c.loop-t in
     let a = c.args in
     let e : same_link l.at a.t ≡ false = sym c.same_link.ensures ∙ c.if-same_link.false in
-    record { result_after = upward-none _ ∙ (sym (trail-end a.pool.now a.k a.t l.at l.node (upward l.path l.d) (path_bound - l.d) e c.if-node-eq0.true) ∙ l.invariant.4); upper_bound = omega arith }
+    record {
+      result_after = upward-none _ ∙ (sym (trail-end a.pool.now a.k a.t l.at l.node (upward l.path l.d) (path_bound - l.d) e c.if-node-eq0.true) ∙ l.invariant.4);
+      upper_bound = omega arith;
+    }
 
 pub shape_of-path-then-d-eq-PATH_BOUND : goal.shape_of-path-then-d-eq-PATH_BOUND
 shape_of-path-then-d-eq-PATH_BOUND c =
@@ -49,7 +52,10 @@ returns-then-d-eq-PATH_BOUND c =
     let l = c.loop-t in
     let a = c.args in
     let e : same_link l.at a.t ≡ false = sym c.same_link.ensures ∙ c.if-same_link.false in
-    record { result_after = upward-none _ ∙ (sym (trail-deep a.pool.now a.k a.t l.at l.node (upward l.path l.d) (path_bound - l.d) e (let h = c.if-d-eq-PATH_BOUND.true in omega arith)) ∙ l.invariant.4); upper_bound = omega arith }
+    record {
+      result_after = upward-none _ ∙ (sym (trail-deep a.pool.now a.k a.t l.at l.node (upward l.path l.d) (path_bound - l.d) e (let h = c.if-d-eq-PATH_BOUND.true in omega arith)) ∙ l.invariant.4);
+      upper_bound = omega arith;
+    }
 
 pub loop-t-preserved : goal.loop-t-preserved
 loop-t-preserved c =

@@ -10,7 +10,8 @@ pub plan-requires : goal.plan-requires
 unfolding write_of fixup_after_insert
 plan-requires c =
     let a = c.args in
-    let h = insert-short (state a.pool.now a.reg) a.k a.l in rw (c.one_store.ensures, c.fixup_after_insert-fix.ensures) (omega arith)
+    let h = insert-short (state a.pool.now a.reg) a.k a.l in
+    rw (c.one_store.ensures, c.fixup_after_insert-fix.ensures) (omega arith)
 
 pub returns : goal.returns
 unfolding insert_plan fixup_after_insert

@@ -16,7 +16,8 @@ push_rotation-a-requires c =
 pub push_rotation-requires-in-RotateTwice : goal.push_rotation-requires-in-RotateTwice
 push_rotation-requires-in-RotateTwice c =
     let h = rw c.in-RotateTwice.is at c.requires in
-    let n = length-append (rotation_stores c.in-RotateTwice.t) (rotation_stores c.in-RotateTwice.u) in rw (c.push_rotation-a.ensures, push-count) (omega arith)
+    let n = length-append (rotation_stores c.in-RotateTwice.t) (rotation_stores c.in-RotateTwice.u) in
+    rw (c.push_rotation-a.ensures, push-count) (omega arith)
 
 pub returns-in-Rotate : goal.returns-in-Rotate
 returns-in-Rotate c = rw c.in-Rotate.is c.push_rotation.ensures

@@ -13,4 +13,7 @@ plan-requires c = rw c.one_store.ensures (omega arith)
 pub returns : goal.returns
 returns c =
     let a = c.args in
-    record { possible_value = c.plan.ensures.possible_value; write_value = rw (c.plan.ensures.write_value, c.one_store.ensures) (push-write (store a.l (Replace a.v) ∷ []) [] (omega arith)) }
+    record {
+      possible_value = c.plan.ensures.possible_value;
+      write_value = rw (c.plan.ensures.write_value, c.one_store.ensures) (push-write (store a.l (Replace a.v) ∷ []) [] (omega arith));
+    }

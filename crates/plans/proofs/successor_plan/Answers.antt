@@ -12,7 +12,10 @@ use native.Mathlib.Omega.{arith}
 use Rattle.plans.proofs.successor_plan.Goals as goal
 
 pub returns-then-depth-eq0 : goal.returns-then-depth-eq0
-returns-then-depth-eq0 c = rw (upward-zero c.args.path.now c.args.depth c.if-depth-eq0.true) record { possible_value = refl; write_value = c.no_write.ensures ∙ sym no_stores }
+returns-then-depth-eq0 c = rw (upward-zero c.args.path.now c.args.depth c.if-depth-eq0.true) record {
+    possible_value = refl;
+    write_value = c.no_write.ensures ∙ sym no_stores;
+  }
 
 pub plan-requires : goal.plan-requires
 unfolding write_of
@@ -30,7 +33,10 @@ returns-then-child-eq0 c =
     let i : c.fixup_after_removal-fix.result.ending ≡ next_removal st path = rw (c.fixup_after_removal-fix.ensures, c.child.ensures, n) in
     let z : child p L (child p R a.b) ≡ 0 = rw (← c.child-right.ensures, ← c.child-2.ensures) c.if-child-eq0.true in
     let h = removal-short p (next_node st path) (child p R (next_node st path)) path in
-    rw (successor-near st a.l a.b path (upward-some a.path.now a.depth c.if-depth-eq0.false) z) record { possible_value = rw (c.plan.ensures.possible_value, i); write_value = rw (c.plan.ensures.write_value, c.two_stores.ensures, i) (push-write (store a.l Adopt ∷ store a.l Promote ∷ []) (ending_stores (next_removal st path)) (omega arith)) }
+    rw (successor-near st a.l a.b path (upward-some a.path.now a.depth c.if-depth-eq0.false) z) record {
+      possible_value = rw (c.plan.ensures.possible_value, i);
+      write_value = rw (c.plan.ensures.write_value, c.two_stores.ensures, i) (push-write (store a.l Adopt ∷ store a.l Promote ∷ []) (ending_stores (next_removal st path)) (omega arith));
+    }
 
 pub plan-requires-2 : goal.plan-requires-2
 unfolding write_of

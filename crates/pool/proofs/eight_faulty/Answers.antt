@@ -6,4 +6,5 @@ use Rattle.pool.proofs.eight_faulty.Goals as goal
 
 pub returns : goal.returns
 returns c =
-    let a = c.args in or-twice (node_in_range a.pool.now a.capacity) a.n 4 (a.n + 8) _ _ (omega arith) c.four_faulty.ensures c.four_faulty-2.ensures
+    let a = c.args in
+    or-twice (node_in_range a.pool.now a.capacity) a.n 4 (a.n + 8) _ _ (omega arith) c.four_faulty.ensures c.four_faulty-2.ensures

@@ -49,4 +49,5 @@ loop-n-2-preserved c =
 pub returns : goal.returns
 returns c =
     let l = c.loop-n-2 in
-    let capacity = c.nodes-capacity.result in sym (all_end_lem (node_in_range c.args.pool.now capacity) l.n (capacity + 1) (omega arith)) ∙ l.invariant.2
+    let capacity = c.nodes-capacity.result in
+    sym (all_end_lem (node_in_range c.args.pool.now capacity) l.n (capacity + 1) (omega arith)) ∙ l.invariant.2

@@ -4,4 +4,6 @@ use native.Mathlib.Omega.{arith}
 use Rattle.reading_ends.proofs.four_standings.Goals as goal
 
 pub returns : goal.returns
-returns c = let a = c.args in bound-twice a.pool.now a.n 2 (a.n + 4) _ _ (omega arith) c.two_standings.ensures c.two_standings-2.ensures
+returns c =
+    let a = c.args in
+    bound-twice a.pool.now a.n 2 (a.n + 4) _ _ (omega arith) c.two_standings.ensures c.two_standings-2.ensures

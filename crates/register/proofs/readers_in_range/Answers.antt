@@ -15,4 +15,5 @@ loop-s-preserved c =
 
 pub returns : goal.returns
 returns c =
-    let l = c.loop-s in sym (and-true _) ∙ (rw (all_end_lem (reader_in_range c.args.capacity c.args.reg) l.s slots c.loop-s-test.false) at l.invariant.1)
+    let l = c.loop-s in
+    sym (and-true _) ∙ (rw (all_end_lem (reader_in_range c.args.capacity c.args.reg) l.s slots c.loop-s-test.false) at l.invariant.1)

@@ -26,10 +26,16 @@ unfolding reading_slots
 loop-s-init c = (omega arith, sym (halves-end slots c.args.reg))
 
 pub overflow_mul-m : goal.overflow_mul-m
-overflow_mul-m c = let l = c.loop-s in let f = fits c.args.reg l.m l.s l.invariant.0 c.loop-s-test.true l.invariant.1 in omega arith
+overflow_mul-m c =
+    let l = c.loop-s in
+    let f = fits c.args.reg l.m l.s l.invariant.0 c.loop-s-test.true l.invariant.1 in
+    omega arith
 
 pub overflow_add-m : goal.overflow_add-m
-overflow_add-m c = let l = c.loop-s in let f = fits c.args.reg l.m l.s l.invariant.0 c.loop-s-test.true l.invariant.1 in omega arith
+overflow_add-m c =
+    let l = c.loop-s in
+    let f = fits c.args.reg l.m l.s l.invariant.0 c.loop-s-test.true l.invariant.1 in
+    omega arith
 
 pub loop-s-preserved : goal.loop-s-preserved
 loop-s-preserved c = let l = c.loop-s in (search rules, step c.args.reg l.m l.s l.invariant.0 c.loop-s-test.true l.invariant.1)

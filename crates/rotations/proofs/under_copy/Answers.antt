@@ -7,7 +7,8 @@ use Rattle.rotations.proofs.under_copy.Goals as goal
 pub returns-then-red_child : goal.returns-then-red_child
 returns-then-red_child c =
     λ q. let a = c.args in
-    let e : red_child a.pool.now (child a.pool.now a.s a.copy) ≡ true = rw (← c.child-w.ensures, ← c.red_child.ensures) c.if-red_child.true in rw e
+    let e : red_child a.pool.now (child a.pool.now a.s a.copy) ≡ true = rw (← c.child-w.ensures, ← c.red_child.ensures) c.if-red_child.true in
+    rw e
 
 pub returns : goal.returns
 returns c =

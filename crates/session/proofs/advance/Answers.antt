@@ -25,12 +25,19 @@ pub returns-then-out-session-lt-SHEET_ROOM : goal.returns-then-out-session-lt-SH
 returns-then-out-session-lt-SHEET_ROOM c =
     let l = c.loop-register in
     let i = l.invariant.1 in
-    record { sound = (i.sound, i.within, i.inside); onward = (λ h. done_full (length l.out) i.within c.if-out-session-lt-SHEET_ROOM.true (at_most i.buffer h) i.done); prints = i.prints }
+    record {
+      sound = (i.sound, i.within, i.inside);
+      onward = (λ h. done_full (length l.out) i.within c.if-out-session-lt-SHEET_ROOM.true (at_most i.buffer h) i.done);
+      prints = i.prints;
+    }
 
 pub step-after-requires : goal.step-after-requires
 step-after-requires c =
     let i = c.loop-register.invariant in
-    record { sound = (i.1.sound, i.0, piece-fits i.1.within c.if-out-session-lt-SHEET_ROOM.false); from_in_bounds = (i.1.inside, omega (arith, c.left.ensures.upper_bound, c.loop-register-test.true)) }
+    record {
+      sound = (i.1.sound, i.0, piece-fits i.1.within c.if-out-session-lt-SHEET_ROOM.false);
+      from_in_bounds = (i.1.inside, omega (arith, c.left.ensures.upper_bound, c.loop-register-test.true));
+    }
 
 pub loop-register-smaller-in-Ill : goal.loop-register-smaller-in-Ill
 loop-register-smaller-in-Ill c = c.step-after.ensures.less (rw c.in-Ill.is)
@@ -85,4 +92,8 @@ shape_of-out c = c.loop-register.invariant.1.buffer
 pub returns : goal.returns
 returns c =
     let i = c.loop-register.invariant.1 in
-    record { sound = (i.sound, i.within, i.inside); onward = (λ h. omega (arith, c.left.ensures.input_value (omega (arith, c.loop-register-test.false)))); prints = i.prints }
+    record {
+      sound = (i.sound, i.within, i.inside);
+      onward = (λ h. omega (arith, c.left.ensures.input_value (omega (arith, c.loop-register-test.false))));
+      prints = i.prints;
+    }

@@ -20,7 +20,8 @@ returns c =
     let n = c.next_number-number.ensures in
     let a = c.args in
     let h = c.requires.0.lent in
-    let f = kept-fits a.s.lent (tried_words a.s.lent a.c) (says c.perform-done.result.said) h (tried-fits a.s.lent a.c h) in record {
+    let f = kept-fits a.s.lent (tried_words a.s.lent a.c) (says c.perform-done.result.said) h (tried-fits a.s.lent a.c h) in
+    record {
       sound = (record { lent = rw p.lent_value f; rest = w.ensures.fits }, refl);
       answered = record {
         line = rw (n, c.letter_of.ensures, p.said_value) at c.write_line-at.ensures;

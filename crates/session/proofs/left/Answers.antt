@@ -7,7 +7,10 @@ use Rattle.session.proofs.left.Goals as goal
 pub returns-then-s : goal.returns-then-s
 returns-then-s c =
     let a = c.args in
-    record { upper_bound = omega arith; input_value = (λ z. left_ended a.s _ (sym c.pieces-count.ensures ∙ c.if-count-ne0.false) c.if-s.true) }
+    record {
+      upper_bound = omega arith;
+      input_value = (λ z. left_ended a.s _ (sym c.pieces-count.ensures ∙ c.if-count-ne0.false) c.if-s.true);
+    }
 
 pub returns : goal.returns
 returns c =

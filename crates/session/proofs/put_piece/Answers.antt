@@ -6,15 +6,22 @@ use Rattle.session.proofs.put_piece.Goals as goal
 
 pub put_node-requires : goal.put_node-requires
 put_node-requires c =
-    let p = rw c.in-Nodes.is at c.requires.lent_le_pool_limit in record { lent_le_pool_limit = p; words_len = c.requires.words_len }
+    let p = rw c.in-Nodes.is at c.requires.lent_le_pool_limit in record {
+      lent_le_pool_limit = p;
+      words_len = c.requires.words_len;
+    }
 
 pub put_sheet-requires : goal.put_sheet-requires
 put_sheet-requires c =
-    let p = rw c.in-Sheets.is at c.requires.lent_le_pool_limit in record { lent_le_pool_limit = p; words_len = c.requires.words_len }
+    let p = rw c.in-Sheets.is at c.requires.lent_le_pool_limit in record {
+      lent_le_pool_limit = p;
+      words_len = c.requires.words_len;
+    }
 
 pub returns-in-Nothing : goal.returns-in-Nothing
 returns-in-Nothing c =
-    let h : 0 < pieces Nothing = rw c.in-Nothing.is at c.requires.lent_le_pool_limit.2 in absurd (let z : ⊥ = omega (arith, h) in z)
+    let h : 0 < pieces Nothing = rw c.in-Nothing.is at c.requires.lent_le_pool_limit.2 in
+    absurd (let z : ⊥ = omega (arith, h) in z)
 
 pub returns-in-Nodes : goal.returns-in-Nodes
 returns-in-Nodes c = rw c.in-Nodes.is c.put_node.ensures

@@ -19,4 +19,7 @@ pub returns : goal.returns
 returns c =
     let a = c.args in
     let s = c.put_sheet-sheet.ensures in
-    record { fits = (omega (arith, c.requires), refl); put_part = rw s.last_value (sheet-part (take a.lent a.words.now) a.sheets a.last c.requires.lent_le_pool_limit.2 s.put) }
+    record {
+      fits = (omega (arith, c.requires), refl);
+      put_part = rw s.last_value (sheet-part (take a.lent a.words.now) a.sheets a.last c.requires.lent_le_pool_limit.2 s.put);
+    }

@@ -5,4 +5,7 @@ use Rattle.session.proofs.start.Goals as goal
 
 pub returns : goal.returns
 unfolding due
-returns c = record { sound = (record { lent = omega arith; rest = tt }, refl, refl); by_index = (λ words later. rw (c.start-reading.ensures, c.fresh_register-register.ensures)) }
+returns c = record {
+    sound = (record { lent = omega arith; rest = tt }, refl, refl);
+    by_index = (λ words later. rw (c.start-reading.ensures, c.fresh_register-register.ensures));
+  }

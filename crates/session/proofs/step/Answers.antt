@@ -4,7 +4,10 @@ use Rattle.session.proofs.step.Goals as goal
 pub put_piece-written-requires : goal.put_piece-written-requires
 put_piece-written-requires c =
     let p = c.requires in
-    record { lent_le_pool_limit = (p.sound.0.lent, p.sound.0.rest, rw c.pieces.ensures at c.if-pieces-gt0.true); words_len = (p.sound.1, p.sound.2) }
+    record {
+      lent_le_pool_limit = (p.sound.0.lent, p.sound.0.rest, rw c.pieces.ensures at c.if-pieces-gt0.true);
+      words_len = (p.sound.1, p.sound.2);
+    }
 
 pub returns-then-pieces-gt0 : goal.returns-then-pieces-gt0
 returns-then-pieces-gt0 c =

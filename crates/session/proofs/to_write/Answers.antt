@@ -45,7 +45,10 @@ returns-in-Show c =
     let a = c.args in
     let h = lent_length a.words.now a.lent c.requires.0 c.requires.1 in
     let told = c.in-Ok.is in
-    record { fits = omega (arith, c.requires); result_value = rw (c.in-Show.is, told) (rest-nodes (take a.lent a.words.now) (a.lent / node_words) (omega (arith, h))) }
+    record {
+      fits = omega (arith, c.requires);
+      result_value = rw (c.in-Show.is, told) (rest-nodes (take a.lent a.words.now) (a.lent / node_words) (omega (arith, h)));
+    }
 
 pub slice_bounds-sheets-end : goal.slice_bounds-sheets-end
 slice_bounds-sheets-end c =
@@ -62,12 +65,18 @@ returns-in-Page c =
     let h = lent_length a.words.now a.lent c.requires.0 c.requires.1 in
     let s = c.sheets.ensures in
     let told = c.in-Ok.is in
-    record { fits = s.upper_bound; result_value = rw (c.in-Page.is, told, s.value) (sym (page-sheets (take a.lent a.words.now) (omega (arith, h, c.requires)))) }
+    record {
+      fits = s.upper_bound;
+      result_value = rw (c.in-Page.is, told, s.value) (sym (page-sheets (take a.lent a.words.now) (omega (arith, h, c.requires))));
+    }
 
 pub returns-in_default-c-2 : goal.returns-in_default-c-2
 returns-in_default-c-2 c =
     let a = c.args in
-    record { fits = tt; result_value = rw c.in-Ok.is (sym (no-listing (take a.lent a.words.now) a.c c.in_default-c.not-Show c.in_default-c-2.not-Page)) }
+    record {
+      fits = tt;
+      result_value = rw c.in-Ok.is (sym (no-listing (take a.lent a.words.now) a.c c.in_default-c.not-Show c.in_default-c-2.not-Page));
+    }
 
 pub returns-in_default : goal.returns-in_default
 returns-in_default c = record { fits = tt; result_value = rw (not-ok c.args.said c.in_default.not-Ok) }

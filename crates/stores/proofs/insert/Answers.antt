@@ -17,7 +17,8 @@ returns-then-h-eq0 c =
 pub insert_under_red-requires : goal.insert_under_red-requires
 insert_under_red-requires c =
     let a = c.args in
-    let e : is_red a.pool.now (owner a.l) ≡ true = rw (← c.owner.ensures, ← c.is_red.ensures) c.if-is_red.true in (c.requires.0, e, c.if-h-eq0.false, c.requires.1)
+    let e : is_red a.pool.now (owner a.l) ≡ true = rw (← c.owner.ensures, ← c.is_red.ensures) c.if-is_red.true in
+    (c.requires.0, e, c.if-h-eq0.false, c.requires.1)
 
 pub returns-then-is_red : goal.returns-then-is_red
 returns-then-is_red c = c.insert_under_red.ensures
@@ -25,7 +26,8 @@ returns-then-is_red c = c.insert_under_red.ensures
 pub insert_under_black-requires : goal.insert_under_black-requires
 insert_under_black-requires c =
     let a = c.args in
-    let e : is_red a.pool.now (owner a.l) ≡ false = rw (← c.owner.ensures, ← c.is_red.ensures) c.if-is_red.false in (c.requires.0, e, c.if-h-eq0.false, c.requires.1)
+    let e : is_red a.pool.now (owner a.l) ≡ false = rw (← c.owner.ensures, ← c.is_red.ensures) c.if-is_red.false in
+    (c.requires.0, e, c.if-h-eq0.false, c.requires.1)
 
 pub returns : goal.returns
 returns c = c.insert_under_black.ensures

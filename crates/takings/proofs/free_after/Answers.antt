@@ -10,10 +10,15 @@ pub loop-left-init : goal.loop-left-init
 loop-left-init c = refl
 
 pub returns-then-node-eq0 : goal.returns-then-node-eq0
-returns-then-node-eq0 c = let l = c.loop-left in let p = c.args.pool.now in sym (sym l.invariant ∙ ap (λ m. free_after (next_free p) m l.left) c.if-node-eq0.true ∙ after_none (next_free p) l.left (word_none p next_word))
+returns-then-node-eq0 c =
+    let l = c.loop-left in
+    let p = c.args.pool.now in
+    sym (sym l.invariant ∙ ap (λ m. free_after (next_free p) m l.left) c.if-node-eq0.true ∙ after_none (next_free p) l.left (word_none p next_word))
 
 pub loop-left-preserved : goal.loop-left-preserved
-loop-left-preserved c = let l = c.loop-left in rw c.word-node.ensures (sym (after-step (next_free _) l.node l.left (omega arith)) ∙ l.invariant)
+loop-left-preserved c =
+    let l = c.loop-left in
+    rw c.word-node.ensures (sym (after-step (next_free _) l.node l.left (omega arith)) ∙ l.invariant)
 
 pub returns : goal.returns
 returns c = let l = c.loop-left in sym (after-here (next_free _) l.node l.left (omega arith)) ∙ l.invariant

@@ -23,7 +23,10 @@ returns-then-not-t c =
     let t = c.first_step-t in
     let z = t.ensures in
     let f : step_finds st x.link x.step ≡ false = sym z.0 ∙ not-true _ c.if-not-t.true in
-    let e = writer-missed st c.requires.0 c.requires.1 c.requires.2 f in record { answer_value = c.refuses_writer.ensures.0 ∙ sym (ap (λ (o : Outcome). o.answer) e); register_after = rw c.refuses_writer.ensures.1 (ap (λ (p : List ℕ). state p a.reg) (z.2 (not-true _ c.if-not-t.true)) ∙ sym (ap (λ (o : Outcome). o.after) e)) }
+    let e = writer-missed st c.requires.0 c.requires.1 c.requires.2 f in record {
+      answer_value = c.refuses_writer.ensures.0 ∙ sym (ap (λ (o : Outcome). o.answer) e);
+      register_after = rw c.refuses_writer.ensures.1 (ap (λ (p : List ℕ). state p a.reg) (z.2 (not-true _ c.if-not-t.true)) ∙ sym (ap (λ (o : Outcome). o.after) e));
+    }
 
 pub returns-then-renames : goal.returns-then-renames
 returns-then-renames c =
@@ -51,7 +54,10 @@ returns-then-not-t-2 c =
     let t = c.first_step-t-2 in
     let z = t.ensures in
     let f : step_finds st x.link x.step ≡ false = sym z.0 ∙ not-true _ c.if-not-t-2.true in
-    let e = writer-missed st c.requires.0 c.requires.1 c.requires.2 f in record { answer_value = c.refuses_writer-then-not-t-2.ensures.0 ∙ sym (ap (λ (o : Outcome). o.answer) e); register_after = rw c.refuses_writer-then-not-t-2.ensures.1 (ap (λ (p : List ℕ). state p a.reg) (z.2 (not-true _ c.if-not-t-2.true)) ∙ sym (ap (λ (o : Outcome). o.after) e)) }
+    let e = writer-missed st c.requires.0 c.requires.1 c.requires.2 f in record {
+      answer_value = c.refuses_writer-then-not-t-2.ensures.0 ∙ sym (ap (λ (o : Outcome). o.answer) e);
+      register_after = rw c.refuses_writer-then-not-t-2.ensures.1 (ap (λ (p : List ℕ). state p a.reg) (z.2 (not-true _ c.if-not-t-2.true)) ∙ sym (ap (λ (o : Outcome). o.after) e));
+    }
 
 pub returns : goal.returns
 returns c =
