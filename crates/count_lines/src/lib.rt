@@ -135,6 +135,10 @@ fn lists(rt: &impl Print, counts: &[u64]) -> io::Result<()> {
         "lists accepted with a slot at a retired node",
         rows::get(counts, rows::LISTS_RETIRED),
     )?;
+    list_keys(rt, counts)
+}
+
+fn list_keys(rt: &impl Print, counts: &[u64]) -> io::Result<()> {
     line(
         rt,
         "lists of N - 4 keys accepted",

@@ -17,11 +17,13 @@ grow-grown-requires c =
     let st = state a.pool.now a.reg in
     let n = (lent-nodes st c.requires.0).1 in
     let k = number-room st a.keys.now a.records.now c.requires.2 in
-    let e = (right-even a.keys.now a.records.now (number_fits st a.keys.now a.records.now c.requires.2)).1 in
-    ((lent-whole st c.requires.0).1, record {
-      few = omega (arith, n, k);
-      even = e;
-    })
+    let e = (right-even a.keys.now a.records.now (number_fits st a.keys.now a.records.now c.requires.2)).1 in (
+      (lent-whole st c.requires.0).1,
+      record {
+        few = omega (arith, n, k);
+        even = e;
+      },
+    )
 
 pub overflow_cast-keys : goal.overflow_cast-keys
 overflow_cast-keys c =

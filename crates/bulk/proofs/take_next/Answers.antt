@@ -52,7 +52,7 @@ overflow_add-r c =
 pub returns : goal.returns
 unfolding frame_at
 returns c = let t = c.take_as-head in let ch = c.choose-colour in record {
-    follows = (λ q. rw (← ch.ensures) (t.ensures q));
-    stack_after = c.put_frame.ensures;
-    value = refl;
-  }
+  follows = (λ q. rw (← ch.ensures) (t.ensures q));
+  stack_after = c.put_frame.ensures;
+  value = refl;
+}

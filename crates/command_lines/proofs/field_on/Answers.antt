@@ -8,15 +8,15 @@ loop-i-init c = (search rules, onward-none c.args.input.now c.args.f c.args.from
 
 pub returns-then-b-eq-TAB : goal.returns-then-b-eq-TAB
 returns-then-b-eq-TAB c = record {
-    onward = c.loop-i.invariant.1;
-    ends = record { within = c.loop-i.invariant.0; tabbed = λ a b. c.if-b-eq-TAB.true };
-  }
+  onward = c.loop-i.invariant.1;
+  ends = record { within = c.loop-i.invariant.0; tabbed = λ a b. c.if-b-eq-TAB.true };
+}
 
 pub returns-then-b-eq-NEWLINE : goal.returns-then-b-eq-NEWLINE
 returns-then-b-eq-NEWLINE c = record {
-    onward = c.loop-i.invariant.1;
-    ends = record { within = c.loop-i.invariant.0; tabbed = λ a b. absurd (b c.if-b-eq-NEWLINE.true) };
-  }
+  onward = c.loop-i.invariant.1;
+  ends = record { within = c.loop-i.invariant.0; tabbed = λ a b. absurd (b c.if-b-eq-NEWLINE.true) };
+}
 
 pub loop-i-preserved : goal.loop-i-preserved
 loop-i-preserved c = (
@@ -28,6 +28,6 @@ loop-i-preserved c = (
 
 pub returns : goal.returns
 returns c = record {
-    onward = c.loop-i.invariant.1;
-    ends = record { within = c.loop-i.invariant.0; tabbed = λ a b. absurd (let z : ⊥ = omega (arith, a, c.loop-i-test.false) in z) };
-  }
+  onward = c.loop-i.invariant.1;
+  ends = record { within = c.loop-i.invariant.0; tabbed = λ a b. absurd (let z : ⊥ = omega (arith, a, c.loop-i-test.false) in z) };
+}

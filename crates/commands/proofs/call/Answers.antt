@@ -10,15 +10,15 @@ returns-in-SetUp c =
 
 pub returns-in-Insert : goal.returns-in-Insert
 returns-in-Insert c = rw c.in-Insert.is record {
-    said_value = c.accepted-in-Insert.ensures.0 ∙ c.insert.ensures.answer_value;
-    register_after = rw c.accepted-in-Insert.ensures.1 c.insert.ensures.register_value;
-  }
+  said_value = c.accepted-in-Insert.ensures.0 ∙ c.insert.ensures.answer_value;
+  register_after = rw c.accepted-in-Insert.ensures.1 c.insert.ensures.register_value;
+}
 
 pub returns-in-Delete : goal.returns-in-Delete
 returns-in-Delete c = rw c.in-Delete.is record {
-    said_value = c.accepted-in-Delete.ensures.0 ∙ c.delete.ensures.answer_value;
-    register_after = rw c.accepted-in-Delete.ensures.1 c.delete.ensures.register_value;
-  }
+  said_value = c.accepted-in-Delete.ensures.0 ∙ c.delete.ensures.answer_value;
+  register_after = rw c.accepted-in-Delete.ensures.1 c.delete.ensures.register_value;
+}
 
 pub returns-in-Write : goal.returns-in-Write
 returns-in-Write c =
@@ -29,15 +29,15 @@ returns-in-Write c =
 
 pub returns-in-Begin : goal.returns-in-Begin
 returns-in-Begin c = rw c.in-Begin.is record {
-    said_value = c.accepted-in-Begin.ensures.0 ∙ c.begin.ensures.answer_value;
-    register_after = rw c.accepted-in-Begin.ensures.1 c.begin.ensures.register_value;
-  }
+  said_value = c.accepted-in-Begin.ensures.0 ∙ c.begin.ensures.answer_value;
+  register_after = rw c.accepted-in-Begin.ensures.1 c.begin.ensures.register_value;
+}
 
 pub returns-in-BeginNext : goal.returns-in-BeginNext
 returns-in-BeginNext c = rw c.in-BeginNext.is record {
-    said_value = c.accepted-in-BeginNext.ensures.0 ∙ c.begin_next.ensures.answer_value;
-    register_after = rw c.accepted-in-BeginNext.ensures.1 c.begin_next.ensures.register_value;
-  }
+  said_value = c.accepted-in-BeginNext.ensures.0 ∙ c.begin_next.ensures.answer_value;
+  register_after = rw c.accepted-in-BeginNext.ensures.1 c.begin_next.ensures.register_value;
+}
 
 pub returns-in-Turn : goal.returns-in-Turn
 returns-in-Turn c =
@@ -55,18 +55,18 @@ returns-in-GiveUp c =
 
 pub returns-in-Show : goal.returns-in-Show
 returns-in-Show c = rw c.in-Show.is record {
-    said_value = c.show.ensures.said_value;
-    register_after = c.show.ensures.register_value;
-  }
+  said_value = c.show.ensures.said_value;
+  register_after = c.show.ensures.register_value;
+}
 
 pub returns-in-Page : goal.returns-in-Page
 returns-in-Page c = rw c.in-Page.is record {
-    said_value = c.show-in-Page.ensures.said_value;
-    register_after = c.show-in-Page.ensures.register_value;
-  }
+  said_value = c.show-in-Page.ensures.said_value;
+  register_after = c.show-in-Page.ensures.register_value;
+}
 
 pub returns-in-Ill : goal.returns-in-Ill
 returns-in-Ill c = rw c.in-Ill.is record {
-    said_value = c.show-in-Ill.ensures.said_value;
-    register_after = c.show-in-Ill.ensures.register_value;
-  }
+  said_value = c.show-in-Ill.ensures.said_value;
+  register_after = c.show-in-Ill.ensures.register_value;
+}

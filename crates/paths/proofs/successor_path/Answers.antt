@@ -6,9 +6,9 @@ use Rattle.paths.proofs.successor_path.Goals as goal
 
 pub returns-then-depth-eq0 : goal.returns-then-depth-eq0
 returns-then-depth-eq0 c = let a = c.args in record {
-    result_after = upward-none _ ∙ sym (successor-none a.path.now a.depth a.pool.now a.b c.if-depth-eq0.true);
-    upper_bound = omega arith;
-  }
+  result_after = upward-none _ ∙ sym (successor-none a.path.now a.depth a.pool.now a.b c.if-depth-eq0.true);
+  upper_bound = omega arith;
+}
 
 pub returns : goal.returns
 returns c =

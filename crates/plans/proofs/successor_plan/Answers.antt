@@ -13,9 +13,9 @@ use Rattle.plans.proofs.successor_plan.Goals as goal
 
 pub returns-then-depth-eq0 : goal.returns-then-depth-eq0
 returns-then-depth-eq0 c = rw (upward-zero c.args.path.now c.args.depth c.if-depth-eq0.true) record {
-    possible_value = refl;
-    write_value = c.no_write.ensures ∙ sym no_stores;
-  }
+  possible_value = refl;
+  write_value = c.no_write.ensures ∙ sym no_stores;
+}
 
 pub plan-requires : goal.plan-requires
 unfolding write_of

@@ -6,6 +6,6 @@ use Rattle.session.proofs.start.Goals as goal
 pub returns : goal.returns
 unfolding due
 returns c = record {
-    sound = (record { lent = omega arith; rest = tt }, refl, refl);
-    by_index = (λ words later. rw (c.start-reading.ensures, c.fresh_register-register.ensures));
-  }
+  sound = (record { lent = omega arith; rest = tt }, refl, refl);
+  by_index = (λ words later. rw (c.start-reading.ensures, c.fresh_register-register.ensures));
+}
