@@ -4,9 +4,9 @@
 
 ghost use Rattle.std.specs.Prelude.{◌≡◌, not, eqb};
 ghost use Rattle.spec.specs.Register.{set_link};
-ghost use Rattle.heads.specs.Head.{head_of, with_head, register_of, awaiting, Follows, missed_by};
+ghost use Rattle.heads.specs.Head.{head_of, with_head, register_of, awaiting, Follows};
 
-use datatypes::{Head, Link, Reader, Register, StepResult, Write};
+use datatypes::{Head, Link, Reader, Register, Write};
 
 // Takes the head out of a register.
 pub fn head_of(reg: Register) -> Head
@@ -49,18 +49,6 @@ pub fn register_of(h: Head, readers: [Reader; numbers::SLOTS], write: Write) -> 
         readers,
         awaited: h.awaited,
         write,
-    }
-}
-
-// Makes the result of a step that names a node where there is none, or finds no free node: nothing is changed.
-pub fn missed(head: Head) -> StepResult
-    ensures { result ≡ missed_by head }
-{
-    StepResult {
-        found: false,
-        link: Link::Root,
-        node: 0,
-        head,
     }
 }
 
