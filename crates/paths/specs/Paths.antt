@@ -26,6 +26,10 @@ module _ (p : List ℕ) (k : ℕ) (t : Link) (l : Link) (n : ℕ) (up : List Lin
   trail_left-end zero e z = refl
   trail_left-end (suc a) e z = trail-end p k t l n up a e z
 
+  pub trail_left-none : (a : ℕ) → a ≡ 0 → trail_left p k t a l n up ≡ []
+  trail_left-none zero z = refl
+  trail_left-none (suc a) z = absurd (let f : ⊥ = omega arith in f)
+
   pub trail_left-step : (a b : ℕ) → same_link l t ≡ false → (n ≡ 0 → ⊥) → a ≡ suc b
       → trail_left p k t a l n up ≡ trail_left p k t b (link_at (towards p k n) n) (child p (towards p k n) n) (l ∷ up)
   trail_left-step zero b e d z = absurd (let f : ⊥ = omega arith in f)
