@@ -36,6 +36,18 @@ pub fn with_head(reg: Register, h: Head) -> Register
     r
 }
 
+// The same in a register that is lent.
+pub fn put_head(reg: &mut Register, h: Head)
+    ensures { reg.new ≡ with_head reg.old h }
+{
+    reg.root = h.root;
+    reg.first = h.first;
+    reg.last = h.last;
+    reg.free = h.free;
+    reg.held = h.held;
+    reg.awaited = h.awaited;
+}
+
 // Makes a register of a head and the rest. The parts go by themselves: a register that is copied and then changed is copied once more.
 pub fn register_of(h: Head, readers: [Reader; numbers::SLOTS], write: Write) -> Register
     ensures { result ≡ register_of h readers write }
