@@ -146,7 +146,7 @@ pub fn insert_list(pool: &mut [u32], reg: &mut Register, keys: &[u32], records: 
 {
     idle_refusal(pool, reg)?;
     list_refusal(pool, reg, keys, records)?;
-    let grown = bulk::grow(pool, heads::head_of(*reg), keys, records);
+    let grown = bulk::grow(pool, heads::head_of(reg), keys, records);
     heads::put_head(reg, grown.head);
     reg.write = bulk::list_write(keys.len() as u32, grown.top);
     Ok(())

@@ -9,8 +9,8 @@ ghost use Rattle.heads.specs.Head.{head_of, with_head, register_of, awaiting, Fo
 use datatypes::{Head, Link, Reader, Register, Write};
 
 // Takes the head out of a register.
-pub fn head_of(reg: Register) -> Head
-    ensures { result ≡ head_of reg }
+pub fn head_of(reg: &Register) -> Head
+    ensures { result ≡ head_of reg.now }
 {
     Head {
         root: reg.root,

@@ -104,8 +104,8 @@ pub fn with_write(reg: Register, w: Write) -> Register
 }
 
 // Answers the mask of all reading slots, from the last slot's bit to the first's.
-pub fn reading_slots(reg: Register) -> u32
-    ensures { result ≡ reading_slots reg }
+pub fn reading_slots(reg: &Register) -> u32
+    ensures { result ≡ reading_slots reg.now }
 {
     let mut m: u32 = 0;
     for s in (0..numbers::SLOTS).rev() {
@@ -151,14 +151,14 @@ fn store_in_range(x: Store, coming: bool, capacity: u32) -> bool
     }
 }
 
-fn readers_in_range(reg: Register, capacity: u32) -> bool
-    ensures { result ≡ all_in (reader_in_range capacity reg) 0 slots }
+fn readers_in_range(reg: &Register, capacity: u32) -> bool
+    ensures { result ≡ all_in (reader_in_range capacity reg.now) 0 slots }
 {
     reg.readers.iter().all(|x| x.node <= capacity)
 }
 
-fn stores_in_range(w: Write, capacity: u32) -> bool
-    ensures { result ≡ all_in (store_in_range capacity w) 0 most_stores }
+fn stores_in_range(w: &Write, capacity: u32) -> bool
+    ensures { result ≡ all_in (store_in_range capacity w.now) 0 most_stores }
 {
     for (i, x) in w.stores.iter().enumerate() {
         if !store_in_range(*x, i < w.count as usize, capacity) {
@@ -170,12 +170,12 @@ fn stores_in_range(w: Write, capacity: u32) -> bool
 
 // Tests whether every field of the register is in its range; the awaited slots are any word.
 #[tactic(auto, unfolding(spec::specs::Register::register_in_range))]
-pub fn register_in_range(reg: Register, capacity: u32) -> bool
-    ensures { result ≡ register_in_range capacity reg }
+pub fn register_in_range(reg: &Register, capacity: u32) -> bool
+    ensures { result ≡ register_in_range capacity reg.now }
 {
     let a = (reg.root <= capacity) & (reg.first <= capacity) & (reg.last <= capacity);
     let b = (reg.free <= capacity) & (reg.held <= capacity);
-    let w = reg.write;
+    let w = &reg.write;
     a & b
         & ((w.count <= numbers::STORE_LIMIT) & readers_in_range(reg, capacity)
             && stores_in_range(w, capacity))

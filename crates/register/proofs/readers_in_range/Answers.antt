@@ -10,5 +10,5 @@ use Rattle.register.proofs.readers_in_range.Goals as goal
 pub returns : goal.returns
 returns c =
     let a = c.args in
-    all_from_yields_List (λ (x : Reader). leb x.node a.capacity) _ _ _ c.all.ensures.ran (YieldsList-from_slice a.reg.readers cc) (λ x b q k. search (rules, tests))
-    ∙ list-in (λ (x : Reader). leb x.node a.capacity) (reader_in_range a.capacity a.reg) no_reader a.reg.readers slots (search rules) (λ i. refl)
+    all_from_yields_List (λ (x : Reader). leb x.node a.capacity) _ _ _ c.all.ensures.ran (YieldsList-from_slice a.reg.now.readers cc) (λ x b q k. search (rules, tests))
+    ∙ list-in (λ (x : Reader). leb x.node a.capacity) (reader_in_range a.capacity a.reg.now) no_reader a.reg.now.readers slots (search rules) (λ i. refl)

@@ -19,16 +19,16 @@ fits r m s h p e = rw (step r m s h p e) (halves-fit slots r (s - 1) (omega arit
 
 pub loop-s-init : goal.loop-s-init
 unfolding reading_slots
-loop-s-init c = sym (halves-end slots c.args.reg)
+loop-s-init c = sym (halves-end slots c.args.reg.now)
 
 pub overflow_mul-m : goal.overflow_mul-m
-overflow_mul-m c = let l = c.loop-s in let f = fits c.args.reg l.m l.s l.auto.s c.loop-s-test.true l.invariant in omega arith
+overflow_mul-m c = let l = c.loop-s in let f = fits c.args.reg.now l.m l.s l.auto.s c.loop-s-test.true l.invariant in omega arith
 
 pub overflow_add-m : goal.overflow_add-m
-overflow_add-m c = let l = c.loop-s in let f = fits c.args.reg l.m l.s l.auto.s c.loop-s-test.true l.invariant in omega arith
+overflow_add-m c = let l = c.loop-s in let f = fits c.args.reg.now l.m l.s l.auto.s c.loop-s-test.true l.invariant in omega arith
 
 pub loop-s-preserved : goal.loop-s-preserved
-loop-s-preserved c = let l = c.loop-s in step c.args.reg l.m l.s l.auto.s c.loop-s-test.true l.invariant
+loop-s-preserved c = let l = c.loop-s in step c.args.reg.now l.m l.s l.auto.s c.loop-s-test.true l.invariant
 
 pub returns : goal.returns
-returns c = let l = c.loop-s in let none : l.s ≡ 0 = omega arith in l.invariant ∙ rw none (div-one (reading_slots c.args.reg))
+returns c = let l = c.loop-s in let none : l.s ≡ 0 = omega arith in l.invariant ∙ rw none (div-one (reading_slots c.args.reg.now))
