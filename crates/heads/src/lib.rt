@@ -11,8 +11,8 @@ ghost use Rattle.heads.specs.Head.{head_of, with_head, register_of, awaiting, Fo
 use datatypes::{Head, Link, Reader, Register, Write};
 
 // Takes the head out of a register.
-pub fn head_of(reg: Register) -> Head
-    ensures { result ≡ head_of reg }
+pub fn head_of(reg: &Register) -> Head
+    ensures { result ≡ head_of reg.now }
 {
     Head {
         root: reg.root,
@@ -36,6 +36,18 @@ pub fn with_head(reg: Register, h: Head) -> Register
     r.held = h.held;
     r.awaited = h.awaited;
     r
+}
+
+// The same in a register that is lent.
+pub fn put_head(reg: &mut Register, h: Head)
+    ensures { reg.new ≡ with_head reg.old h }
+{
+    reg.root = h.root;
+    reg.first = h.first;
+    reg.last = h.last;
+    reg.free = h.free;
+    reg.held = h.held;
+    reg.awaited = h.awaited;
 }
 
 // Makes a register of a head and the rest. The parts go by themselves: a register that is copied and then changed is copied once more.
