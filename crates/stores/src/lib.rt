@@ -25,7 +25,7 @@ fn link_new(pool: &mut [u32], h: Head, l: Link, k: u32, v: u64) -> Head
     ensures { Follows (λ st. one_more (set_link (take_node st k v L 0 0 red_colour) l h.first)) pool.old h pool.new result }
 {
     let first = h.first;
-    let taken = queue::take_node(pool, h, k, v, Side::L, 0, 0, pool::RED);
+    let taken = queue::take_as(pool, h, k, v, Side::L, 0, 0, pool::RED, pool::LINKED);
     let mut r = heads::set_link(pool, taken, l, first);
     let capacity = pool::nodes(pool);
     r.held = counts::count_up(capacity, r.held);
