@@ -1,4 +1,4 @@
-use Rattle.spec.specs.Register.{with_write, store_of}
+use Rattle.spec.specs.Register.{store_of, with_write}
 use Rattle.turns.proofs.first_step.Goals as goal
 
 pub returns-in-Insert : goal.returns-in-Insert
