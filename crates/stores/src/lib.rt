@@ -42,7 +42,6 @@ fn end_insert(pool: &mut [u32], root: u32, e: Ending)
 }
 
 // Inserts under a black parent, or at the root: nothing but the root's colour changes besides.
-#[tactic(auto, unfolding(spec::specs::Turn::step_finds, spec::specs::Turn::step_made, spec::specs::Turn::insert_store, spec::specs::Plan::fixup_after_insert, spec::specs::Plan::paint_insert_fixup))]
 fn insert_under_black(pool: &mut [u32], h: Head, l: Link, k: u32, v: u64) -> Stored
     requires { (length pool.old < pool_limit) × (is_red pool.old (owner l) ≡ false) × (h.first ≡ 0 → ⊥) × Whole pool.old }
     ensures { Tries l (Insert k v) pool.old h pool.new (Some result) }
