@@ -85,7 +85,9 @@ pub struct Lengths {
 }
 
 // Answers the camera that uses a slot.
-pub fn camera_of(s: u32) -> usize {
+pub fn camera_of(s: u32) -> usize
+    ensures { result < 8 }
+{
     s as usize % CAMERAS
 }
 

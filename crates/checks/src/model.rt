@@ -1,5 +1,7 @@
 // What a run knows beside the reference tree: document 01's plain list with its latest changes, the moments of each lookup and of each search
 // for the next ticket, and the write in hand.
+ghost use Rattle.std.specs.Prelude.{◌<◌};
+
 use crate::draws::{Reading, TICKETS};
 use reference::DeleteForm;
 
@@ -122,7 +124,9 @@ pub enum Write {
 
 impl Write {
     // Answers a write's place among the rows of accepted writes, and of finished ones.
-    pub fn place(self) -> usize {
+    pub fn place(self) -> usize
+        ensures { result < 4 }
+    {
         match self {
             Write::List(_) => 0,
             Write::Insert => 1,

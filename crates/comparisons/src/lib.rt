@@ -145,10 +145,8 @@ impl Beside {
             longest,
         } = said.tally;
         let camera = lengths::camera_of(s);
-        self.counts.same(
-            self.lengths
-                .tally_is(camera, answered, compared, longest),
-        );
+        self.counts
+            .same(self.lengths.tally_is(camera, answered, compared, longest));
         self.counts.one(rows::TALLIES);
     }
 
@@ -169,8 +167,7 @@ impl Beside {
             Kind::Begin | Kind::BeginNext | Kind::GiveUp => self.compare_ended(call, said),
             _ => {}
         }
-        self.lengths
-            .moment(self.model.write_in_hand().is_some());
+        self.lengths.moment(self.model.write_in_hand().is_some());
     }
 
     // Compares what a call said and left; answers the slots that read after it.

@@ -36,8 +36,7 @@ impl Beside {
                 Reading::Lookup => rows::BEGUN,
                 Reading::Search => rows::NEXT_BEGUN,
             });
-            self.counts
-                .one(rows::SLOT_BEGUN + call.slot as usize);
+            self.counts.one(rows::SLOT_BEGUN + call.slot as usize);
         }
     }
 

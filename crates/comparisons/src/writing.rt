@@ -73,8 +73,7 @@ impl Beside {
     // takes a write in hand, which takes so many stores before its rotations
     fn begin_write(&mut self, write: Write, call: Call, record: u64, first: u32) {
         let stores = self.stores(first);
-        self.model
-            .take_in_hand(write, call.ticket, record, stores);
+        self.model.take_in_hand(write, call.ticket, record, stores);
         self.counts.one(rows::ACCEPTED + write.place());
     }
 
@@ -95,8 +94,7 @@ impl Beside {
         }
         self.counts.one_if(rows::REPLACED_FULL, full);
         if let Some(old) = self.model.list_record(call.ticket) {
-            self.counts
-                .one_if(rows::REPLACED_SAME, old == call.record);
+            self.counts.one_if(rows::REPLACED_SAME, old == call.record);
             self.counts
                 .one_if(rows::HIGH_REPLACED, model::differ_high(old, call.record));
         }
@@ -205,8 +203,7 @@ impl Beside {
     // a store was made; after a write's last one the trees are walked together
     fn follow_store(&mut self, pool: &[u32], said: Said, last: bool) {
         self.counts.one(step_row(said.step));
-        self.counts
-            .one(if last { rows::DONE } else { rows::MORE });
+        self.counts.one(if last { rows::DONE } else { rows::MORE });
         self.model.store_made();
         if last {
             self.compare_copy(said);
