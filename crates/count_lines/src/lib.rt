@@ -1,8 +1,6 @@
 // The counts that the program compare keeps, a line each.
 #![tactic(auto)]
 
-ghost use Rattle.std.specs.Prelude.{◌<◌};
-
 use checks::draws::{Kind, Reading};
 use checks::lengths::Lengths;
 use checks::rows;
