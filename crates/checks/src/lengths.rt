@@ -27,7 +27,7 @@ const UNUSED: Slot = Slot {
     turns: 0,
 };
 
-// A camera's tally: readings answered, nodes that they compared, the longest count.
+// A camera's tally, which shares nothing with the index's own: readings answered, nodes that they compared, the longest count.
 #[derive(Clone, Copy, PartialEq, Eq)]
 struct Tally {
     answered: u32,

@@ -39,7 +39,7 @@ const NO_CHANGE: Change = Change {
     record: 0,
 };
 
-// kept: the records that a lookup saw stand in an array with their number beside it: (a) no heap, and slots lie in one array.
+// The records that a lookup saw. kept: an array with its length beside it: (a) no heap, and slots are copied.
 #[derive(Clone, Copy)]
 struct Seen {
     records: [u64; MEMORY],
@@ -394,11 +394,10 @@ impl Model {
     // Answers whether a search may answer this ticket with this record: it comes after the given one, the list had it at one of the search's
     // moments, and none between at all of them.
     pub fn was_next(&self, s: u32, t: u32, v: u64) -> bool {
-        let Some(read) = self.read(s) else {
-            return false;
-        };
-        let first = self.first_after(read.wanted, read.since);
-        (read.wanted < t) & self.was_held(t, v, read.since) & first.is_none_or(|n| t <= n)
+        let first = self.first_throughout(s);
+        self.read(s)
+            .is_some_and(|read| (read.wanted < t) & self.was_held(t, v, read.since))
+            & first.is_none_or(|n| t <= n)
     }
 
     // Answers whether a search may answer none: the list had no ticket after the given one at all of the search's moments.

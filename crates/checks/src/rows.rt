@@ -1,7 +1,6 @@
-// The counts of a run, by row; a row past the end counts nothing.
+// The counts of all runs, by row; a row past the end counts nothing.
 
-// kept: a row's number is a constant: (d) rows are places in one table that is printed in order, many are the first of a stretch of rows that a
-// kind, a form or a slot counts on from, and an enum would say each name twice.
+// kept: rows are constants: (d) places in one table; from many of them on rows go by a kind, a form or a slot (ACCEPTED + write.place()).
 pub const ROWS: usize = 224;
 
 // Set up, and then the other calls by the numbers of their kinds; refusals by their numbers; finished deletes by their form, finished and

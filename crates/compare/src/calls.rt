@@ -83,11 +83,11 @@ pub fn call_index(pool: &mut [u32], reg: Register, call: Call, list: &List, tall
 }
 
 // Answers the record of a slot, of some slot for one that is too high.
-pub fn reader_of(reg: Register, s: u32) -> Reader {
+pub fn reader_of(reg: &Register, s: u32) -> Reader {
     reg.readers[s as usize % numbers::SLOTS]
 }
 
 // Answers the step of the store in hand.
-pub fn step_in_hand(reg: Register) -> Step {
+pub fn step_in_hand(reg: &Register) -> Step {
     reg.write.stores[0].step
 }

@@ -21,9 +21,9 @@ use std::io;
 const POOL_WORDS: usize = numbers::MOST_NODES * numbers::NODE_WORDS;
 
 // what a call made on this register is compared by
-fn said_of(reg: Register, made: Made, s: u32) -> Said {
+fn said_of(reg: &Register, made: &Made, s: u32) -> Said {
     let before = calls::reader_of(reg, s);
-    let after = calls::reader_of(made.register, s);
+    let after = calls::reader_of(&made.register, s);
     Said {
         answer: made.answer,
         free_before: reg.free,
@@ -99,7 +99,7 @@ impl Run {
         } else {
             calls::call_index(pool, reg, call, &self.list, tally)
         };
-        let said = said_of(reg, made, call.slot);
+        let said = said_of(&reg, &made, call.slot);
         self.reading = self.beside.compare(pool, call, said);
         self.tallies[camera] = made.tally;
         self.most = self.most.max(made.register.held);

@@ -53,8 +53,7 @@ impl Fault {
     }
 }
 
-// kept: keys and records stand first in two arrays, with their numbers beside them: (a) no heap, and index::insert_list takes two slices, which may
-// differ in length.
+// A list and its fault. kept: two arrays with their lengths beside them: (a) no heap, and index::insert_list takes two slices.
 #[derive(Drop)]
 pub struct List {
     keys: [u32; ROOM],
