@@ -9,49 +9,37 @@ use reference::{Colour, NIL, Tree};
 // the most pairs of nodes that two trees have
 const PAIRS: usize = MOST_NODES + 1;
 
-#[derive(Clone, Copy, PartialEq, Eq)]
+// the standings by their words
+#[derive(Clone, Copy)]
 enum Standing {
-    Free,
-    Linked,
-    Retired,
-    Apart,
+    Free = 0,
+    Linked = 1,
+    Retired = 2,
+    Apart = 3,
 }
 
-impl Standing {
-    fn of_word(word: u32) -> Option<Standing> {
-        match word {
-            0 => Some(Standing::Free),
-            1 => Some(Standing::Linked),
-            2 => Some(Standing::Retired),
-            3 => Some(Standing::Apart),
-            _ => None,
-        }
+fn colour_word(c: Colour) -> u32 {
+    match c {
+        Colour::Black => 0,
+        Colour::Red => 1,
     }
 }
 
-fn colour_of_word(word: u32) -> Option<Colour> {
-    match word {
-        0 => Some(Colour::Black),
-        1 => Some(Colour::Red),
-        _ => None,
-    }
-}
-
-// a node of a pool; a colour or a standing that there is not is none
+// A node of a pool. Its colour and its standing are words: a damaged pool may have any number there.
 #[derive(Clone, Copy)]
 struct Node {
     key: u32,
     record: u64,
     left: u32,
     right: u32,
-    colour: Option<Colour>,
-    standing: Option<Standing>,
+    colour: u32,
+    standing: u32,
     holders: u32,
     next: u32,
 }
 
-impl From<[u32; NODE_WORDS]> for Node {
-    fn from(words: [u32; NODE_WORDS]) -> Node {
+impl From<&[u32; NODE_WORDS]> for Node {
+    fn from(words: &[u32; NODE_WORDS]) -> Node {
         let [
             key,
             record_low,
@@ -62,17 +50,53 @@ impl From<[u32; NODE_WORDS]> for Node {
             standing,
             holders,
             next,
-        ] = words;
+        ] = *words;
         Node {
             key,
             record: u64::from(record_low) + u64::from(record_high) * WORD_LIMIT,
             left,
             right,
-            colour: colour_of_word(colour),
-            standing: Standing::of_word(standing),
+            colour,
+            standing,
             holders,
             next,
         }
+    }
+}
+
+impl Node {
+    // a node by its number; its words are 0 past the pool's last whole node, and of no node
+    fn at(pool: &[u32], n: u32) -> Node {
+        let place = (n as usize).checked_sub(1);
+        let words = place.and_then(|place| pool.as_chunks().0.get(place));
+        Node::from(words.unwrap_or(&[0; NODE_WORDS]))
+    }
+
+    // a retired node has holders, all of them among the reading slots; any other node has none
+    fn holders_right(&self, reading: u32) -> bool {
+        if self.standing == Standing::Retired as u32 {
+            self.holders != 0 && self.holders & reading == self.holders
+        } else {
+            self.holders == 0
+        }
+    }
+
+    // a node of each tree: the same key, record and colour, and children on the same sides
+    fn same_as(&self, tree: &Tree, n: u32) -> bool {
+        self.key == tree.key(n)
+            && self.record == tree.record(n)
+            && self.colour == colour_word(tree.colour(n))
+            && (self.left == NIL) == (tree.left(n) == NIL)
+            && (self.right == NIL) == (tree.right(n) == NIL)
+    }
+
+    // a node just taken and made apart, with this key and record
+    fn is_taken(&self, k: u32, v: u64) -> bool {
+        self.key == k
+            && self.record == v
+            && self.standing == Standing::Apart as u32
+            && self.holders == 0
+            && self.next == NIL
     }
 }
 
@@ -95,8 +119,10 @@ pub fn nodes(pool: &[u32]) -> u32 {
 
 // how many nodes have this standing
 fn count_standing(pool: &[u32], standing: Standing) -> u32 {
-    let with = |words: &&[u32; NODE_WORDS]| Node::from(**words).standing == Some(standing);
-    all_words(pool).iter().filter(with).count() as u32
+    all_words(pool)
+        .iter()
+        .filter(|words| Node::from(*words).standing == standing as u32)
+        .count() as u32
 }
 
 // Answers how many nodes stand free.
@@ -114,50 +140,15 @@ pub fn apart_nodes(pool: &[u32]) -> u32 {
     count_standing(pool, Standing::Apart)
 }
 
-impl Node {
-    // a node by its number; its words are 0 past the pool's last whole node, and of no node
-    fn at(pool: &[u32], n: u32) -> Node {
-        let place = (n as usize).checked_sub(1);
-        let words = place.and_then(|place| pool.as_chunks().0.get(place));
-        Node::from(words.copied().unwrap_or([0; NODE_WORDS]))
-    }
-
-    // a retired node has holders, all of them among the reading slots; any other node has none
-    fn holders_right(&self, reading: u32) -> bool {
-        if self.standing == Some(Standing::Retired) {
-            self.holders != 0 && self.holders & reading == self.holders
-        } else {
-            self.holders == 0
-        }
-    }
-
-    // a node of each tree: the same key, record and colour, and children on the same sides
-    fn same_as(&self, tree: &Tree, n: u32) -> bool {
-        self.key == tree.key(n)
-            && self.record == tree.record(n)
-            && self.colour == Some(tree.colour(n))
-            && (self.left == NIL) == (tree.left(n) == NIL)
-            && (self.right == NIL) == (tree.right(n) == NIL)
-    }
-
-    // a node just taken and made apart, with this key and record
-    fn is_taken(&self, k: u32, v: u64) -> bool {
-        self.key == k
-            && self.record == v
-            && self.standing == Some(Standing::Apart)
-            && self.holders == 0
-            && self.next == NIL
-    }
-}
-
 // Answers whether just the retired nodes have holders, and only slots of these, a bit each.
 pub fn all_holders_right(pool: &[u32], reading: u32) -> bool {
     all_words(pool)
         .iter()
-        .all(|words| Node::from(*words).holders_right(reading))
+        .all(|words| Node::from(words).holders_right(reading))
 }
 
 // Pairs of nodes, of the pool and of the tree, in the order in which they are compared.
+// kept: a fixed array with a count: (a) no heap.
 #[derive(Drop)]
 struct Pairs {
     pairs: [(u32, u32); PAIRS],
