@@ -4,7 +4,7 @@
 pub const ROWS: usize = 224;
 
 // Set up, and then the other calls by the numbers of their kinds; refusals by their numbers; finished deletes by their form, finished and
-// accepted writes by their kind in the model, modulo 4 (lists: 0).
+// accepted writes by their places (model: Write).
 pub const CALLS: usize = 0;
 
 pub const REFUSALS: usize = 192;
