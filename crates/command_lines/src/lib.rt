@@ -67,6 +67,7 @@ struct Passed {
 }
 
 // a field's bytes, up to a tab, a newline or the input's end
+#[tactic(auto, using(crate::proofs::Cuts::onward))]
 fn field_on(input: &[u8], from: usize, f: Field) -> Passed
     requires { from ≤ length input.now }
     ensures onward { Onward input.now f from result.field result.next }
@@ -110,13 +111,12 @@ fn ill_on(input: &[u8], from: usize) -> Scanned
     }
 }
 
+#[tactic(auto, using(crate::proofs::Cuts::cuts))]
 fn two_on(input: &[u8], from: usize, l: u8, f: Field, g: Field) -> Scanned
     requires { from ≤ length input.now }
     ensures { result ≡ cut_from input.now from (Two l f g) }
 {
-    let passed = field_on(input, from, g);
-    let field = passed.field;
-    let i = passed.next;
+    let Passed { field, next: i } = field_on(input, from, g);
     if i == input.len() {
         let piece = Piece::Part(Reading::Two(l, f, field));
         return Scanned { piece, next: i };
@@ -128,13 +128,12 @@ fn two_on(input: &[u8], from: usize, l: u8, f: Field, g: Field) -> Scanned
     ill_on(input, i + 1)
 }
 
+#[tactic(auto, using(crate::proofs::Cuts::cuts))]
 fn one_on(input: &[u8], from: usize, l: u8, f: Field) -> Scanned
     requires { from ≤ length input.now }
     ensures { result ≡ cut_from input.now from (One l f) }
 {
-    let passed = field_on(input, from, f);
-    let field = passed.field;
-    let i = passed.next;
+    let Passed { field, next: i } = field_on(input, from, f);
     if i == input.len() {
         let piece = Piece::Part(Reading::One(l, field));
         return Scanned { piece, next: i };
@@ -146,6 +145,7 @@ fn one_on(input: &[u8], from: usize, l: u8, f: Field) -> Scanned
     two_on(input, i + 1, l, field, Field::Empty)
 }
 
+#[tactic(auto, using(crate::proofs::Cuts::cuts))]
 fn letter_on(input: &[u8], from: usize, l: u8) -> Scanned
     requires { from ≤ length input.now }
     ensures { result ≡ cut_from input.now from (Letter l) }
@@ -168,6 +168,7 @@ fn letter_on(input: &[u8], from: usize, l: u8) -> Scanned
     ill_on(input, from + 1)
 }
 
+#[tactic(auto, using(crate::proofs::Cuts::cuts))]
 fn fresh_on(input: &[u8], from: usize) -> Scanned
     requires { from ≤ length input.now }
     ensures { result ≡ cut_from input.now from Fresh }
