@@ -1,110 +1,153 @@
-// Insert and delete after the tests of the search: the last tests, and the plan as the write in hand.
+// Insert, delete and insert a list, on a register that is lent: their tests, and what they plan as the write in hand. Refused, pool and register are
+// as they were.
 #![tactic(auto)]
 
-ghost use Rattle.std.specs.Prelude.{◌≡◌, false, ℕ, ◌<◌};
+ghost use Rattle.std.specs.Prelude.{◌≡◌, cond, ltb, List, ℕ};
 ghost use Rattle.datatypes.specs.declared.Place.TheVariants.{Held, Empty};
-ghost use Rattle.spec.specs.Register.{state, with_write};
+ghost use Rattle.datatypes.specs.Refusals.{found_number};
+ghost use Rattle.spec.specs.Register.{state};
 ghost use Rattle.laws.specs.Tests.{lent_number};
 ghost use Rattle.laws.specs.Lists.{list_number};
-ghost use Rattle.spec.specs.Calls.{ok, refused, accepts, place_of, write_in_hand, insert, delete, insert_list};
+ghost use Rattle.spec.specs.Calls.{outcome, accepts, place_of, insert, delete, insert_list};
+ghost use Rattle.accepts.specs.Taken.{idle_number, taken, ReplacesAt};
 
-use datatypes::{Link, Register, Reply, Write};
+use datatypes::{Acceptance, Link, Place, Refusal, Register, Write};
+use refusals::Tested;
 
-// Answers accepted, with the planned stores as the write in hand.
-fn accepted(reg: Register, write: Write) -> Reply
-    ensures { (accepts result.answer ≡ ok) × (result.register ≡ with_write reg write) }
+// Makes the tests that the three calls begin with: of what is lent, and of a write in hand.
+fn idle_refusal(pool: &[u32], reg: &Register) -> Result<(), Refusal>
+    ensures { found_number result ≡ idle_number (state pool.now reg.now) }
 {
-    replies::accepted(register::with_write(reg, write))
+    refusals::lent_refusal(pool, reg, Tested::All)?;
+    if reg.write.count != 0 {
+        return Err(Refusal::WriteInHand);
+    }
+    Ok(())
+}
+
+// Tests whether so many nodes are free.
+fn enough_free(free: u32, asked: u32) -> Result<(), Refusal>
+    ensures { found_number result ≡ cond (ltb free asked) 11 0 }
+{
+    if free < asked {
+        return Err(Refusal::TooFewFree);
+    }
+    Ok(())
 }
 
 // Tests and plans an insert at the empty link l, after the tests of the search.
-pub fn insert_at(pool: &[u32], reg: Register, k: u32, v: u64, l: Link) -> Reply
-    requires { (lent_number (state pool.now reg) ≡ 0) × (write_in_hand (state pool.now reg) ≡ false) × (place_of (state pool.now reg) k ≡ Empty l) }
-    ensures answer_value { accepts result.answer ≡ (insert (state pool.now reg) k v).answer }
-    ensures register_value { state pool.now result.register ≡ (insert (state pool.now reg) k v).after }
+fn insert_at(pool: &[u32], reg: &Register, k: u32, v: u64, l: Link) -> Result<Write, Refusal>
+    requires { (idle_number (state pool.now reg.now) ≡ 0) × (place_of (state pool.now reg.now) k ≡ Empty l) }
+    ensures { insert (state pool.now reg.now) k v ≡ taken (state pool.now reg.now) result }
 {
     let capacity = pool::nodes(pool);
     if capacity as u64 <= reg.held as u64 + numbers::RESERVE {
-        return replies::refused(numbers::INDEX_FULL, reg);
+        return Err(Refusal::IndexFull);
     }
-    if reg.free < numbers::FREE_FOR_INSERT {
-        return replies::refused(numbers::TOO_FEW_FREE, reg);
-    }
-    let plan = plans::insert_plan(pool, reg, k, v, l);
-    if !plan.possible {
-        return replies::refused(numbers::NODE_MISSING, reg);
-    }
-    let write = plan.write;
-    accepted(reg, write)
+    enough_free(reg.free, numbers::FREE_FOR_INSERT)?;
+    plans::insert_plan(pool, reg.root, k, v, l).ok_or(Refusal::NodeMissing)
 }
 
 // Tests and plans an insert of a held key, whose node the link l holds, after the tests of the search (document 02, C-13). Keys held doesn't change,
 // so 10 isn't tested.
-pub fn replace_at(pool: &[u32], reg: Register, k: u32, v: u64, l: Link) -> Reply
-    requires { (lent_number (state pool.now reg) ≡ 0) × (write_in_hand (state pool.now reg) ≡ false) × ((n : ℕ) × (place_of (state pool.now reg) k ≡ Held l n)) }
-    ensures answer_value { accepts result.answer ≡ (insert (state pool.now reg) k v).answer }
-    ensures register_value { state pool.now result.register ≡ (insert (state pool.now reg) k v).after }
+fn replace_at(free: u32, v: u64, l: Link) -> Result<Write, Refusal>
+    ensures { ReplacesAt free v l result }
 {
-    let free = reg.free;
-    if free < numbers::FREE_FOR_INSERT {
-        return replies::refused(numbers::TOO_FEW_FREE, reg);
+    enough_free(free, numbers::FREE_FOR_INSERT)?;
+    Ok(plans::replace_plan(v, l))
+}
+
+// Tests and plans an insert of the key k with its record v.
+fn insert_write(pool: &[u32], reg: &Register, k: u32, v: u64) -> Result<Write, Refusal>
+    ensures { insert (state pool.now reg.now) k v ≡ taken (state pool.now reg.now) result }
+{
+    idle_refusal(pool, reg)?;
+    match search::seek(pool, k, Link::Root, reg.root, numbers::PATH_BOUND) {
+        Place::Held(l, _) => replace_at(reg.free, v, l),
+        Place::Empty(l) => insert_at(pool, reg, k, v, l),
+        Place::TooDeep => Err(Refusal::NodeMissing),
     }
-    let plan = plans::replace_plan(v, l);
-    let write = plan.write;
-    accepted(reg, write)
 }
 
 // Tests and plans a delete of node n, which the link l holds, after the tests of the search.
-pub fn delete_at(pool: &[u32], reg: Register, k: u32, l: Link, n: u32) -> Reply
-    requires { (lent_number (state pool.now reg) ≡ 0) × (write_in_hand (state pool.now reg) ≡ false) × (place_of (state pool.now reg) k ≡ Held l n) }
-    ensures answer_value { accepts result.answer ≡ (delete (state pool.now reg) k).answer }
-    ensures register_value { state pool.now result.register ≡ (delete (state pool.now reg) k).after }
+fn delete_at(pool: &[u32], reg: &Register, k: u32, l: Link, n: u32) -> Result<Write, Refusal>
+    requires { (idle_number (state pool.now reg.now) ≡ 0) × (place_of (state pool.now reg.now) k ≡ Held l n) }
+    ensures { delete (state pool.now reg.now) k ≡ taken (state pool.now reg.now) result }
 {
-    if reg.free < numbers::FREE_FOR_DELETE {
-        return replies::refused(numbers::TOO_FEW_FREE, reg);
+    enough_free(reg.free, numbers::FREE_FOR_DELETE)?;
+    plans::delete_plan(pool, reg.root, l, n).ok_or(Refusal::NodeMissing)
+}
+
+// Tests and plans a delete of the key k.
+fn delete_write(pool: &[u32], reg: &Register, k: u32) -> Result<Write, Refusal>
+    ensures { delete (state pool.now reg.now) k ≡ taken (state pool.now reg.now) result }
+{
+    idle_refusal(pool, reg)?;
+    match search::seek(pool, k, Link::Root, reg.root, numbers::PATH_BOUND) {
+        Place::Held(l, n) => delete_at(pool, reg, k, l, n),
+        Place::Empty(_) => Err(Refusal::KeyNotHeld),
+        Place::TooDeep => Err(Refusal::NodeMissing),
     }
-    let plan = plans::delete_plan(pool, reg, l, n);
-    if !plan.possible {
-        return replies::refused(numbers::NODE_MISSING, reg);
-    }
-    let write = plan.write;
-    accepted(reg, write)
+}
+
+// Takes a planned write in hand, or refuses.
+fn take_in_hand(reg: &mut Register, planned: Result<Write, Refusal>) -> Acceptance
+    ensures { (p : List ℕ) → outcome (accepts result) (state p reg.new) ≡ taken (state p reg.old) planned }
+{
+    reg.write = planned?;
+    Ok(())
+}
+
+// Inserts the key k with its record v: an accepted one is the write in hand.
+pub fn insert(pool: &[u32], reg: &mut Register, k: u32, v: u64) -> Acceptance
+    ensures { outcome (accepts result) (state pool.now reg.new) ≡ insert (state pool.now reg.old) k v }
+{
+    let planned = insert_write(pool, reg, k, v);
+    take_in_hand(reg, planned)
+}
+
+// Deletes the key k: an accepted one is the write in hand.
+pub fn delete(pool: &[u32], reg: &mut Register, k: u32) -> Acceptance
+    ensures { outcome (accepts result) (state pool.now reg.new) ≡ delete (state pool.now reg.old) k }
+{
+    let planned = delete_write(pool, reg, k);
+    take_in_hand(reg, planned)
 }
 
 // Tests a list (document 02, C-24), after the tests of what is lent and of a write in hand: 18 the list is empty, its keys don't rise or its records
 // are not as many; 19 the index is not empty; 10 more keys than N − 4; 11 fewer free nodes than keys; 12 a node taken from an empty queue.
-pub fn list_refusal(pool: &[u32], reg: Register, keys: &[u32], records: &[u64]) -> u32
-    requires { lent_number (state pool.now reg) ≡ 0 }
-    ensures { result ≡ list_number (state pool.now reg) keys.now records.now }
+fn list_refusal(pool: &[u32], reg: &Register, keys: &[u32], records: &[u64]) -> Result<(), Refusal>
+    requires { lent_number (state pool.now reg.now) ≡ 0 }
+    ensures { found_number result ≡ list_number (state pool.now reg.now) keys.now records.now }
 {
-    if bulk::list_right(keys, records) {} else {
-        return numbers::LIST_WRONG;
+    if !bulk::list_right(keys, records) {
+        return Err(Refusal::ListWrong);
     }
     if reg.root != 0 {
-        return numbers::INDEX_NOT_EMPTY;
+        return Err(Refusal::IndexNotEmpty);
     }
     let m = keys.len();
     let room = pool::nodes(pool) - numbers::RESERVE as u32;
     if (room as usize) < m {
-        return numbers::INDEX_FULL;
+        return Err(Refusal::IndexFull);
     }
     if (reg.free as usize) < m {
-        return numbers::TOO_FEW_FREE;
+        return Err(Refusal::TooFewFree);
     }
     if takings::runs_out(pool, reg.first, m) {
-        return numbers::NODE_MISSING;
+        return Err(Refusal::NodeMissing);
     }
-    0
+    Ok(())
 }
 
-// Takes an accepted list in hand: its tree is made apart, and one store is to come.
-pub fn list_in(pool: &mut [u32], reg: Register, keys: &[u32], records: &[u64]) -> Reply
-    requires { (lent_number (state pool.old reg) ≡ 0) × (write_in_hand (state pool.old reg) ≡ false) × (list_number (state pool.old reg) keys.now records.now ≡ 0) }
-    ensures answer_value { accepts result.answer ≡ (insert_list (state pool.old reg) keys.now records.now).answer }
-    ensures register_after { state pool.new result.register ≡ (insert_list (state pool.old reg) keys.now records.now).after }
+// Inserts a list: of an accepted one the tree is made apart, and one store is to come.
+pub fn insert_list(pool: &mut [u32], reg: &mut Register, keys: &[u32], records: &[u64]) -> Acceptance
+    ensures { outcome (accepts result) (state pool.new reg.new) ≡ insert_list (state pool.old reg.old) keys.now records.now }
 {
-    let grown = bulk::grow(pool, heads::head_of(reg), keys, records);
-    let head = grown.head;
-    let write = bulk::list_write(keys.len() as u32, grown.top);
-    accepted(heads::with_head(reg, head), write)
+    idle_refusal(pool, reg)?;
+    list_refusal(pool, reg, keys, records)?;
+    let grown = bulk::grow(pool, heads::head_of(*reg), keys, records);
+    heads::put_head(reg, grown.head);
+    reg.write = bulk::list_write(keys.len() as u32, grown.top);
+    Ok(())
 }

@@ -1,6 +1,11 @@
 // The types of the ticket index: links, the write in hand, the register, the answers of the calls, and a camera's tally.
 #![tactic(auto)]
 
+ghost use Rattle.std.specs.Prelude.{◌≡◌};
+ghost use Rattle.datatypes.specs.Refusals.{number_of};
+
+use std::fmt;
+
 // A side of a node. Left and right cases are one definition with the side as a parameter.
 #[derive(Clone, Copy)]
 pub enum Side {
@@ -162,21 +167,51 @@ pub struct Head {
     pub awaited: u32,
 }
 
-// What the step of a turn did: whether it found every node that it names, and then the link that it stored with its new node.
+// What the step of a turn stored: the link with its new node, and the head that it leaves.
 #[derive(Clone, Copy)]
-pub struct StepResult {
-    pub found: bool,
+pub struct Stored {
     pub link: Link,
     pub node: u32,
     pub head: Head,
 }
 
-// The answer of set up, insert, delete, begin and give up.
-#[derive(Clone, Copy)]
-pub enum Acceptance {
-    Accepted,
-    Refused(u32),
+// Why a call is turned down (document 01, 'When a call is turned down'; ListWrong and IndexNotEmpty: document 02, C-24), with the number that it
+// answers. 8 is given no more (C-13). NodeMissing: a path of over 64 nodes, a step that names a node where there is none, or a node taken from an
+// empty queue.
+#[derive(Clone, Copy, PartialEq, Eq)]
+pub enum Refusal {
+    WrongLength = 1,
+    OutOfRange = 2,
+    SlotTooHigh = 3,
+    SlotReading = 4,
+    SlotNotReading = 5,
+    WriteInHand = 6,
+    NoWriteInHand = 7,
+    KeyNotHeld = 9,
+    IndexFull = 10,
+    TooFewFree = 11,
+    NodeMissing = 12,
+    ListWrong = 18,
+    IndexNotEmpty = 19,
 }
+
+impl From<Refusal> for u32 {
+    ghost from_gives = { λ r n. n ≡ number_of r };
+
+    fn from(refusal: Refusal) -> u32 {
+        refusal as u32
+    }
+}
+
+// A refusal is written as its number.
+impl fmt::Display for Refusal {
+    fn fmt<W: fmt::Write>(&self, f: &mut fmt::Formatter<W>) -> fmt::Result {
+        write!(f, "{}", u32::from(*self))
+    }
+}
+
+// The answer of set up, insert, delete, begin and give up: accepted or refused.
+pub type Acceptance = Result<(), Refusal>;
 
 // The answer of a writer's turn; more and done have the link stored and its new node.
 #[derive(Clone, Copy)]
@@ -184,7 +219,7 @@ pub enum WriterAnswer {
     More(Link, u32),
     Done(Link, u32),
     Wait,
-    Refused(u32),
+    Refused(Refusal),
 }
 
 // The answer of a reader's turn; found has the record, next the key and record of the next ticket. Absent: the key of a lookup is not held,
@@ -195,20 +230,13 @@ pub enum ReaderAnswer {
     Found(u64),
     Next(u32, u64),
     Absent,
-    Refused(u32),
+    Refused(Refusal),
 }
 
-// What set up, insert, delete, begin and give up give back: the answer and the register.
+// What a call gives back: its answer, and the register to use from then on.
 #[derive(Drop)]
-pub struct Reply {
-    pub answer: Acceptance,
-    pub register: Register,
-}
-
-// What a writer's turn gives back.
-#[derive(Drop)]
-pub struct WriterReply {
-    pub answer: WriterAnswer,
+pub struct Reply<A> {
+    pub answer: A,
     pub register: Register,
 }
 

@@ -1,15 +1,14 @@
 -- The register's head, and what a function over a head does: it is told of every register with this head. The rest of the register
 -- (readers, the write in hand) is any register's.
-use Rattle.std.specs.Prelude.{◌≡◌, refl, List, true, false, not, eqb, ℕ}
-use Rattle.std.proofs.Common.{sym, ◌∙◌, eqb-true}
+use Rattle.std.specs.Prelude.{◌≡◌, refl, List, true, false, not, eqb, ℕ, Option, Some, None}
+use Rattle.std.proofs.Common.{eqb-true}
 use Rattle.std.proofs.lemmas.Bool.{false≢true, not-false}
 use Rattle.datatypes.specs.declared.Head.{Head}
 use Rattle.datatypes.specs.declared.Reader.{Reader}
 use Rattle.datatypes.specs.declared.Register.{Register}
 use Rattle.datatypes.specs.declared.Write.{Write}
-use Rattle.datatypes.specs.declared.StepResult.{StepResult}
+use Rattle.datatypes.specs.declared.Stored.{Stored}
 use Rattle.datatypes.specs.declared.Link.{Link}
-use Rattle.datatypes.specs.declared.Link.TheVariants.{Root}
 use Rattle.datatypes.specs.declared.Step.{Step}
 use Rattle.spec.specs.Register.{State, state, count_down, reading_slots}
 use Rattle.spec.specs.Turn.{Made, made, step_finds, step_made}
@@ -45,32 +44,21 @@ Follows f p h p' h' = (q : Register) → at p' h' q ≡ f (at p h q)
 abbrev pub FollowsReading : ℕ → (State → State) → List ℕ → Head → List ℕ → Head → Type 0
 FollowsReading m f p h p' h' = (q : Register) → reading_slots q ≡ m → at p' h' q ≡ f (at p h q)
 
--- What the answer of a tried step leaves, with the pool and the rest of the register.
-abbrev pub left : List ℕ → StepResult → Register → Made
+-- What a step stored leaves, with the pool and the rest of the register.
+abbrev pub left : List ℕ → Stored → Register → Made
 left p t q = made (at p t.head q) t.link t.node
 
--- The answer t, with the pool p and the rest q that it leaves, is that of the step x tried on st: made if it finds every node that it
--- names, and with the pool as it was otherwise.
-abbrev pub Tells : State → Link → Step → List ℕ → StepResult → Register → Type 0
-Tells st l x p t q = (t.found ≡ step_finds st l x) × (t.found ≡ true → left p t q ≡ step_made st l x) × (t.found ≡ false → p ≡ st.pool)
+-- The answer, with the pool p and the rest q that it leaves, is that of the step x tried on st: what it stored if it finds every node that it
+-- names, and none with the pool as it was otherwise.
+abbrev pub Tells : State → Link → Step → List ℕ → Option Stored → Register → Type 0
+Tells st l x p None q = (step_finds st l x ≡ false) × (p ≡ st.pool)
+Tells st l x p (Some t) q = (step_finds st l x ≡ true) × (left p t q ≡ step_made st l x)
 
-abbrev pub Tries : Link → Step → List ℕ → Head → List ℕ → StepResult → Type 0
+abbrev pub Tries : Link → Step → List ℕ → Head → List ℕ → Option Stored → Type 0
 Tries l x p h p' t = (q : Register) → Tells (at p h q) l x p' t q
 
-abbrev pub TriesReading : ℕ → Link → Step → List ℕ → Head → List ℕ → StepResult → Type 0
+abbrev pub TriesReading : ℕ → Link → Step → List ℕ → Head → List ℕ → Option Stored → Type 0
 TriesReading m l x p h p' t = (q : Register) → reading_slots q ≡ m → Tells (at p h q) l x p' t q
-
--- The answer of a step that misses a node, and of one that finds all.
-abbrev pub missed_by : Head → StepResult
-missed_by h = record { found = false; link = Root; node = 0; head = h }
-
-module _ (p : List ℕ) (h : Head) (l : Link) (x : Step) (q : Register) where
-  pub tells-missed : (t : StepResult) → step_finds (at p h q) l x ≡ false → t ≡ missed_by h → Tells (at p h q) l x p t q
-  tells-missed t e m = rw m (sym e, λ f. absurd (false≢true f), λ f. refl)
-
-  pub tells-made : (p' : List ℕ) (t : StepResult) → step_finds (at p h q) l x ≡ true → t.found ≡ true → left p' t q ≡ step_made (at p h q) l x
-      → Tells (at p h q) l x p' t q
-  tells-made p' t e f m = (f ∙ sym e, λ g. m, λ g. absurd (false≢true (sym g ∙ f)))
 
 -- whether some slot is awaited
 pub some-awaited : (a : ℕ) → not (eqb a 0) ≡ true → a ≡ 0 → ⊥

@@ -4,9 +4,9 @@
 
 ghost use Rattle.std.specs.Prelude.{◌≡◌, not, eqb};
 ghost use Rattle.spec.specs.Register.{set_link};
-ghost use Rattle.heads.specs.Head.{head_of, with_head, register_of, awaiting, Follows, missed_by};
+ghost use Rattle.heads.specs.Head.{head_of, with_head, register_of, awaiting, Follows};
 
-use datatypes::{Head, Link, Reader, Register, StepResult, Write};
+use datatypes::{Head, Link, Reader, Register, Write};
 
 // Takes the head out of a register.
 pub fn head_of(reg: Register) -> Head
@@ -36,6 +36,18 @@ pub fn with_head(reg: Register, h: Head) -> Register
     r
 }
 
+// The same in a register that is lent.
+pub fn put_head(reg: &mut Register, h: Head)
+    ensures { reg.new ≡ with_head reg.old h }
+{
+    reg.root = h.root;
+    reg.first = h.first;
+    reg.last = h.last;
+    reg.free = h.free;
+    reg.held = h.held;
+    reg.awaited = h.awaited;
+}
+
 // Makes a register of a head and the rest. The parts go by themselves: a register that is copied and then changed is copied once more.
 pub fn register_of(h: Head, readers: [Reader; numbers::SLOTS], write: Write) -> Register
     ensures { result ≡ register_of h readers write }
@@ -49,18 +61,6 @@ pub fn register_of(h: Head, readers: [Reader; numbers::SLOTS], write: Write) -> 
         readers,
         awaited: h.awaited,
         write,
-    }
-}
-
-// Makes the result of a step that names a node where there is none, or finds no free node: nothing is changed.
-pub fn missed(head: Head) -> StepResult
-    ensures { result ≡ missed_by head }
-{
-    StepResult {
-        found: false,
-        link: Link::Root,
-        node: 0,
-        head,
     }
 }
 

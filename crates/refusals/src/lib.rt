@@ -1,14 +1,14 @@
-// The tests that a call begins with: each answers the number of the first cause that holds, or 0.
+// The tests that a call begins with: each answers the refusal of the first cause that holds.
 #![tactic(auto)]
 
-ghost use Rattle.std.specs.Prelude.{◌≡◌, ◌<◌, ◌≤◌, length};
+ghost use Rattle.std.specs.Prelude.{◌≡◌, ◌<◌, length, IfOk};
+ghost use Rattle.datatypes.specs.Refusals.{found_number};
 ghost use Rattle.spec.specs.Numbers.{pool_limit, slots};
-ghost use Rattle.spec.specs.Pool.{nodes};
 ghost use Rattle.spec.specs.Register.{state};
-ghost use Rattle.spec.specs.Calls.{slot_too_high};
-ghost use Rattle.refusals.specs.Slots.{words_in_range, tested_number, slot_index, slot_number, turn_number};
+ghost use Rattle.spec.specs.Calls.{first_of, begin_tests, reader_tests, give_up_tests};
+ghost use Rattle.refusals.specs.Slots.{words_in_range, tested_number, PlaceOf};
 
-use datatypes::{Reader, Register};
+use datatypes::{Refusal, Register};
 
 // What test 2 looks at: every word of the pool and the register, or the register alone.
 #[derive(Clone, Copy)]
@@ -30,64 +30,72 @@ fn words_in_range(pool: &[u32], tested: Tested) -> bool
 
 // Makes tests 1 and 2 of what was lent. The two tests of ranges are joined by `&`: with an exit after the first the compiler makes a slower pass
 // through the pool.
-pub fn lent_refusal(pool: &[u32], reg: Register, tested: Tested) -> u32
-    ensures { result ≡ tested_number tested (state pool.now reg) }
+pub fn lent_refusal(pool: &[u32], reg: &Register, tested: Tested) -> Result<(), Refusal>
+    ensures { found_number result ≡ tested_number tested (state pool.now reg.now) }
 {
     if !pool::length_right(pool) {
-        return numbers::WRONG_LENGTH;
+        return Err(Refusal::WrongLength);
     }
     let capacity = pool::nodes(pool);
-    if !(words_in_range(pool, tested) & register::register_in_range(reg, capacity)) {
-        return numbers::OUT_OF_RANGE;
+    if !(words_in_range(pool, tested) & register::register_in_range(*reg, capacity)) {
+        return Err(Refusal::OutOfRange);
     }
-    0
+    Ok(())
 }
 
-// Answers where slot s's record stands; of a slot too high, the first.
-pub fn slot_index(s: u32) -> usize
-    ensures { (result ≡ slot_index s) × (result < slots) }
+// Answers where slot s's record stands.
+fn slot_place(s: u32) -> Result<usize, Refusal>
+    ensures { PlaceOf s result }
 {
     if s < numbers::SLOT_LIMIT {
-        s as usize
+        Ok(s as usize)
     } else {
-        0
+        Err(Refusal::SlotTooHigh)
     }
 }
 
-// Tests whether there is no slot s.
-fn slot_too_high(s: u32) -> bool
-    ensures { result ≡ slot_too_high s }
+// Makes the tests of a begin in slot s, and answers where its record stands.
+pub fn begin_refusal(pool: &[u32], reg: &Register, s: u32) -> Result<usize, Refusal>
+    ensures tests { found_number result ≡ first_of (begin_tests (state pool.now reg.now) s) }
+    ensures place { IfOk result (λ i. i ≡ s) }
+    ensures slot { IfOk result (λ i. i < slots) }
 {
-    numbers::SLOT_LIMIT <= s
+    lent_refusal(pool, reg, Tested::All)?;
+    let i = slot_place(s)?;
+    if reg.readers[i].reading {
+        return Err(Refusal::SlotReading);
+    }
+    Ok(i)
 }
 
-// Makes the tests of a call that names slot s, from the number of tests 1 and 2 and the call's own cause with its number.
-pub fn slot_refusal(lent: u32, s: u32, cause: bool, number: u32) -> u32
-    ensures { result ≡ slot_number lent s cause number }
+// Makes the tests of a give up of slot s, and answers where its record stands.
+pub fn give_up_refusal(pool: &[u32], reg: &Register, s: u32) -> Result<usize, Refusal>
+    ensures tests { found_number result ≡ first_of (give_up_tests (state pool.now reg.now) s) }
+    ensures place { IfOk result (λ i. i ≡ s) }
+    ensures slot { IfOk result (λ i. i < slots) }
 {
-    if lent != 0 {
-        return lent;
+    lent_refusal(pool, reg, Tested::All)?;
+    let i = slot_place(s)?;
+    if !reg.readers[i].reading {
+        return Err(Refusal::SlotNotReading);
     }
-    if slot_too_high(s) {
-        return numbers::SLOT_TOO_HIGH;
-    }
-    counts::choose(cause, number, 0)
+    Ok(i)
 }
 
-// Makes the tests of a reader's turn of slot s, from the number of tests 1 and 2 of length and register and the slot's record x: the node that
-// it names is tested too.
-pub fn turn_refusal(pool: &[u32], lent: u32, s: u32, x: Reader) -> u32
-    requires { lent ≡ 0 → (length pool.now < pool_limit) × (x.node ≤ nodes pool.now) }
-    ensures { result ≡ turn_number pool.now lent s x }
+// Makes the tests of a reader's turn of slot s, and answers where its record stands: of the pool the node that the record names is tested alone.
+pub fn turn_refusal(pool: &[u32], reg: &Register, s: u32) -> Result<usize, Refusal>
+    ensures tests { found_number result ≡ first_of (reader_tests (state pool.now reg.now) s) }
+    ensures place { IfOk result (λ i. i ≡ s) }
+    ensures slot { IfOk result (λ i. i < slots) }
 {
-    if lent != 0 {
-        return lent;
-    }
-    if slot_too_high(s) {
-        return numbers::SLOT_TOO_HIGH;
-    }
+    lent_refusal(pool, reg, Tested::Register)?;
+    let i = slot_place(s)?;
+    let x = reg.readers[i];
     if pool::out_of_range(pool, x.node) {
-        return numbers::OUT_OF_RANGE;
+        return Err(Refusal::OutOfRange);
     }
-    counts::choose(!x.reading, numbers::SLOT_NOT_READING, 0)
+    if !x.reading {
+        return Err(Refusal::SlotNotReading);
+    }
+    Ok(i)
 }

@@ -1,7 +1,7 @@
 -- 01, 'Calls' and 'When a call is turned down': each call as its tests in order, with the number of each cause, and then what it does. 02, C-11:
 -- a slot may search for the next ticket. C-12: a reader's turn tests the register and one node. C-13: insert of a held key replaces its record, and
 -- no cause has the number 8. C-17: a reader's turn counts the nodes compared. C-24: a list of keys with their records on an empty index.
-use Rattle.std.specs.Prelude.{ℕ, ◌-◌, Bool, true, false, cond, not, ◌&&◌, List, [], ◌∷◌, eqb, leb, ltb, length}
+use Rattle.std.specs.Prelude.{ℕ, ◌-◌, Bool, true, false, cond, not, ◌&&◌, List, [], ◌∷◌, eqb, leb, ltb, length, Result, Ok, Err}
 use Rattle.datatypes.specs.declared.Link.{Link}
 use Rattle.datatypes.specs.declared.Link.TheVariants.{Root}
 use Rattle.datatypes.specs.declared.Place.{Place}
@@ -9,8 +9,8 @@ use Rattle.datatypes.specs.declared.Place.TheVariants.{Held, Empty, TooDeep}
 use Rattle.datatypes.specs.declared.Kind.{Kind}
 use Rattle.datatypes.specs.declared.Kind.TheVariants as kind
 use Rattle.datatypes.specs.declared.Reader.{Reader}
-use Rattle.datatypes.specs.declared.Acceptance.{Acceptance}
-use Rattle.datatypes.specs.declared.Acceptance.TheVariants as acceptance
+use Rattle.datatypes.specs.declared.Refusal.{Refusal}
+use Rattle.datatypes.specs.Refusals.{number_of}
 use Rattle.datatypes.specs.declared.WriterAnswer.{WriterAnswer}
 use Rattle.datatypes.specs.declared.WriterAnswer.TheVariants as writer
 use Rattle.datatypes.specs.declared.ReaderAnswer.{ReaderAnswer}
@@ -36,22 +36,22 @@ pub data Answer : Type 0 where
   refused : (number : ℕ) → Answer
 
 -- 01's number and values for each case of an answer enum
-abbrev pub accepts : Acceptance → Answer
-accepts acceptance.Accepted = ok
-accepts (acceptance.Refused n) = refused n
+abbrev pub accepts : Result (Unit {0}) Refusal → Answer
+accepts (Ok u) = ok
+accepts (Err e) = refused (number_of e)
 
 abbrev pub writer_says : WriterAnswer → Answer
 writer_says (writer.More l n) = more l n
 writer_says (writer.Done l n) = done l n
 writer_says writer.Wait = wait
-writer_says (writer.Refused n) = refused n
+writer_says (writer.Refused e) = refused (number_of e)
 
 abbrev pub reader_says : ReaderAnswer → Answer
 reader_says reader.Go = go
 reader_says (reader.Found v) = found v
 reader_says (reader.Next k v) = next k v
 reader_says reader.Absent = absent
-reader_says (reader.Refused n) = refused n
+reader_says (reader.Refused e) = refused (number_of e)
 
 -- what a call answers, and the pool and register that it leaves
 pub record Outcome : Type 0 where

@@ -1,39 +1,45 @@
-use mathlib.Core.Path.{◌≡◌, sym, ap, ◌∙◌}
-use native.Mathlib.Omega.{arith}
-use mathlib.Core.Bool.{Bool}
-use Rattle.spec.specs.Register.{state, begun_reader, with_reader}
-use Rattle.laws.specs.Tests.{slot_of, unless-refused, unless-done}
-use Rattle.refusals.specs.Slots.{index_of, slot-tests}
-use Rattle.spec.specs.Calls.{Outcome, outcome, ok, first_of, begin, begin_tests, wrong_length, out_of_range, reading}
+use Rattle.std.proofs.Common.{rules, ◌≡◌, ◌∙◌, sym, ap}
+use Rattle.datatypes.specs.declared.Refusal.{Refusal}
+use Rattle.datatypes.specs.declared.Kind.{Kind}
+use Rattle.datatypes.specs.Refusals.{number_of, number_of-ne0, found_number}
+use Prim.Native.Nat.{ℕ}
+use Rattle.spec.specs.Register.{State, state, begun_reader, with_reader}
+use Rattle.laws.specs.Tests.{unless-refused, unless-done}
+use Rattle.spec.specs.Calls.{Outcome, outcome, ok, refused, first_of, begin, begin_tests}
 use Rattle.begins.proofs.begin.Goals as goal
 
-pub returns-then-why-ne0 : goal.returns-then-why-ne0
-unfolding begin
-returns-then-why-ne0 c =
-    let a = c.args in
-    let st = state a.pool.now a.reg in
-    let i = c.slot_index-i in
-    let w : c.slot_refusal-why.result ≡ first_of (begin_tests st a.s) =
-    c.slot_refusal-why.ensures ∙ rw c.lent_refusal-lent.ensures (slot-tests st a.s i.result (λ (b : Bool). b) 4 i.ensures.0) in
-    let e = unless-refused (begin_tests st a.s) st (outcome ok (state st.pool (with_reader st.register a.s (begun_reader a.kind a.k)))) c.slot_refusal-why.result (sym w)
-    c.if-why-ne0.true in
-    record {
-      answer_value = c.refused.ensures.0 ∙ sym (ap (λ (o : Outcome). o.answer) e);
-      register_value = rw c.refused.ensures.1 (sym (ap (λ (o : Outcome). o.after) e));
-    }
+abbrev begun : Kind → State → ℕ → ℕ → Outcome
+begun κ st s k = outcome ok (state st.pool (with_reader st.register s (begun_reader κ k)))
 
-pub returns : goal.returns
-unfolding begin with_reader
-returns c =
+begin-refused : (κ : Kind) (st : State) (s k : ℕ) (e : Refusal) → number_of e ≡ first_of (begin_tests st s) → begin κ st s k ≡ outcome (refused (number_of e)) st
+unfolding begin
+begin-refused κ st s k e h = unless-refused (begin_tests st s) st (begun κ st s k) _ (sym h) (number_of-ne0 e)
+
+begin-done : (κ : Kind) (st : State) (s k : ℕ) → 0 ≡ first_of (begin_tests st s) → begin κ st s k ≡ begun κ st s k
+unfolding begin
+begin-done κ st s k h = unless-done (begin_tests st s) st (begun κ st s k) (sym h)
+
+pub returns-in_err-i-clause-answer_value : goal.returns-in_err-i-clause-answer_value
+returns-in_err-i-clause-answer_value c =
     let a = c.args in
-    let st = state a.pool.now a.reg in
-    let i = c.slot_index-i in
-    let w : c.slot_refusal-why.result ≡ first_of (begin_tests st a.s) =
-    c.slot_refusal-why.ensures ∙ rw c.lent_refusal-lent.ensures (slot-tests st a.s i.result (λ (b : Bool). b) 4 i.ensures.0) in
-    let z = sym w ∙ c.if-why-ne0.false in
-    let j = index_of a.s i.result i.ensures.0 (slot_of a.s (wrong_length st) (out_of_range st) (reading st a.s) 4 (omega arith) z) in
-    let e = unless-done (begin_tests st a.s) st (outcome ok (state st.pool (with_reader st.register a.s (begun_reader a.kind a.k)))) z in
-    record {
-      answer_value = c.accepted.ensures.0 ∙ sym (ap (λ (o : Outcome). o.answer) e);
-      register_value = rw (c.accepted.ensures.1, c.begun_reader.ensures, j) (sym (ap (λ (o : Outcome). o.after) e));
-    }
+    let n = sym (ap found_number c.in_err-i.was) ∙ c.begin_refusal.ensures.tests in
+    rw (begin-refused a.kind (state a.pool.now a.reg.now) a.s a.k c.in_err-i.field-0.0 n) (search rules)
+
+pub returns-in_err-i-clause-register_value : goal.returns-in_err-i-clause-register_value
+returns-in_err-i-clause-register_value c =
+    let a = c.args in
+    let n = sym (ap found_number c.in_err-i.was) ∙ c.begin_refusal.ensures.tests in
+    rw (begin-refused a.kind (state a.pool.now a.reg.now) a.s a.k c.in_err-i.field-0.0 n)
+
+pub returns-clause-answer_value : goal.returns-clause-answer_value
+returns-clause-answer_value c =
+    let a = c.args in
+    let n = sym (ap found_number c.in_ok-i.was) ∙ c.begin_refusal.ensures.tests in
+    rw (begin-done a.kind (state a.pool.now a.reg.now) a.s a.k n)
+
+pub returns-clause-register_value : goal.returns-clause-register_value
+unfolding with_reader
+returns-clause-register_value c =
+    let a = c.args in
+    let n = sym (ap found_number c.in_ok-i.was) ∙ c.begin_refusal.ensures.tests in
+    rw (begin-done a.kind (state a.pool.now a.reg.now) a.s a.k n, c.begun_reader.ensures, c.in_ok-i.ensures.place)

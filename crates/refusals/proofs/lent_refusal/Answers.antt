@@ -20,7 +20,7 @@ pub returns-then-not-words_in_range-register_in_range : goal.returns-then-not-wo
 returns-then-not-words_in_range-register_in_range c =
     let a = c.args in
     let long : length_right a.pool.now ≡ true = sym c.length_right.ensures ∙ c.if-not-length_right.false in
-    let ranges : (words_in_range a.tested a.pool.now && register_in_range (nodes a.pool.now) a.reg) ≡ false =
+    let ranges : (words_in_range a.tested a.pool.now && register_in_range (nodes a.pool.now) a.reg.now) ≡ false =
     rw (← c.words_in_range.ensures, ← c.nodes-capacity.ensures, ← c.register_in_range.ensures) (c.if-not-words_in_range-register_in_range.true) in
     rw (long, ranges)
 
@@ -28,6 +28,6 @@ pub returns : goal.returns
 returns c =
     let a = c.args in
     let long : length_right a.pool.now ≡ true = sym c.length_right.ensures ∙ c.if-not-length_right.false in
-    let ranges : (words_in_range a.tested a.pool.now && register_in_range (nodes a.pool.now) a.reg) ≡ true =
+    let ranges : (words_in_range a.tested a.pool.now && register_in_range (nodes a.pool.now) a.reg.now) ≡ true =
     rw (← c.words_in_range.ensures, ← c.nodes-capacity.ensures, ← c.register_in_range.ensures) (c.if-not-words_in_range-register_in_range.false) in
     rw (long, ranges)
