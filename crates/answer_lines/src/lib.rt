@@ -85,7 +85,7 @@ pub fn letter_of(c: Command) -> u8
 // Each writer below puts its text into out from position at on and answers the next position, as those of texts do.
 
 // a node's link, its side as `.L` or `.R`
-#[tactic(auto, using(crate::proofs::Fields::fields))]
+#[tactic(auto, using(texts::proofs::Fields::fields))]
 fn side_field(out: &mut [u8], at: usize, n: u32, side: &[u8]) -> usize
     requires { at + 11 + length side.now ≤ length out.old }
     ensures put { Put out.old at ((decimal n ++ side.now) ++ (tab ∷ [])) out.new result }
@@ -95,7 +95,7 @@ fn side_field(out: &mut [u8], at: usize, n: u32, side: &[u8]) -> usize
     texts::text_field(out, next, side, texts::TAB)
 }
 
-#[tactic(auto, using(crate::proofs::Fields::fields), unfolding(crate::specs::Text::link_text))]
+#[tactic(auto, using(texts::proofs::Fields::fields), unfolding(crate::specs::Text::link_text))]
 fn link_field(out: &mut [u8], at: usize, l: Link) -> usize
     requires { at + 13 ≤ length out.old }
     ensures put { Put out.old at (link_text l ++ (tab ∷ [])) out.new result }
@@ -109,7 +109,7 @@ fn link_field(out: &mut [u8], at: usize, l: Link) -> usize
 }
 
 // An answer's fields: a word with two unused ones, with a number in the last, with two numbers, and with a link and its new node.
-#[tactic(auto, using(crate::proofs::Fields::fields))]
+#[tactic(auto, using(texts::proofs::Fields::fields))]
 fn plain(out: &mut [u8], at: usize, word: &[u8]) -> usize
     requires { at + length word.now + 5 ≤ length out.old }
     ensures { Put out.old at (line (word.now ∷ text "-" ∷ text "-" ∷ [])) out.new result }
@@ -119,7 +119,7 @@ fn plain(out: &mut [u8], at: usize, word: &[u8]) -> usize
     texts::text_field(out, last, b"-", texts::NEWLINE)
 }
 
-#[tactic(auto, using(crate::proofs::Fields::fields))]
+#[tactic(auto, using(texts::proofs::Fields::fields))]
 fn numbered(out: &mut [u8], at: usize, word: &[u8], n: u64) -> usize
     requires { at + length word.now + 24 ≤ length out.old }
     ensures { Put out.old at (line (word.now ∷ text "-" ∷ decimal n ∷ [])) out.new result }
@@ -129,7 +129,7 @@ fn numbered(out: &mut [u8], at: usize, word: &[u8], n: u64) -> usize
     texts::number_field(out, last, n, texts::NEWLINE)
 }
 
-#[tactic(auto, using(crate::proofs::Fields::fields))]
+#[tactic(auto, using(texts::proofs::Fields::fields))]
 fn ticket(out: &mut [u8], at: usize, word: &[u8], k: u32, v: u64) -> usize
     requires { at + length word.now + 33 ≤ length out.old }
     ensures { Put out.old at (line (word.now ∷ decimal k ∷ decimal v ∷ [])) out.new result }
@@ -139,7 +139,7 @@ fn ticket(out: &mut [u8], at: usize, word: &[u8], k: u32, v: u64) -> usize
     texts::number_field(out, last, v, texts::NEWLINE)
 }
 
-#[tactic(auto, using(crate::proofs::Fields::fields))]
+#[tactic(auto, using(texts::proofs::Fields::fields))]
 fn linked(out: &mut [u8], at: usize, word: &[u8], l: Link, n: u32) -> usize
     requires { at + length word.now + 25 ≤ length out.old }
     ensures { Put out.old at (line (word.now ∷ link_text l ∷ decimal n ∷ [])) out.new result }
@@ -168,7 +168,7 @@ fn put_said(out: &mut [u8], at: usize, a: Said) -> usize
 }
 
 // Writes the line of a call: its number, its letter and its answer. Each line of trace asks for room enough for any of them.
-#[tactic(auto, using(crate::proofs::Fields::fields))]
+#[tactic(auto, using(texts::proofs::Fields::fields))]
 pub fn write_line(out: &mut [u8], at: usize, number: u64, letter: u8, a: Said) -> usize
     requires { at + room ≤ length out.old }
     ensures { Put out.old at (line_of number letter (says a)) out.new result }
@@ -180,7 +180,7 @@ pub fn write_line(out: &mut [u8], at: usize, number: u64, letter: u8, a: Said) -
 }
 
 // Writes the line of an ill-formed command.
-#[tactic(auto, using(crate::proofs::Fields::fields), unfolding(crate::specs::Text::bad_line))]
+#[tactic(auto, using(texts::proofs::Fields::fields), unfolding(crate::specs::Text::bad_line))]
 pub fn write_bad(out: &mut [u8], at: usize, number: u64) -> usize
     requires { at + room ≤ length out.old }
     ensures { Put out.old at (bad_line number) out.new result }
