@@ -14,6 +14,7 @@ pub const NEWLINE: u8 = b'\n';
 const BLANK: u8 = b' ';
 
 // Each writer below puts its text into out from position at on and answers the next position (specs, Put); the caller sees to the room.
+// kept: a buffer with a position beside it, since README names put_page and put_sheet in this form.
 
 // Puts one byte.
 pub fn put_byte(out: &mut [u8], at: usize, b: u8) -> usize
