@@ -2,14 +2,14 @@
 // as they were.
 #![tactic(auto)]
 
-ghost use Rattle.std.specs.Prelude.{◌≡◌, cond, ltb, List, ℕ};
+ghost use Rattle.std.specs.Prelude.{◌≡◌, List, ℕ};
 ghost use Rattle.datatypes.specs.declared.Place.TheVariants.{Held, Empty};
 ghost use Rattle.datatypes.specs.Refusals.{found_number};
 ghost use Rattle.spec.specs.Register.{state};
 ghost use Rattle.laws.specs.Tests.{lent_number};
 ghost use Rattle.laws.specs.Lists.{list_number};
 ghost use Rattle.spec.specs.Calls.{outcome, accepts, place_of, insert, delete, insert_list};
-ghost use Rattle.accepts.specs.Taken.{idle_number, taken, ReplacesAt};
+ghost use Rattle.accepts.specs.Taken.{idle_number, taken, Enough, Replaces};
 
 use datatypes::{Acceptance, Link, Place, Refusal, Register, Write};
 use refusals::Tested;
@@ -27,7 +27,7 @@ fn idle_refusal(pool: &[u32], reg: &Register) -> Result<(), Refusal>
 
 // Tests whether so many nodes are free.
 fn enough_free(free: u32, asked: u32) -> Result<(), Refusal>
-    ensures { found_number result ≡ cond (ltb free asked) 11 0 }
+    ensures { Enough free asked result }
 {
     if free < asked {
         return Err(Refusal::TooFewFree);
@@ -51,7 +51,7 @@ fn insert_at(pool: &[u32], reg: &Register, k: u32, v: u64, l: Link) -> Result<Wr
 // Tests and plans an insert of a held key, whose node the link l holds, after the tests of the search (document 02, C-13). Keys held doesn't change,
 // so 10 isn't tested.
 fn replace_at(free: u32, v: u64, l: Link) -> Result<Write, Refusal>
-    ensures { ReplacesAt free v l result }
+    ensures { Replaces free v l result }
 {
     enough_free(free, numbers::FREE_FOR_INSERT)?;
     Ok(plans::replace_plan(v, l))
@@ -146,7 +146,7 @@ pub fn insert_list(pool: &mut [u32], reg: &mut Register, keys: &[u32], records: 
 {
     idle_refusal(pool, reg)?;
     list_refusal(pool, reg, keys, records)?;
-    let grown = bulk::grow(pool, heads::head_of(*reg), keys, records);
+    let grown = bulk::grow(pool, heads::head_of(reg), keys, records);
     heads::put_head(reg, grown.head);
     reg.write = bulk::list_write(keys.len() as u32, grown.top);
     Ok(())

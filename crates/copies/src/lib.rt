@@ -10,7 +10,7 @@ ghost use Rattle.spec.specs.FreeQueue.{Whole};
 ghost use Rattle.heads.specs.Head.{TriesReading};
 ghost use Rattle.copies.specs.Published.{Publishes};
 
-use datatypes::{Head, Link, Side, StepResult, Store, Write};
+use datatypes::{Head, Link, Side, Store, Stored, Write};
 
 // Insert of a held key, B's (document 02, C-13): takes B', a copy of B with the record v, and stores it in B's link from above. B is retired.
 // This is the write's list store; keys held doesn't change.
@@ -18,31 +18,28 @@ use datatypes::{Head, Link, Side, StepResult, Store, Write};
 //        B               B'           B retired: its children are l and r
 //       / \             / \
 //      l   r     =>    l   r
-pub fn replace(pool: &mut [u32], h: Head, reading: u32, l: Link, v: u64) -> StepResult
+#[tactic(auto, unfolding(spec::specs::Turn::step_finds, spec::specs::Turn::step_made, spec::specs::Turn::replace_store))]
+pub fn replace(pool: &mut [u32], h: Head, reading: u32, l: Link, v: u64) -> Option<Stored>
     requires { (length pool.old < pool_limit) × Whole pool.old }
     ensures { TriesReading reading l (Replace v) pool.old h pool.new result }
 {
     let b = pool::node_at(pool, h.root, l);
-    if b == 0 {
-        return heads::missed(h);
-    }
     let first = h.first;
-    if first == 0 {
-        return heads::missed(h);
+    if b == 0 || first == 0 {
+        return None;
     }
     let k = pool::word(pool, b, pool::KEY);
     let x = pool::child(pool, Side::L, b);
     let y = pool::child(pool, Side::R, b);
     let colour = pool::word(pool, b, pool::COLOUR);
-    let copied = queue::take_node(pool, h, k, v, Side::L, x, y, colour);
+    let copied = queue::take_as(pool, h, k, v, Side::L, x, y, colour, pool::LINKED);
     let linked = heads::set_link(pool, copied, l, first);
     let head = queue::retire(pool, linked, reading, b);
-    StepResult {
-        found: true,
+    Some(Stored {
         link: l,
         node: first,
         head,
-    }
+    })
 }
 
 // Answers the copy's right link for B's, any other link as it is.
@@ -50,8 +47,7 @@ fn moved_link(b: u32, n: u32, l: Link) -> Link
     ensures { result ≡ moved_link b n l }
 {
     match l {
-        Link::Root => l,
-        Link::Left(_) => l,
+        Link::Root | Link::Left(_) => l,
         Link::Right(m) => Link::Right(counts::choose(m == b, n, m)),
     }
 }
@@ -60,10 +56,10 @@ fn moved_link(b: u32, n: u32, l: Link) -> Link
 fn moved_store(b: u32, n: u32, x: Store) -> Store
     ensures { result ≡ moved_store b n x }
 {
-    let link = x.link;
-    let step = x.step;
-    let moved = moved_link(b, n, link);
-    Store { link: moved, step }
+    Store {
+        link: moved_link(b, n, x.link),
+        ..x
+    }
 }
 
 // Moves the stores to come that hang on node b's right to node n, the copy that takes b's place.
@@ -93,17 +89,15 @@ pub fn moved_write(b: u32, n: u32, w: Write) -> Write
 //      C                  C
 //       \                  \
 //        y                  y
-pub fn publish(pool: &mut [u32], h: Head, reading: u32, l: Link, c: u32) -> StepResult
+#[tactic(auto, unfolding(spec::specs::Turn::step_finds))]
+pub fn publish(pool: &mut [u32], h: Head, reading: u32, l: Link, c: u32) -> Option<Stored>
     requires { (length pool.old < pool_limit) × Whole pool.old }
     ensures { Publishes reading l c pool.old h pool.new result }
 {
     let b = pool::node_at(pool, h.root, l);
-    if b == 0 {
-        return heads::missed(h);
-    }
     let first = h.first;
-    if first == 0 {
-        return heads::missed(h);
+    if b == 0 || first == 0 {
+        return None;
     }
     let x = pool::child(pool, Side::L, b);
     let y = pool::child(pool, Side::R, b);
@@ -112,10 +106,9 @@ pub fn publish(pool: &mut [u32], h: Head, reading: u32, l: Link, c: u32) -> Step
     let linked = heads::set_link(pool, taken, l, first);
     let awaiting = heads::await_readers(linked, reading);
     let head = queue::retire(pool, awaiting, reading, b);
-    StepResult {
-        found: true,
+    Some(Stored {
         link: l,
         node: first,
         head,
-    }
+    })
 }

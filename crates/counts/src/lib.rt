@@ -22,5 +22,5 @@ pub fn count_up(most: u32, n: u32) -> u32
 pub fn count_down(n: u32) -> u32
     ensures { result ≡ count_down n }
 {
-    if n == 0 { 0 } else { n - 1 }
+    n.saturating_sub(1)
 }

@@ -7,14 +7,14 @@ ghost use Rattle.datatypes.specs.Refusals.{number_of};
 use std::fmt;
 
 // A side of a node. Left and right cases are one definition with the side as a parameter.
-#[derive(Clone, Copy)]
+#[derive(Clone, Copy, PartialEq, Eq)]
 pub enum Side {
     L,
     R,
 }
 
 // A link: the root, a node's left or a node's right.
-#[derive(Clone, Copy)]
+#[derive(Clone, Copy, PartialEq, Eq)]
 pub enum Link {
     Root,
     Left(u32),

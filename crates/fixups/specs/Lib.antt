@@ -1,2 +1,1 @@
-pub mod DeleteFixups
-pub mod InsertFixups
+pub mod Levels

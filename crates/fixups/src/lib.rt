@@ -1,80 +1,65 @@
 // The insert fix-up and the delete fix-up along a path, and the colours of the levels that they pass.
 #![tactic(auto)]
 
-ghost use Rattle.std.specs.Prelude.{◌≡◌, ◌<◌, ◌≤◌, ◌+◌, length};
+ghost use Rattle.std.specs.Prelude.{◌≡◌};
 ghost use Rattle.datatypes.specs.declared.Form.TheVariants.{Diag};
 ghost use Rattle.spec.specs.Pool.{paint, black_colour, red_colour};
-ghost use Rattle.spec.specs.Plan.{fixup_result, insert_fixup, paint_insert_fixup, red_child, black_sibling as black_sibling_of, red_sibling, delete_fixup, paint_delete_levels, missing};
+ghost use Rattle.spec.specs.Plan.{insert_fixup, paint_insert_fixup, red_child, black_sibling as black_sibling_of, red_sibling, delete_fixup, paint_delete_levels};
 ghost use Rattle.spec.specs.Turn.{nodes_found};
-ghost use Rattle.paths.specs.Upward.{most_links, upward};
 
 use datatypes::{Ending, Fixup, Form, Link, Purpose, Rotation, Side};
-
-// Makes a fix-up that passed so many levels and ended so.
-pub fn fixup_result(levels: u32, ending: Ending) -> Fixup
-    ensures { result ≡ fixup_result levels ending }
-{
-    Fixup { levels, ending }
-}
-
-// Tests whether a fix-up ended at a node that is not there.
-pub fn missing(e: Ending) -> bool
-    ensures { result ≡ missing e }
-{
-    match e {
-        Ending::Balanced => false,
-        Ending::Blacken => false,
-        Ending::Rotate(_) => false,
-        Ending::RotateTwice(_, _) => false,
-        Ending::Missing => true,
-    }
-}
+use paths::Path;
 
 // Tests whether a fix-up found every node that it names.
 pub fn nodes_found(fix: Fixup) -> bool
     ensures { result ≡ nodes_found fix }
 {
-    let ending = fix.ending;
-    let gone = missing(ending);
-    !gone
+    !matches!(fix.ending, Ending::Missing)
 }
 
-// Goes up from a path's link at that depth, with so many levels passed, and finds where the insert fix-up ends.
-pub fn insert_fixup(pool: &[u32], path: &[u64], depth: u32, levels: u32) -> Fixup
-    requires { (depth ≤ length path.now) × (levels + depth ≤ most_links) }
-    ensures { result ≡ insert_fixup pool.now levels (upward path.now depth) }
+// Goes up a path and finds where the insert fix-up ends.
+#[tactic(auto, unfolding(spec::specs::Plan::insert_fixup))]
+pub fn insert_fixup(pool: &[u32], path: &Path) -> Fixup
+    ensures { result ≡ insert_fixup pool.now 0 path.now }
 {
-    let mut d = depth;
-    let mut e = levels;
-    while d > 1 {
-        let x = paths::link_in(path, d - 1);
-        if !pool::is_red(pool, links::owner(x)) {
-            return fixup_result(e, Ending::Balanced);
+    let mut levels = 0;
+    let mut rest = path.links();
+    while let [x, y, up @ ..] = rest {
+        if !pool::is_red(pool, links::owner(*x)) {
+            return Fixup {
+                levels,
+                ending: Ending::Balanced,
+            };
         }
-        if d == 2 {
-            return fixup_result(e, Ending::Missing);
-        }
-        let y = paths::link_in(path, d - 2);
-        let s = links::side_of(y);
-        let aunt = pool::child(pool, links::other(s), links::owner(y));
+        let [z, ..] = up else {
+            return Fixup {
+                levels,
+                ending: Ending::Missing,
+            };
+        };
+        let side = links::side_of(*y);
+        let aunt = pool::child(pool, links::other(side), links::owner(*y));
         if !pool::is_red(pool, aunt) {
-            let link = paths::link_in(path, d - 3);
-            let form = links::form_of(links::side_of(x), s);
             let rotation = Rotation {
-                link,
-                form,
-                side: s,
+                link: *z,
+                form: links::form_of(links::side_of(*x), side),
+                side,
                 purpose: Purpose::ForInsert,
             };
-            return fixup_result(e, Ending::Rotate(rotation));
+            return Fixup {
+                levels,
+                ending: Ending::Rotate(rotation),
+            };
         }
-        d -= 2;
-        e += 1;
+        rest = up;
+        levels += 1;
     }
-    if d == 0 {
-        return fixup_result(e, Ending::Missing);
-    }
-    fixup_result(e, Ending::Balanced)
+    let ending = if rest.is_empty() {
+        Ending::Missing
+    } else {
+        Ending::Balanced
+    };
+    Fixup { levels, ending }
 }
 
 // the colours of one level: parent and aunt black, grandparent red
@@ -86,23 +71,19 @@ fn paint_level(pool: &mut [u32], parent: u32, aunt: u32, grandparent: u32)
     pool::set_word(pool, grandparent, pool::COLOUR, pool::RED);
 }
 
-// Paints so many levels up from a path's link at that depth: parent and aunt black, grandparent red.
-pub fn paint_insert_fixup(pool: &mut [u32], path: &[u64], depth: u32, levels: u32)
-    requires { depth ≤ length path.now }
-    ensures { pool.new ≡ paint_insert_fixup levels (upward path.now depth) pool.old }
+// Paints so many levels up a path: parent and aunt black, grandparent red.
+#[tactic(auto, unfolding(spec::specs::Plan::paint_insert_fixup))]
+pub fn paint_insert_fixup(pool: &mut [u32], path: &Path, levels: u32)
+    ensures { pool.new ≡ paint_insert_fixup levels path.now pool.old }
 {
-    let mut d = depth;
-    let mut e = levels;
-    while e > 0 {
-        if d < 2 {
+    let mut rest = path.links();
+    for _ in 0..levels {
+        let [x, y, up @ ..] = rest else {
             return;
-        }
-        let x = paths::link_in(path, d - 1);
-        let y = paths::link_in(path, d - 2);
-        let aunt = pool::child(pool, links::other(links::side_of(y)), links::owner(y));
-        paint_level(pool, links::owner(x), aunt, links::owner(y));
-        d -= 2;
-        e -= 1;
+        };
+        let aunt = pool::child(pool, links::other(links::side_of(*y)), links::owner(*y));
+        paint_level(pool, links::owner(*x), aunt, links::owner(*y));
+        rest = up;
     }
 }
 
@@ -128,6 +109,7 @@ fn black_sibling(pool: &[u32], l: Link, z: Side, w: u32) -> Rotation
 }
 
 // a red sibling w
+#[tactic(auto, unfolding(spec::specs::Plan::red_sibling))]
 fn red_sibling(pool: &[u32], l: Link, z: Side, w: u32) -> Ending
     ensures { result ≡ red_sibling pool.now l z w }
 {
@@ -149,60 +131,68 @@ fn red_sibling(pool: &[u32], l: Link, z: Side, w: u32) -> Ending
     Ending::Rotate(first)
 }
 
-// Goes up from a path's link at that depth, where x came, with so many levels passed, and finds where the delete fix-up ends.
-pub fn delete_fixup(pool: &[u32], path: &[u64], depth: u32, levels: u32, x: u32) -> Fixup
-    requires { (depth ≤ length path.now) × (levels + depth ≤ most_links) }
-    ensures { result ≡ delete_fixup pool.now levels x (upward path.now depth) }
+// Goes up a path, where x came, and finds where the delete fix-up ends.
+#[tactic(auto, using(crate::specs::Levels::delete_fixup_red), unfolding(spec::specs::Plan::delete_fixup))]
+pub fn delete_fixup(pool: &[u32], path: &Path, x: u32) -> Fixup
+    ensures { result ≡ delete_fixup pool.now 0 x path.now }
 {
-    let mut d = depth;
-    let mut e = levels;
+    let mut levels = 0;
     let mut node = x;
+    let mut rest = path.links();
     loop {
         if pool::is_red(pool, node) {
-            return fixup_result(e, Ending::Blacken);
+            return Fixup {
+                levels,
+                ending: Ending::Blacken,
+            };
         }
-        if d == 0 {
-            return fixup_result(e, Ending::Missing);
-        }
-        if d == 1 {
-            return fixup_result(e, Ending::Balanced);
-        }
-        let l = paths::link_in(path, d - 1);
-        let z = links::other(links::side_of(l));
-        let parent = links::owner(l);
+        let [l, up @ ..] = rest else {
+            return Fixup {
+                levels,
+                ending: Ending::Missing,
+            };
+        };
+        let [above, ..] = up else {
+            return Fixup {
+                levels,
+                ending: Ending::Balanced,
+            };
+        };
+        let z = links::other(links::side_of(*l));
+        let parent = links::owner(*l);
         let w = pool::child(pool, z, parent);
         if w == 0 {
-            return fixup_result(e, Ending::Missing);
+            return Fixup {
+                levels,
+                ending: Ending::Missing,
+            };
         }
-        let above = paths::link_in(path, d - 2);
         if pool::is_red(pool, w) {
-            return fixup_result(e, red_sibling(pool, above, z, w));
+            return Fixup {
+                levels,
+                ending: red_sibling(pool, *above, z, w),
+            };
         }
         if red_child(pool, w) {
-            let rotation = black_sibling(pool, above, z, w);
-            return fixup_result(e, Ending::Rotate(rotation));
+            let rotation = black_sibling(pool, *above, z, w);
+            return Fixup {
+                levels,
+                ending: Ending::Rotate(rotation),
+            };
         }
-        d -= 1;
-        e += 1;
+        rest = up;
+        levels += 1;
         node = parent;
     }
 }
 
-// Paints so many levels up from a path's link at that depth: each sibling red.
-pub fn paint_delete_levels(pool: &mut [u32], path: &[u64], depth: u32, levels: u32)
-    requires { depth ≤ length path.now }
-    ensures { pool.new ≡ paint_delete_levels levels (upward path.now depth) pool.old }
+// Paints so many levels up a path: each sibling red.
+#[tactic(auto, unfolding(spec::specs::Plan::paint_delete_levels))]
+pub fn paint_delete_levels(pool: &mut [u32], path: &Path, levels: u32)
+    ensures { pool.new ≡ paint_delete_levels levels path.now pool.old }
 {
-    let mut d = depth;
-    let mut e = levels;
-    while e > 0 {
-        if d == 0 {
-            return;
-        }
-        let l = paths::link_in(path, d - 1);
-        let w = pool::child(pool, links::other(links::side_of(l)), links::owner(l));
+    for l in path.links().iter().take(levels as usize) {
+        let w = pool::child(pool, links::other(links::side_of(*l)), links::owner(*l));
         pool::set_word(pool, w, pool::COLOUR, pool::RED);
-        d -= 1;
-        e -= 1;
     }
 }

@@ -1,5 +1,7 @@
 // The register's head: taken out of a register, put into it, made a register of with the rest; the store of a link, which is the root's or a
 // word of the pool; the awaited slots.
+// kept: a step takes `pool: &mut [u32]` and `h: Head` apart and gives the head back. The register goes by value (document 01, 'Pool and
+// register'), and a head is its numbers: a struct that held both would lend the one and own the other.
 #![tactic(auto)]
 
 ghost use Rattle.std.specs.Prelude.{◌≡◌, not, eqb};
@@ -9,8 +11,8 @@ ghost use Rattle.heads.specs.Head.{head_of, with_head, register_of, awaiting, Fo
 use datatypes::{Head, Link, Reader, Register, Write};
 
 // Takes the head out of a register.
-pub fn head_of(reg: Register) -> Head
-    ensures { result ≡ head_of reg }
+pub fn head_of(reg: &Register) -> Head
+    ensures { result ≡ head_of reg.now }
 {
     Head {
         root: reg.root,

@@ -167,7 +167,7 @@ fn turned(pool: &mut [u32], reg: &mut Register, s: u32) -> Result<Looked, Refusa
 {
     let i = refusals::turn_refusal(pool, reg, s)?;
     let looked = lookups::look(pool, reg.root, reg.readers[i]);
-    let head = lookups::leave(pool, heads::head_of(*reg), s, looked.reader.reading);
+    let head = lookups::leave(pool, heads::head_of(reg), s, looked.reader.reading);
     heads::put_head(reg, head);
     reg.readers[i] = looked.reader;
     Ok(looked)
@@ -207,7 +207,7 @@ fn given_up(pool: &mut [u32], reg: &mut Register, s: u32) -> Acceptance
     ensures { outcome (accepts result) (state pool.new reg.new) ≡ give_up (state pool.old reg.old) s }
 {
     let i = refusals::give_up_refusal(pool, reg, s)?;
-    let head = reading_ends::end_reading(pool, heads::head_of(*reg), s);
+    let head = reading_ends::end_reading(pool, heads::head_of(reg), s);
     heads::put_head(reg, head);
     reg.readers[i] = register::no_reader();
     Ok(())

@@ -33,8 +33,7 @@ pub fn owner(l: Link) -> u32
 {
     match l {
         Link::Root => 0,
-        Link::Left(n) => n,
-        Link::Right(n) => n,
+        Link::Left(n) | Link::Right(n) => n,
     }
 }
 
@@ -43,8 +42,7 @@ pub fn side_of(l: Link) -> Side
     ensures { result ≡ side_of l }
 {
     match l {
-        Link::Root => Side::L,
-        Link::Left(_) => Side::L,
+        Link::Root | Link::Left(_) => Side::L,
         Link::Right(_) => Side::R,
     }
 }
@@ -53,16 +51,7 @@ pub fn side_of(l: Link) -> Side
 pub fn form_of(x: Side, y: Side) -> Form
     ensures { result ≡ cond (same_side x y) Diag Zig }
 {
-    match x {
-        Side::L => match y {
-            Side::L => Form::Diag,
-            Side::R => Form::Zig,
-        },
-        Side::R => match y {
-            Side::L => Form::Zig,
-            Side::R => Form::Diag,
-        },
-    }
+    form_if(matches!((x, y), (Side::L, Side::L) | (Side::R, Side::R)))
 }
 
 // Answers a diag where the outer child is red, a zig otherwise.

@@ -5,7 +5,8 @@ ghost use Rattle.std.specs.Prelude.{◌≡◌, ◌<◌, length};
 ghost use Rattle.datatypes.specs.declared.Kind.TheVariants as kind;
 ghost use Rattle.spec.specs.Numbers.{pool_limit, slots};
 ghost use Rattle.spec.specs.Calls.{reader_says, empty_answer};
-ghost use Rattle.lookups.specs.Looked.{look_of, load, look_at, look_from, Leaves};
+ghost use Rattle.spec.specs.Register.{no_reader};
+ghost use Rattle.lookups.specs.Looked.{look, look_of, load, look_at, look_from, Leaves};
 
 use datatypes::{Head, Kind, Reader, ReaderAnswer, Side};
 
@@ -17,24 +18,25 @@ pub struct Looked {
     pub compared: u32,
 }
 
-// Answers the ticket remembered, absent if there is none.
-fn remembered_answer(x: Reader) -> ReaderAnswer
-    ensures { reader_says result ≡ empty_answer kind.Next x }
+// Answers what a loaded 0 answers: a search for the next ticket the one that it remembers, and absent if there is none.
+// kept: `remembers` beside `best` and `value`, no Option: a record is document 01's numbers, all 0 at the end, and the theorems name its fields.
+fn empty_answer(x: Reader) -> ReaderAnswer
+    ensures { reader_says result ≡ empty_answer x.kind x }
 {
-    if x.remembers {
-        ReaderAnswer::Next(x.best, x.value)
-    } else {
-        ReaderAnswer::Absent
+    match x.kind {
+        Kind::Next if x.remembers => ReaderAnswer::Next(x.best, x.value),
+        _ => ReaderAnswer::Absent,
     }
 }
 
-// Answers what a loaded 0 answers in a search of this kind.
-fn empty_answer(kind: Kind, x: Reader) -> ReaderAnswer
-    ensures { reader_says result ≡ empty_answer kind x }
+// A reading that ends with this answer.
+fn ended(answer: ReaderAnswer, compared: u32) -> Looked
+    ensures { look_of result ≡ look (reader_says answer) no_reader compared }
 {
-    match kind {
-        Kind::Lookup => ReaderAnswer::Absent,
-        Kind::Next => remembered_answer(x),
+    Looked {
+        answer,
+        reader: register::no_reader(),
+        compared,
     }
 }
 
@@ -43,19 +45,11 @@ fn load(x: Reader, node: u32) -> Looked
     ensures { look_of result ≡ load x node }
 {
     if node == 0 {
-        let kind = x.kind;
-        let answer = empty_answer(kind, x);
-        let reader = register::no_reader();
-        return Looked {
-            answer,
-            reader,
-            compared: x.compared,
-        };
+        return ended(empty_answer(x), x.compared);
     }
-    let reader = register::moved_reader(x, node);
     Looked {
         answer: ReaderAnswer::Go,
-        reader,
+        reader: register::moved_reader(x, node),
         compared: x.compared,
     }
 }
@@ -67,12 +61,7 @@ fn look_up(pool: &[u32], x: Reader) -> Looked
     let held = pool::word(pool, x.node, pool::KEY);
     if x.key == held {
         let record = pool::record(pool, x.node);
-        let reader = register::no_reader();
-        return Looked {
-            answer: ReaderAnswer::Found(record),
-            reader,
-            compared: x.compared,
-        };
+        return ended(ReaderAnswer::Found(record), x.compared);
     }
     load(x, search::child_towards(pool, x.key, x.node))
 }
@@ -98,8 +87,7 @@ pub fn look(pool: &[u32], root: u32, x: Reader) -> Looked
     if x.node == 0 {
         return load(x, root);
     }
-    let kind = x.kind;
-    match kind {
+    match x.kind {
         Kind::Lookup => look_up(pool, y),
         Kind::Next => look_next(pool, y),
     }

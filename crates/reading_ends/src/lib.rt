@@ -2,7 +2,7 @@
 #![tactic(auto)]
 
 ghost use Rattle.std.specs.Prelude.{◌≡◌, true, ◌<◌, ◌≤◌, ◌+◌, ◌*◌, eqb, length};
-ghost use Rattle.reading_ends.specs.Retired.{Bounded, Span, Width, Past, Next};
+ghost use Rattle.reading_ends.specs.Retired.{Bounded, Span, Past, Next};
 ghost use Rattle.spec.specs.Numbers.{node_words, pool_limit, slots, word_bits};
 ghost use Rattle.spec.specs.Pool.{word, standing_word, standing_retired};
 ghost use Rattle.datatypes.specs.declared.Register.{Register};
@@ -13,72 +13,36 @@ ghost use Rattle.spec.specs.Free.{release, end_reading};
 use datatypes::Head;
 
 // a node's standing stands so many words before the node's end
-const STANDING_BACK: usize = numbers::NODE_WORDS - pool::STANDING_PLACE;
-
-// Answers a number that is at least the standing of each of two nodes from n on; the next four: of four, of eight, of sixteen and of thirty-two.
-fn two_standings(pool: &[u32], n: usize) -> u32
-    requires { (1 ≤ n) × ((n + 1) * node_words ≤ length pool.now) }
-    ensures { Bounded pool.now n (n + 2) result }
-{
-    let i = n * numbers::NODE_WORDS - STANDING_BACK;
-    pool[i] | pool[i + numbers::NODE_WORDS]
-}
-
-fn four_standings(pool: &[u32], n: usize) -> u32
-    requires { (1 ≤ n) × ((n + 3) * node_words ≤ length pool.now) }
-    ensures { Bounded pool.now n (n + 4) result }
-{
-    two_standings(pool, n) | two_standings(pool, n + 2)
-}
-
-fn eight_standings(pool: &[u32], n: usize) -> u32
-    requires { (1 ≤ n) × ((n + 7) * node_words ≤ length pool.now) }
-    ensures { Bounded pool.now n (n + 8) result }
-{
-    four_standings(pool, n) | four_standings(pool, n + 4)
-}
-
-fn sixteen_standings(pool: &[u32], n: usize) -> u32
-    requires { (1 ≤ n) × ((n + 15) * node_words ≤ length pool.now) }
-    ensures { Bounded pool.now n (n + 16) result }
-{
-    eight_standings(pool, n) | eight_standings(pool, n + 8)
-}
-
-fn thirty_two_standings(pool: &[u32], n: usize) -> u32
-    requires { (1 ≤ n) × ((n + 31) * node_words ≤ length pool.now) }
-    ensures { Bounded pool.now n (n + 32) result }
-{
-    sixteen_standings(pool, n) | sixteen_standings(pool, n + 16)
-}
+const STANDING_BACK: usize = numbers::NODE_WORDS - pool::STANDING as usize;
 
 // how many nodes are looked at by one test, first and where one of them may be retired
 const WIDE: usize = 32;
 
 const NARROW: usize = 8;
 
-// The same of so many nodes.
-fn standings(pool: &[u32], n: usize, width: usize) -> u32
-    requires { Width width × (1 ≤ n) × ((n + width) * node_words ≤ length pool.now + node_words) }
-    ensures { Bounded pool.now n (n + width) result }
+// Answers a number that is at least the standing of each of so many nodes from n on.
+fn standings<const WIDTH: usize>(pool: &[u32], n: usize) -> u32
+    requires { (1 ≤ n) × ((n + WIDTH) * node_words ≤ length pool.now + node_words) }
+    ensures { Bounded pool.now n (n + WIDTH) result }
 {
-    if width == WIDE {
-        return thirty_two_standings(pool, n);
+    let mut most = 0;
+    for k in n..n + WIDTH {
+        most |= pool[k * numbers::NODE_WORDS - STANDING_BACK];
     }
-    eight_standings(pool, n)
+    most
 }
 
 // Passes over nodes of which none is retired, so many by one test; answers where it stopped.
-fn scan_blocks(pool: &[u32], from: usize, capacity: usize, width: usize) -> usize
-    requires { Span pool.now from capacity × Width width }
+fn scan_blocks<const WIDTH: usize>(pool: &[u32], from: usize, capacity: usize) -> usize
+    requires { Span pool.now from capacity × (1 ≤ WIDTH) × (WIDTH ≤ word_bits) }
     ensures { Past pool.now from capacity result }
 {
     let mut n = from;
-    while n + width <= capacity + 1 {
-        if standings(pool, n, width) > pool::LINKED {
-            return n;
+    while n + WIDTH <= capacity + 1 {
+        if standings::<WIDTH>(pool, n) > pool::LINKED {
+            break;
         }
-        n += width;
+        n += WIDTH;
     }
     n
 }
@@ -88,14 +52,12 @@ fn scan_retired(pool: &[u32], from: usize, capacity: usize) -> usize
     requires { Span pool.now from capacity }
     ensures { Next pool.now from capacity result }
 {
-    let mut n = from;
-    while n <= capacity {
+    for n in from..capacity + 1 {
         if pool[n * numbers::NODE_WORDS - STANDING_BACK] == pool::RETIRED {
             return n;
         }
-        n += 1;
     }
-    n
+    capacity + 1
 }
 
 // The same, by blocks of nodes.
@@ -103,8 +65,8 @@ fn next_retired(pool: &[u32], from: usize, capacity: usize) -> usize
     requires { Span pool.now from capacity }
     ensures { Next pool.now from capacity result }
 {
-    let wide = scan_blocks(pool, from, capacity, WIDE);
-    let narrow = scan_blocks(pool, wide, capacity, NARROW);
+    let wide = scan_blocks::<WIDE>(pool, from, capacity);
+    let narrow = scan_blocks::<NARROW>(pool, wide, capacity);
     scan_retired(pool, narrow, capacity)
 }
 
@@ -123,6 +85,7 @@ fn following_retired(pool: &[u32], from: usize, capacity: usize) -> usize
 }
 
 // Takes slot s from a retired node's holders, and frees the node if it is then without a holder.
+#[tactic(auto, unfolding(spec::specs::Free::release))]
 fn release(pool: &mut [u32], h: Head, s: u32, n: u32) -> Head
     requires { (length pool.old < pool_limit) × (s < word_bits) × (eqb (word pool.old n standing_word) standing_retired ≡ true) }
     ensures { Follows (λ st. release s st n) pool.old h pool.new result }
@@ -141,8 +104,10 @@ pub fn end_reading(pool: &mut [u32], h: Head, s: u32) -> Head
     ensures { (q : Register) → at pool.new result (with_reader q s no_reader) ≡ end_reading (at pool.old h q) s }
 {
     let count = pool.len() / numbers::NODE_WORDS;
-    let mut r = h;
-    r.awaited = masks::drop_slot(h.awaited, s);
+    let mut r = Head {
+        awaited: masks::drop_slot(h.awaited, s),
+        ..h
+    };
     let mut n = next_retired(pool, 1, count);
     while n <= count {
         r = release(pool, r, s, n as u32);

@@ -37,7 +37,7 @@ pub fn lent_refusal(pool: &[u32], reg: &Register, tested: Tested) -> Result<(), 
         return Err(Refusal::WrongLength);
     }
     let capacity = pool::nodes(pool);
-    if !(words_in_range(pool, tested) & register::register_in_range(*reg, capacity)) {
+    if !(words_in_range(pool, tested) & register::register_in_range(reg, capacity)) {
         return Err(Refusal::OutOfRange);
     }
     Ok(())

@@ -1,19 +1,23 @@
--- The test of ranges in two parts: the stores of the write in hand go last.
-use Rattle.std.specs.Prelude.{◌≡◌, refl, Bool, true, false, ◌&&◌}
-use Rattle.std.proofs.Common.{sym}
-use Rattle.std.proofs.lemmas.Bool.{false≢true}
+-- A test of each element of a list, as a walk over its places.
+use Rattle.std.specs.Prelude.{◌≡◌, refl, Bool, true, false, ◌&&◌, ℕ, suc, ◌+◌, List, [], ◌∷◌, length, get_or}
+use Rattle.std.specs.List.{list_all}
+use Rattle.base.specs.Walk.{all_from, all_in}
+use Rattle.std.proofs.Common.{sym, add-zero, zero-add, cond, arith}
+use Rattle.std.proofs.Math.Nat.{sub-zero}
 
-module _ (e : Bool) where
-  pub stops : (a b c d : Bool) → (((a && b) && c) && d) ≡ false → ((a && b) && ((c && d) && e)) ≡ false
-  stops true true true true h = absurd (false≢true (sym h))
-  stops true true true false h = refl
-  stops true true false d h = refl
-  stops true false c d h = refl
-  stops false b c d h = refl
+and-cond : (a b : Bool) → (a && b) ≡ cond a b false
+and-cond true b = refl
+and-cond false b = refl
 
-  pub goes : (a b c d : Bool) → (((a && b) && c) && d) ≡ true → ((a && b) && ((c && d) && e)) ≡ e
-  goes true true true true h = refl
-  goes true true true false h = absurd (false≢true h)
-  goes true true false d h = absurd (false≢true h)
-  goes true false c d h = absurd (false≢true h)
-  goes false b c d h = absurd (false≢true h)
+-- a test of each element of a list is a test of each of its places
+all-list : {A : Type 0} (p : A → Bool) (f : ℕ → Bool) (d : A) (xs : List A) (n : ℕ) → ((i : ℕ) → p (get_or xs i d) ≡ f (n + i)) → list_all p xs ≡ all_from f (length xs) n
+unfolding all_from
+all-list p f d [] n h = refl
+all-list p f d (x ∷ xs) n h =
+    let a : f n ≡ p x = rw (add-zero n) at (sym (h 0)) in
+    let b : list_all p xs ≡ all_from f (length xs) (n + 1) = all-list p f d xs (n + 1) (λ i. let e : n + 1 + i ≡ n + suc i = omega arith in rw e (h (suc i))) in
+    rw (a, b) (and-cond (p x) (all_from f (length xs) (n + 1)))
+
+pub list-in : {A : Type 0} (p : A → Bool) (f : ℕ → Bool) (d : A) (xs : List A) (e : ℕ) → length xs ≡ e → ((i : ℕ) → p (get_or xs i d) ≡ f i) → list_all p xs ≡ all_in f 0 e
+unfolding all_in
+list-in p f d xs e l h = rw (sub-zero, sym l) (all-list p f d xs 0 (λ i. let z = zero-add i in rw z (h i)))

@@ -35,12 +35,8 @@ pub fn begun_reader(kind: Kind, k: u32) -> Reader
     Reader {
         reading: true,
         kind,
-        remembers: false,
         key: k,
-        node: 0,
-        best: 0,
-        value: 0,
-        compared: 0,
+        ..NO_READER
     }
 }
 
@@ -48,16 +44,10 @@ pub fn begun_reader(kind: Kind, k: u32) -> Reader
 pub fn moved_reader(x: Reader, n: u32) -> Reader
     ensures { result ≡ moved_reader x n }
 {
-    let kind = x.kind;
     Reader {
         reading: true,
-        kind,
-        remembers: x.remembers,
-        key: x.key,
         node: n,
-        best: x.best,
-        value: x.value,
-        compared: x.compared,
+        ..x
     }
 }
 
@@ -65,16 +55,12 @@ pub fn moved_reader(x: Reader, n: u32) -> Reader
 pub fn remembering(x: Reader, k: u32, v: u64) -> Reader
     ensures { result ≡ remembering x k v }
 {
-    let kind = x.kind;
     Reader {
         reading: true,
-        kind,
         remembers: true,
-        key: x.key,
-        node: x.node,
         best: k,
         value: v,
-        compared: x.compared,
+        ..x
     }
 }
 
@@ -82,9 +68,10 @@ pub fn remembering(x: Reader, k: u32, v: u64) -> Reader
 pub fn counting(x: Reader) -> Reader
     ensures { result ≡ counting x }
 {
-    let mut y = x;
-    y.compared = counts::count_up(u32::MAX, x.compared);
-    y
+    Reader {
+        compared: x.compared.saturating_add(1),
+        ..x
+    }
 }
 
 // Makes the store that stands for no store.
@@ -109,22 +96,19 @@ pub fn no_write() -> Write
 }
 
 // Puts a write in hand into a register.
+#[tactic(auto, unfolding(spec::specs::Register::with_write))]
 pub fn with_write(reg: Register, w: Write) -> Register
     ensures { result ≡ with_write reg w }
 {
-    let mut r = reg;
-    r.write = w;
-    r
+    Register { write: w, ..reg }
 }
 
 // Answers the mask of all reading slots, from the last slot's bit to the first's.
-pub fn reading_slots(reg: Register) -> u32
-    ensures { result ≡ reading_slots reg }
+pub fn reading_slots(reg: &Register) -> u32
+    ensures { result ≡ reading_slots reg.now }
 {
     let mut m: u32 = 0;
-    let mut s: usize = numbers::SLOTS;
-    while s > 0 {
-        s -= 1;
+    for s in (0..numbers::SLOTS).rev() {
         m = m * 2 + reg.readers[s].reading as u32;
     }
     m
@@ -141,8 +125,7 @@ fn link_in_range(l: Link, capacity: u32) -> bool
 {
     match l {
         Link::Root => true,
-        Link::Left(n) => node_number(n, capacity),
-        Link::Right(n) => node_number(n, capacity),
+        Link::Left(n) | Link::Right(n) => node_number(n, capacity),
     }
 }
 
@@ -151,50 +134,9 @@ fn step_in_range(s: Step, capacity: u32) -> bool
 {
     match s {
         Step::Vacant => false,
-        Step::Insert(_, _) => true,
-        Step::Replace(_) => true,
-        Step::DiagLower(_, _) => true,
-        Step::DiagRaise(_, _) => true,
-        Step::ZigLowerA(_, _) => true,
-        Step::ZigLowerC(_, _) => true,
-        Step::ZigRaise(_, _) => true,
-        Step::Unlink => true,
-        Step::Adopt => true,
-        Step::Promote => true,
         Step::Publish(n) => node_number(n, capacity),
-        Step::Detach(_) => true,
         Step::LinkAll(m, n) => (m <= capacity) & node_number(n, capacity),
-    }
-}
-
-fn is_root(l: Link) -> bool
-    ensures { result ≡ is_root l }
-{
-    match l {
-        Link::Root => true,
-        Link::Left(_) => false,
-        Link::Right(_) => false,
-    }
-}
-
-fn is_vacant(s: Step) -> bool
-    ensures { result ≡ is_vacant s }
-{
-    match s {
-        Step::Vacant => true,
-        Step::Insert(_, _) => false,
-        Step::Replace(_) => false,
-        Step::DiagLower(_, _) => false,
-        Step::DiagRaise(_, _) => false,
-        Step::ZigLowerA(_, _) => false,
-        Step::ZigLowerC(_, _) => false,
-        Step::ZigRaise(_, _) => false,
-        Step::Unlink => false,
-        Step::Adopt => false,
-        Step::Promote => false,
-        Step::Publish(_) => false,
-        Step::Detach(_) => false,
-        Step::LinkAll(_, _) => false,
+        _ => true,
     }
 }
 
@@ -202,53 +144,39 @@ fn is_vacant(s: Step) -> bool
 fn store_in_range(x: Store, coming: bool, capacity: u32) -> bool
     ensures { result ≡ cond coming (link_in_range capacity x.link && step_in_range capacity x.step) (is_root x.link && is_vacant x.step) }
 {
-    let link = x.link;
-    let step = x.step;
     if coming {
-        link_in_range(link, capacity) & step_in_range(step, capacity)
+        link_in_range(x.link, capacity) & step_in_range(x.step, capacity)
     } else {
-        is_root(link) & is_vacant(step)
+        matches!(x.link, Link::Root) & matches!(x.step, Step::Vacant)
     }
 }
 
-fn readers_in_range(reg: Register, capacity: u32) -> bool
-    ensures { result ≡ all_in (reader_in_range capacity reg) 0 slots }
+fn readers_in_range(reg: &Register, capacity: u32) -> bool
+    ensures { result ≡ all_in (reader_in_range capacity reg.now) 0 slots }
 {
-    let mut ok = true;
-    let mut s: u32 = 0;
-    while s < numbers::SLOT_LIMIT {
-        let i = s as usize;
-        ok = ok & (reg.readers[i].node <= capacity);
-        s += 1;
-    }
-    ok
+    reg.readers.iter().all(|x| x.node <= capacity)
 }
 
-fn stores_in_range(w: Write, capacity: u32) -> bool
-    ensures { result ≡ all_in (store_in_range capacity w) 0 most_stores }
+fn stores_in_range(w: &Write, capacity: u32) -> bool
+    ensures { result ≡ all_in (store_in_range capacity w.now) 0 most_stores }
 {
-    let count = w.count;
-    let mut i: u32 = 0;
-    while i < numbers::STORE_LIMIT {
-        let at = i as usize;
-        let x = w.stores[at];
-        if !store_in_range(x, i < count, capacity) {
+    for (i, x) in w.stores.iter().enumerate() {
+        if !store_in_range(*x, i < w.count as usize, capacity) {
             return false;
         }
-        i += 1;
     }
     true
 }
 
 // Tests whether every field of the register is in its range; the awaited slots are any word.
-pub fn register_in_range(reg: Register, capacity: u32) -> bool
-    ensures { result ≡ register_in_range capacity reg }
+#[tactic(auto, unfolding(spec::specs::Register::register_in_range))]
+pub fn register_in_range(reg: &Register, capacity: u32) -> bool
+    ensures { result ≡ register_in_range capacity reg.now }
 {
     let a = (reg.root <= capacity) & (reg.first <= capacity) & (reg.last <= capacity);
     let b = (reg.free <= capacity) & (reg.held <= capacity);
-    let w = reg.write;
-    if !(a & b & (w.count <= numbers::STORE_LIMIT) & readers_in_range(reg, capacity)) {
-        return false;
-    }
-    stores_in_range(w, capacity)
+    let w = &reg.write;
+    a & b
+        & ((w.count <= numbers::STORE_LIMIT) & readers_in_range(reg, capacity)
+            && stores_in_range(w, capacity))
 }

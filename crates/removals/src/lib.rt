@@ -3,7 +3,7 @@
 // links.
 #![tactic(auto)]
 
-ghost use Rattle.std.specs.Prelude.{◌<◌, ◌≤◌, length};
+ghost use Rattle.std.specs.Prelude.{◌<◌, length};
 ghost use Rattle.datatypes.specs.declared.Step.TheVariants.{Unlink, Promote, Detach};
 ghost use Rattle.spec.specs.Numbers.{pool_limit};
 ghost use Rattle.spec.specs.Register.{set_link};
@@ -11,29 +11,30 @@ ghost use Rattle.spec.specs.Free.{retire};
 ghost use Rattle.spec.specs.Plan.{paint_delete_fixup};
 ghost use Rattle.spec.specs.Turn.{one_less, painted};
 ghost use Rattle.heads.specs.Head.{Follows, FollowsReading, TriesReading};
-ghost use Rattle.paths.specs.Upward.{upward};
 
-use datatypes::{Fixup, Head, Link, Side, StepResult};
+use datatypes::{Fixup, Head, Link, Side, Stored};
+use paths::Path;
 
-// Paints the colours of a fix-up along a path of that depth, where x came; then retires n.
+// Paints the colours of a fix-up along a path, where x came; then retires n.
+
 fn colour_and_retire(
     pool: &mut [u32],
     h: Head,
     reading: u32,
     fix: Fixup,
     x: u32,
-    path: &[u64],
-    depth: u32,
+    path: &Path,
     n: u32,
 ) -> Head
-    requires { (length pool.old < pool_limit) × (depth ≤ length path.now) }
-    ensures { FollowsReading reading (λ st. retire (paint_delete_fixup st fix x (upward path.now depth)) n) pool.old h pool.new result }
+    requires { length pool.old < pool_limit }
+    ensures { FollowsReading reading (λ st. retire (paint_delete_fixup st fix x path.now) n) pool.old h pool.new result }
 {
-    delete_fixups::paint_delete_fixup(pool, h.root, fix, x, path, depth);
+    delete_fixups::paint_delete_fixup(pool, h.root, fix, x, path);
     queue::retire(pool, h, reading, n)
 }
 
 // Stores v in the link l; one key less is held.
+#[tactic(auto, unfolding(spec::specs::Register::with_held))]
 fn store_one_less(pool: &mut [u32], h: Head, l: Link, v: u32) -> Head
     ensures { Follows (λ st. one_less (set_link st l v)) pool.old h pool.new result }
 {
@@ -50,28 +51,26 @@ fn store_one_less(pool: &mut [u32], h: Head, l: Link, v: u32) -> Head
 //        B      =>     x
 //       /
 //      x
-pub fn unlink(pool: &mut [u32], h: Head, reading: u32, l: Link) -> StepResult
+#[tactic(auto, unfolding(spec::specs::Turn::step_finds, spec::specs::Turn::step_made, spec::specs::Turn::unlink_store))]
+pub fn unlink(pool: &mut [u32], h: Head, reading: u32, l: Link) -> Option<Stored>
     requires { length pool.old < pool_limit }
     ensures { TriesReading reading l Unlink pool.old h pool.new result }
 {
     let b = pool::node_at(pool, h.root, l);
     let x = delete_fixups::only_child(pool, b);
-    let mut path: [u64; numbers::MOST_LINKS] = [0; numbers::MOST_LINKS];
-    let key = pool::word(pool, b, pool::KEY);
-    let depth = paths::path_to(pool, h.root, key, l, &mut path);
-    let fix = delete_fixups::fixup_after_removal(pool, b, x, &path, depth);
-    let found = (b != 0) & fixups::nodes_found(fix);
-    if !found {
-        return heads::missed(h);
+    let mut path = Path::new();
+    paths::path_to(pool, h.root, pool::word(pool, b, pool::KEY), l, &mut path);
+    let fix = delete_fixups::fixup_after_removal(pool, b, x, &path);
+    if b == 0 || !fixups::nodes_found(fix) {
+        return None;
     }
     let less = store_one_less(pool, h, l, x);
-    let head = colour_and_retire(pool, less, reading, fix, x, &path, depth, b);
-    StepResult {
-        found,
+    let head = colour_and_retire(pool, less, reading, fix, x, &path, b);
+    Some(Stored {
         link: l,
         node: x,
         head,
-    }
+    })
 }
 
 // Stores C in B's link from above and gives C its colour, B's.
@@ -93,31 +92,29 @@ fn store_successor(pool: &mut [u32], h: Head, l: Link, n: u32, colour: u32) -> H
 //      l   C           l   y
 //         / \
 //        l   y
-pub fn promote(pool: &mut [u32], h: Head, reading: u32, l: Link) -> StepResult
+#[tactic(auto, unfolding(spec::specs::Turn::step_finds, spec::specs::Turn::step_made, spec::specs::Turn::promote_store))]
+pub fn promote(pool: &mut [u32], h: Head, reading: u32, l: Link) -> Option<Stored>
     requires { length pool.old < pool_limit }
     ensures { TriesReading reading l Promote pool.old h pool.new result }
 {
     let b = pool::node_at(pool, h.root, l);
     let n = pool::child(pool, Side::R, b);
     let x = pool::child(pool, Side::R, n);
-    let mut path: [u64; numbers::MOST_LINKS] = [0; numbers::MOST_LINKS];
-    let key = pool::word(pool, b, pool::KEY);
-    let above = paths::path_to(pool, h.root, key, l, &mut path);
-    let depth = paths::below_right(&mut path, b, above);
-    let fix = delete_fixups::fixup_after_removal(pool, n, x, &path, depth);
-    let found = (n != 0) & fixups::nodes_found(fix);
-    if !found {
-        return heads::missed(h);
+    let mut path = Path::new();
+    paths::path_to(pool, h.root, pool::word(pool, b, pool::KEY), l, &mut path);
+    paths::below_right(&mut path, b);
+    let fix = delete_fixups::fixup_after_removal(pool, n, x, &path);
+    if n == 0 || !fixups::nodes_found(fix) {
+        return None;
     }
     let colour = pool::word(pool, b, pool::COLOUR);
     let less = store_successor(pool, h, l, n, colour);
-    let head = colour_and_retire(pool, less, reading, fix, x, &path, depth, b);
-    StepResult {
-        found,
+    let head = colour_and_retire(pool, less, reading, fix, x, &path, b);
+    Some(Stored {
         link: l,
         node: n,
         head,
-    }
+    })
 }
 
 // Delete of B, other, last store, after the awaited slots have ended: stores C's right child in F's left link, makes the colour work and
@@ -132,28 +129,27 @@ pub fn promote(pool: &mut [u32], h: Head, reading: u32, l: Link) -> StepResult
 //      C               y              C retired: its right child is y
 //       \
 //        y
-pub fn detach(pool: &mut [u32], h: Head, reading: u32, l: Link, key: u32) -> StepResult
+#[tactic(auto, unfolding(spec::specs::Turn::step_finds, spec::specs::Turn::step_made, spec::specs::Turn::detach_store))]
+pub fn detach(pool: &mut [u32], h: Head, reading: u32, l: Link, key: u32) -> Option<Stored>
     requires { length pool.old < pool_limit }
     ensures { TriesReading reading l (Detach key) pool.old h pool.new result }
 {
     let b = pool::node_at(pool, h.root, l);
-    let mut path: [u64; numbers::MOST_LINKS] = [0; numbers::MOST_LINKS];
-    let above = paths::path_to(pool, h.root, key, l, &mut path);
-    let depth = paths::successor_path(pool, b, &mut path, above);
-    let link = paths::nearest(&path, depth);
+    let mut path = Path::new();
+    paths::path_to(pool, h.root, key, l, &mut path);
+    paths::successor_path(pool, b, &mut path);
+    let link = path.nearest();
     let n = pool::node_at(pool, h.root, link);
     let x = pool::child(pool, Side::R, n);
-    let fix = delete_fixups::fixup_after_removal(pool, n, x, &path, depth);
-    let found = (depth != 0) & (n != 0) & fixups::nodes_found(fix);
-    if !found {
-        return heads::missed(h);
+    let fix = delete_fixups::fixup_after_removal(pool, n, x, &path);
+    if !path.reached() || n == 0 || !fixups::nodes_found(fix) {
+        return None;
     }
     let stored = heads::set_link(pool, h, link, x);
-    let head = colour_and_retire(pool, stored, reading, fix, x, &path, depth, n);
-    StepResult {
-        found,
+    let head = colour_and_retire(pool, stored, reading, fix, x, &path, n);
+    Some(Stored {
         link,
         node: x,
         head,
-    }
+    })
 }

@@ -13,15 +13,14 @@ ghost use Rattle.datatypes.specs.declared.Register.{Register};
 ghost use Rattle.spec.specs.FreeQueue.{Whole};
 ghost use Rattle.heads.specs.Head.{Follows, Tries, TriesReading};
 
-use datatypes::{Head, Link, Purpose, Side, StepResult};
+use datatypes::{Head, Link, Purpose, Side, Stored};
 
 // Answers the colour of the rotation's copies.
 fn copy_colour(purpose: Purpose) -> u32
     ensures { result ≡ copy_colour purpose }
 {
     match purpose {
-        Purpose::ForInsert => pool::RED,
-        Purpose::RedSibling => pool::RED,
+        Purpose::ForInsert | Purpose::RedSibling => pool::RED,
         Purpose::BlackSibling => pool::BLACK,
     }
 }
@@ -31,8 +30,7 @@ fn risen_colour(pool: &[u32], purpose: Purpose, c: u32) -> u32
     ensures { (q : Register) → result ≡ risen_colour purpose (state pool.now q) c }
 {
     match purpose {
-        Purpose::ForInsert => pool::BLACK,
-        Purpose::RedSibling => pool::BLACK,
+        Purpose::ForInsert | Purpose::RedSibling => pool::BLACK,
         Purpose::BlackSibling => pool::word(pool, c, pool::COLOUR),
     }
 }
@@ -46,17 +44,15 @@ fn risen_colour(pool: &[u32], purpose: Purpose, c: u32) -> u32
 //    o   x           o   C'
 //                       / \
 //                      x   r
-pub fn diag_lower(pool: &mut [u32], h: Head, l: Link, s: Side, purpose: Purpose) -> StepResult
+#[tactic(auto, unfolding(spec::specs::Turn::step_finds, spec::specs::Turn::step_made, spec::specs::Turn::diag_lower))]
+pub fn diag_lower(pool: &mut [u32], h: Head, l: Link, s: Side, purpose: Purpose) -> Option<Stored>
     requires { Whole pool.old }
     ensures { Tries l (DiagLower s purpose) pool.old h pool.new result }
 {
     let c = pool::node_at(pool, h.root, l);
     let b = pool::child(pool, s, c);
-    if b == 0 {
-        return heads::missed(h);
-    }
-    if h.first == 0 {
-        return heads::missed(h);
+    if b == 0 || h.first == 0 {
+        return None;
     }
     let z = links::other(s);
     let x = pool::child(pool, z, b);
@@ -64,12 +60,11 @@ pub fn diag_lower(pool: &mut [u32], h: Head, l: Link, s: Side, purpose: Purpose)
     let link = links::link_at(z, b);
     let taken = queue::take_copy(pool, h, c, s, x, y, copy_colour(purpose));
     let head = heads::set_link(pool, taken, link, h.first);
-    StepResult {
-        found: true,
+    Some(Stored {
         link,
         node: h.first,
         head,
-    }
+    })
 }
 
 // Zig, first store: takes A', a copy of A, which has B's child x on A's inner side, and stores it in B's link on A's side.
@@ -83,29 +78,26 @@ pub fn diag_lower(pool: &mut [u32], h: Head, l: Link, s: Side, purpose: Purpose)
 //      x   y           A'  y
 //                     / \
 //                    a   x
-pub fn zig_lower_a(pool: &mut [u32], h: Head, l: Link, s: Side, purpose: Purpose) -> StepResult
+#[tactic(auto, unfolding(spec::specs::Turn::step_finds, spec::specs::Turn::step_made, spec::specs::Turn::zig_lower_a))]
+pub fn zig_lower_a(pool: &mut [u32], h: Head, l: Link, s: Side, purpose: Purpose) -> Option<Stored>
     requires { Whole pool.old }
     ensures { Tries l (ZigLowerA s purpose) pool.old h pool.new result }
 {
     let a = pool::child(pool, s, pool::node_at(pool, h.root, l));
     let b = pool::child(pool, links::other(s), a);
-    if b == 0 {
-        return heads::missed(h);
-    }
-    if h.first == 0 {
-        return heads::missed(h);
+    if b == 0 || h.first == 0 {
+        return None;
     }
     let x = pool::child(pool, s, a);
     let y = pool::child(pool, s, b);
     let link = links::link_at(s, b);
     let taken = queue::take_copy(pool, h, a, s, x, y, copy_colour(purpose));
     let head = heads::set_link(pool, taken, link, h.first);
-    StepResult {
-        found: true,
+    Some(Stored {
         link,
         node: h.first,
         head,
-    }
+    })
 }
 
 // Zig, second store: takes C', a copy of the top, which has B's other child y on A's side, and stores it in B's link on the other side.
@@ -119,30 +111,27 @@ pub fn zig_lower_a(pool: &mut [u32], h: Head, l: Link, s: Side, purpose: Purpose
 //      A'  y           A'  C'
 //     / \             / \  / \
 //    a   x           a  x y   r
-pub fn zig_lower_c(pool: &mut [u32], h: Head, l: Link, s: Side, purpose: Purpose) -> StepResult
+#[tactic(auto, unfolding(spec::specs::Turn::step_finds, spec::specs::Turn::step_made, spec::specs::Turn::zig_lower_c))]
+pub fn zig_lower_c(pool: &mut [u32], h: Head, l: Link, s: Side, purpose: Purpose) -> Option<Stored>
     requires { Whole pool.old }
     ensures { Tries l (ZigLowerC s purpose) pool.old h pool.new result }
 {
     let z = links::other(s);
     let c = pool::node_at(pool, h.root, l);
     let b = pool::child(pool, z, pool::child(pool, s, c));
-    if b == 0 {
-        return heads::missed(h);
-    }
-    if h.first == 0 {
-        return heads::missed(h);
+    if b == 0 || h.first == 0 {
+        return None;
     }
     let x = pool::child(pool, z, b);
     let y = pool::child(pool, z, c);
     let link = links::link_at(z, b);
     let taken = queue::take_copy(pool, h, c, s, x, y, copy_colour(purpose));
     let head = heads::set_link(pool, taken, link, h.first);
-    StepResult {
-        found: true,
+    Some(Stored {
         link,
         node: h.first,
         head,
-    }
+    })
 }
 
 // Stores B in the link from above and gives B its colour.
@@ -157,7 +146,7 @@ fn raise(pool: &mut [u32], h: Head, l: Link, b: u32, colour: u32) -> Head
 // Ends the work under the copy that a red sibling's diag leaves, with the black sibling w on the side s: if w has no red child, w turns red
 // and the copy black. Otherwise a rotation is still to come.
 fn under_copy(pool: &mut [u32], s: Side, copy: u32)
-    ensures { (q : Register) → pool.new ≡ (under_copy (state pool.old q) s copy).pool }
+    ensures { (q : Register) → state pool.new q ≡ under_copy (state pool.old q) s copy }
 {
     let w = pool::child(pool, s, copy);
     if fixups::red_child(pool, w) {
@@ -169,7 +158,7 @@ fn under_copy(pool: &mut [u32], s: Side, copy: u32)
 
 // Makes the colour work after a diag's last store, B being risen.
 fn end_diag(pool: &mut [u32], root: u32, purpose: Purpose, s: Side, b: u32)
-    ensures { (q : Register) → q.root ≡ root → pool.new ≡ (end_diag purpose (state pool.old q) s b).pool }
+    ensures { (q : Register) → q.root ≡ root → state pool.new q ≡ end_diag purpose (state pool.old q) s b }
 {
     match purpose {
         Purpose::ForInsert => pool::set_word(pool, root, pool::COLOUR, pool::BLACK),
@@ -206,6 +195,7 @@ fn end_diag_finds(pool: &[u32], purpose: Purpose, s: Side, b: u32) -> bool
 //    o   C'              x   r
 //       / \
 //      x   r
+#[tactic(auto, unfolding(spec::specs::Turn::step_finds, spec::specs::Turn::step_made, spec::specs::Turn::diag_raise))]
 pub fn diag_raise(
     pool: &mut [u32],
     h: Head,
@@ -213,38 +203,33 @@ pub fn diag_raise(
     l: Link,
     s: Side,
     purpose: Purpose,
-) -> StepResult
+) -> Option<Stored>
     requires { length pool.old < pool_limit }
     ensures { TriesReading reading l (DiagRaise s purpose) pool.old h pool.new result }
 {
     let c = pool::node_at(pool, h.root, l);
     let b = pool::child(pool, s, c);
-    if b == 0 {
-        return heads::missed(h);
-    }
-    if !end_diag_finds(pool, purpose, s, b) {
-        return heads::missed(h);
+    if b == 0 || !end_diag_finds(pool, purpose, s, b) {
+        return None;
     }
     let colour = risen_colour(pool, purpose, c);
     let risen = raise(pool, h, l, b, colour);
     end_diag(pool, risen.root, purpose, s, b);
     let head = queue::retire(pool, risen, reading, c);
-    StepResult {
-        found: true,
+    Some(Stored {
         link: l,
         node: b,
         head,
-    }
+    })
 }
 
 // Makes the colour work after a zig's last store.
 fn end_zig(pool: &mut [u32], root: u32, purpose: Purpose)
-    ensures { (q : Register) → q.root ≡ root → pool.new ≡ (end_zig purpose (state pool.old q)).pool }
+    ensures { (q : Register) → q.root ≡ root → state pool.new q ≡ end_zig purpose (state pool.old q) }
 {
     match purpose {
         Purpose::ForInsert => pool::set_word(pool, root, pool::COLOUR, pool::BLACK),
-        Purpose::RedSibling => {}
-        Purpose::BlackSibling => {}
+        Purpose::RedSibling | Purpose::BlackSibling => {}
     }
 }
 
@@ -261,6 +246,7 @@ fn end_zig(pool: &mut [u32], root: u32, purpose: Purpose)
 //      A'  C'
 //     / \  / \
 //    a  x y   r
+#[tactic(auto, unfolding(spec::specs::Turn::step_finds, spec::specs::Turn::step_made, spec::specs::Turn::zig_raise))]
 pub fn zig_raise(
     pool: &mut [u32],
     h: Head,
@@ -268,7 +254,7 @@ pub fn zig_raise(
     l: Link,
     s: Side,
     purpose: Purpose,
-) -> StepResult
+) -> Option<Stored>
     requires { length pool.old < pool_limit }
     ensures { TriesReading reading l (ZigRaise s purpose) pool.old h pool.new result }
 {
@@ -276,16 +262,15 @@ pub fn zig_raise(
     let a = pool::child(pool, s, c);
     let b = pool::child(pool, links::other(s), a);
     if b == 0 {
-        return heads::missed(h);
+        return None;
     }
     let colour = risen_colour(pool, purpose, c);
     let risen = raise(pool, h, l, b, colour);
     end_zig(pool, risen.root, purpose);
     let head = queue::retire_two(pool, risen, reading, a, c);
-    StepResult {
-        found: true,
+    Some(Stored {
         link: l,
         node: b,
         head,
-    }
+    })
 }

@@ -16,7 +16,7 @@ use Rattle.spec.specs.Pool.{is_red, paint, red_colour, black_colour}
 use Rattle.spec.specs.Register.{State, state, set_link}
 use Rattle.spec.specs.Free.{take_node, queue_empty}
 use Rattle.spec.specs.Search.{path_to}
-use Rattle.spec.specs.Plan.{insert_fixup, paint_insert_fixup, fixup_after_insert, missing}
+use Rattle.spec.specs.Plan.{insert_fixup, paint_insert_fixup, fixup_after_insert}
 use Rattle.spec.specs.Turn.{made, one_more, end_insert, insert_store, nodes_found, step_finds, step_made}
 use Rattle.laws.specs.Turns.{and-false}
 
@@ -34,9 +34,9 @@ module _ (st : State) (l : Link) (k v : ℕ) where
   abbrev linked : State
   linked = one_more (set_link (take_node st k v L 0 0 red_colour) l st.register.first)
 
-  pub insert-empty : st.register.first ≡ 0 → step_finds st l (Insert k v) ≡ false
+  pub insert_empty : st.register.first ≡ 0 → step_finds st l (Insert k v) ≡ false
   unfolding step_finds
-  insert-empty e = and-false (nodes_found (fixup_after_insert st k l)) (not (queue_empty st)) (rw e)
+  insert_empty e = and-false (nodes_found (fixup_after_insert st k l)) (not (queue_empty st)) (rw e)
 
   module _ (black : is_red st.pool (owner l) ≡ false) where
     pub balanced-found : (st.register.first ≡ 0 → ⊥) → step_finds st l (Insert k v) ≡ true
@@ -52,11 +52,11 @@ module _ (st : State) (l : Link) (k v : ℕ) where
     unfolding fixup_after_insert
     same-fixup = along ∙ rw red
 
-    pub fixup-missing : missing fix.ending ≡ true → step_finds st l (Insert k v) ≡ false
+    pub fixup-missing : nodes_found fix ≡ false → step_finds st l (Insert k v) ≡ false
     unfolding step_finds
     fixup-missing m = rw (← same-fixup, m)
 
-    pub fixup-found : missing fix.ending ≡ false → (st.register.first ≡ 0 → ⊥) → step_finds st l (Insert k v) ≡ true
+    pub fixup-found : nodes_found fix ≡ true → (st.register.first ≡ 0 → ⊥) → step_finds st l (Insert k v) ≡ true
     unfolding step_finds
     fixup-found m d = rw (← same-fixup, m, ne_eqb st.register.first 0 d)
 

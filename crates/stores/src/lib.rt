@@ -2,7 +2,7 @@
 // anything.
 #![tactic(auto)]
 
-ghost use Rattle.std.specs.Prelude.{◌≡◌, true, false, ◌<◌, length};
+ghost use Rattle.std.specs.Prelude.{◌≡◌, true, false, ◌<◌, length, Some};
 ghost use Rattle.datatypes.specs.declared.Register.{Register};
 ghost use Rattle.datatypes.specs.declared.Side.TheVariants.{L};
 ghost use Rattle.datatypes.specs.declared.Step.TheVariants.{Insert, Adopt};
@@ -15,15 +15,17 @@ ghost use Rattle.spec.specs.Turn.{one_more, end_insert};
 ghost use Rattle.spec.specs.FreeQueue.{Whole};
 ghost use Rattle.heads.specs.Head.{Follows, Tries};
 
-use datatypes::{Ending, Head, Link, Side, StepResult};
+use datatypes::{Ending, Head, Link, Side, Stored};
+use paths::Path;
 
 // Stores a new red node in the link l; one key more is held.
+#[tactic(auto, unfolding(spec::specs::Register::with_held))]
 fn link_new(pool: &mut [u32], h: Head, l: Link, k: u32, v: u64) -> Head
     requires { (length pool.old < pool_limit) × Whole pool.old }
     ensures { Follows (λ st. one_more (set_link (take_node st k v L 0 0 red_colour) l h.first)) pool.old h pool.new result }
 {
     let first = h.first;
-    let taken = queue::take_node(pool, h, k, v, Side::L, 0, 0, pool::RED);
+    let taken = queue::take_as(pool, h, k, v, Side::L, 0, 0, pool::RED, pool::LINKED);
     let mut r = heads::set_link(pool, taken, l, first);
     let capacity = pool::nodes(pool);
     r.held = counts::count_up(capacity, r.held);
@@ -34,25 +36,20 @@ fn link_new(pool: &mut [u32], h: Head, l: Link, k: u32, v: u64) -> Head
 fn end_insert(pool: &mut [u32], root: u32, e: Ending)
     ensures { (q : Register) → q.root ≡ root → pool.new ≡ (end_insert e (state pool.old q)).pool }
 {
-    match e {
-        Ending::Balanced => pool::set_word(pool, root, pool::COLOUR, pool::BLACK),
-        Ending::Blacken => {}
-        Ending::Rotate(_) => {}
-        Ending::RotateTwice(_, _) => {}
-        Ending::Missing => {}
+    if let Ending::Balanced = e {
+        pool::set_word(pool, root, pool::COLOUR, pool::BLACK);
     }
 }
 
 // Inserts under a black parent, or at the root: nothing but the root's colour changes besides.
-fn insert_under_black(pool: &mut [u32], h: Head, l: Link, k: u32, v: u64) -> StepResult
+fn insert_under_black(pool: &mut [u32], h: Head, l: Link, k: u32, v: u64) -> Stored
     requires { (length pool.old < pool_limit) × (is_red pool.old (owner l) ≡ false) × (h.first ≡ 0 → ⊥) × Whole pool.old }
-    ensures { Tries l (Insert k v) pool.old h pool.new result }
+    ensures { Tries l (Insert k v) pool.old h pool.new (Some result) }
 {
     let first = h.first;
     let head = link_new(pool, h, l, k, v);
     pool::set_word(pool, head.root, pool::COLOUR, pool::BLACK);
-    StepResult {
-        found: true,
+    Stored {
         link: l,
         node: first,
         head,
@@ -67,41 +64,40 @@ fn insert_under_black(pool: &mut [u32], h: Head, l: Link, k: u32, v: u64) -> Ste
 //     P r   A r    =>   P b   A b
 //                      /
 //                    z r
-fn insert_under_red(pool: &mut [u32], h: Head, l: Link, k: u32, v: u64) -> StepResult
+fn insert_under_red(pool: &mut [u32], h: Head, l: Link, k: u32, v: u64) -> Option<Stored>
     requires { (length pool.old < pool_limit) × (is_red pool.old (owner l) ≡ true) × (h.first ≡ 0 → ⊥) × Whole pool.old }
     ensures { Tries l (Insert k v) pool.old h pool.new result }
 {
-    let mut path: [u64; numbers::MOST_LINKS] = [0; numbers::MOST_LINKS];
-    let c = paths::path_to(pool, h.root, k, l, &mut path);
-    let fixup_result = fixups::insert_fixup(pool, &path, c, 0);
-    let ending = fixup_result.ending;
-    if fixups::missing(ending) {
-        return heads::missed(h);
+    let mut path = Path::new();
+    paths::path_to(pool, h.root, k, l, &mut path);
+    let fix = fixups::insert_fixup(pool, &path);
+    if !fixups::nodes_found(fix) {
+        return None;
     }
     let first = h.first;
     let head = link_new(pool, h, l, k, v);
-    fixups::paint_insert_fixup(pool, &path, c, fixup_result.levels);
-    end_insert(pool, head.root, ending);
-    StepResult {
-        found: true,
+    fixups::paint_insert_fixup(pool, &path, fix.levels);
+    end_insert(pool, head.root, fix.ending);
+    Some(Stored {
         link: l,
         node: first,
         head,
-    }
+    })
 }
 
 // Inserts: stores a new red node in the empty link l and makes the fix-up's colour work. This is the write's list store.
-pub fn insert(pool: &mut [u32], h: Head, l: Link, k: u32, v: u64) -> StepResult
+#[tactic(auto, using(crate::specs::Inserted::insert_empty))]
+pub fn insert(pool: &mut [u32], h: Head, l: Link, k: u32, v: u64) -> Option<Stored>
     requires { (length pool.old < pool_limit) × Whole pool.old }
     ensures { Tries l (Insert k v) pool.old h pool.new result }
 {
     if h.first == 0 {
-        return heads::missed(h);
+        return None;
     }
     if pool::is_red(pool, links::owner(l)) {
         return insert_under_red(pool, h, l, k, v);
     }
-    insert_under_black(pool, h, l, k, v)
+    Some(insert_under_black(pool, h, l, k, v))
 }
 
 // Delete of B, right child C without left child, first store: stores B's left child in C's left link.
@@ -111,21 +107,21 @@ pub fn insert(pool: &mut [u32], h: Head, l: Link, k: u32, v: u64) -> StepResult
 //      l   C     =>    l   C
 //           \             / \
 //            y           l   y
-pub fn adopt(pool: &mut [u32], h: Head, l: Link) -> StepResult
+#[tactic(auto, unfolding(spec::specs::Turn::step_finds, spec::specs::Turn::step_made, spec::specs::Turn::adopt_store))]
+pub fn adopt(pool: &mut [u32], h: Head, l: Link) -> Option<Stored>
     ensures { Tries l Adopt pool.old h pool.new result }
 {
     let b = pool::node_at(pool, h.root, l);
     let c = pool::child(pool, Side::R, b);
     if c == 0 {
-        return heads::missed(h);
+        return None;
     }
     let x = pool::child(pool, Side::L, b);
     let link = Link::Left(c);
     let head = heads::set_link(pool, h, link, x);
-    StepResult {
-        found: true,
+    Some(Stored {
         link,
         node: x,
         head,
-    }
+    })
 }

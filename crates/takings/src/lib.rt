@@ -11,13 +11,11 @@ fn free_after(pool: &[u32], n: u32, k: usize) -> u32
     ensures { result ≡ free_after (next_free pool.now) n k }
 {
     let mut node = n;
-    let mut left = k;
-    while left > 0 {
+    for _ in 0..k {
         if node == 0 {
             return 0;
         }
         node = pool::word(pool, node, pool::NEXT);
-        left -= 1;
     }
     node
 }
@@ -27,13 +25,11 @@ fn stood(pool: &[u32], n: u32, node: u32, k: usize) -> bool
     ensures { result ≡ stood (next_free pool.now) n node k }
 {
     let mut other = n;
-    let mut j: usize = 0;
-    while j < k {
+    for _ in 0..k {
         if other == node {
             return true;
         }
         other = pool::word(pool, other, pool::NEXT);
-        j += 1;
     }
     false
 }
@@ -43,8 +39,7 @@ fn circle_runs_out(pool: &[u32], n: u32, m: usize) -> bool
     ensures { result ≡ runs_out (next_free pool.now) n m }
 {
     let mut node = n;
-    let mut j: usize = 0;
-    while j < m {
+    for j in 0..m {
         if node == 0 {
             return true;
         }
@@ -52,7 +47,6 @@ fn circle_runs_out(pool: &[u32], n: u32, m: usize) -> bool
             return 1 < m - j;
         }
         node = pool::word(pool, node, pool::NEXT);
-        j += 1;
     }
     false
 }

@@ -1,33 +1,15 @@
-use Prim.Native.Nat.{◌-◌}
-use Rattle.paths.specs.Upward.{upward}
-use Rattle.fixups.specs.DeleteFixups.{paint-delete_fixup-done, paint-delete_fixup-out, paint-delete_fixup-level}
-use borrow.Author.Rules.{rules}
-use native.Mathlib.Omega.{arith}
-use mathlib.Core.Path.{refl, sym, ◌∙◌}
+use Rattle.std.proofs.Common.{sym, ◌∙◌}
+use Rattle.fixups.specs.Levels.{paint_delete_levels-none, paint_delete_levels-level}
 use Rattle.fixups.proofs.paint_delete_levels.Goals as goal
 
-pub loop-e-init : goal.loop-e-init
-loop-e-init c = (search rules, refl, refl)
-
-pub returns-then-d-eq0 : goal.returns-then-d-eq0
-returns-then-d-eq0 c =
-    let l = c.loop-e in
-    sym (paint-delete_fixup-out l.e l.pool c.args.path.now l.d c.if-d-eq0.true) ∙ l.invariant.2
-
-pub loop-e-preserved : goal.loop-e-preserved
-loop-e-preserved c =
-    let l = c.loop-e in
-    let a = c.args in
-    let g = c.loop-e-test.true in
-    let h = c.if-d-eq0.false in (
-      omega arith,
-      search rules,
-      rw (c.set_word.ensures, c.child-w.ensures, c.other.ensures, c.side_of.ensures, c.owner.ensures, c.link_in-l.ensures)
-          (sym (paint-delete_fixup-level l.e (l.e - 1) l.pool a.path.now l.d (omega arith) (omega arith)) ∙ l.invariant.2),
-    )
+pub loop-l-preserved : goal.loop-l-preserved
+loop-l-preserved c =
+    let l = c.loop-l in
+    let t = c.next.new.self in
+    rw (c.set_word.ensures, c.child-w.ensures, c.other.ensures, c.side_of.ensures, c.owner.ensures)
+    (sym (paint_delete_levels-level l.l-iterator.n t.n c.in-Some.l.now t.iter.rest.now l.pool c.in-Some.ensures.steps.1) ∙ rw c.in-Some.ensures.steps.0 at l.invariant)
 
 pub returns : goal.returns
 returns c =
-    let l = c.loop-e in
-    let h = c.loop-e-test.false in
-    sym (paint-delete_fixup-done l.e (upward c.args.path.now l.d) l.pool (omega arith)) ∙ l.invariant.2
+    let l = c.loop-l in
+    sym (paint_delete_levels-none l.l-iterator.n l.l-iterator.iter.rest.now l.pool (λ h. (c.in-None.ensures.steps h).0)) ∙ l.invariant

@@ -1,12 +1,6 @@
-use Prim.Native.Nat.{◌≤◌, ◌+◌, ◌-◌, ◌*◌}
-use lib.ListN.{length}
-use Rattle.fresh.specs.Chained.{Upto}
+use Rattle.std.proofs.Common.{◌≡◌, ℕ, get_or}
 use Rattle.laws.specs.Fresh.{fresh_at}
-use Rattle.spec.specs.Numbers.{node_words}
 use Rattle.fresh.proofs.fresh_pool.Given as goal
 
 abbrev pub invariant-loop-n : goal.invariant-loop-n
-invariant-loop-n l = (1 ≤ l.n) × (l.n ≤ l.capacity + 1) × Upto (length l.initial.pool) (fresh_at (l.capacity + 1)) l.pool (l.n * node_words - node_words)
-
-abbrev pub decreases-loop-n : goal.decreases-loop-n
-decreases-loop-n l = l.capacity + 1 - l.n
+invariant-loop-n l = (j : ℕ) → get_or l.pool j 0 ≡ fresh_at l.n j

@@ -5,13 +5,6 @@ use Rattle.reading_ends.specs.Retired.{standing_back, Past, one-other, one-retir
 use borrow.Author.Rules.{rules}
 use Rattle.reading_ends.proofs.following_retired.Goals as goal
 
-pub returns-then-capacity-from : goal.returns-then-capacity-from
-returns-then-capacity-from c =
-    record {
-      up_to = record { low = omega arith; high = search rules; none = λ i a b. absurd (let z : ⊥ = omega arith in z) };
-      here = λ h. absurd (let z : ⊥ = omega (arith, c.if-capacity-from.true) in z);
-    }
-
 pub returns-then-pool-from-eq-RETIRED : goal.returns-then-pool-from-eq-RETIRED
 returns-then-pool-from-eq-RETIRED c =
     let a = c.args in

@@ -1,12 +1,7 @@
-use Prim.Native.Nat.{◌+◌, ◌-◌, ◌*◌}
-use Rattle.reading_ends.specs.Retired.{standing_back, none_more, one-other, one-retired}
-use borrow.Author.Rules.{rules}
-use native.Mathlib.Omega.{arith}
+use Rattle.std.proofs.Common.{◌+◌, ◌-◌, ◌*◌, rules, arith}
 use Rattle.spec.specs.Numbers.{node_words}
+use Rattle.reading_ends.specs.Retired.{standing_back, none_more, one-other, one-retired}
 use Rattle.reading_ends.proofs.scan_retired.Goals as goal
-
-pub loop-n-init : goal.loop-n-init
-loop-n-init c = record { low = search rules; high = search rules; none = λ i a b. absurd (let z : ⊥ = omega arith in z) }
 
 pub returns-then-pool-n-eq-RETIRED : goal.returns-then-pool-n-eq-RETIRED
 returns-then-pool-n-eq-RETIRED c = let l = c.loop-n in let a = c.args in
@@ -21,7 +16,3 @@ loop-n-preserved c = let l = c.loop-n in let a = c.args in record {
   high = search rules;
   none = none_more a.pool.now a.from l.n (l.n + 1) l.invariant.none (one-other a.pool.now l.n (l.n * node_words - standing_back) (omega arith) (omega arith) c.if-pool-n-eq-RETIRED.false);
 }
-
-pub returns : goal.returns
-returns c = let l = c.loop-n in
-    record { up_to = l.invariant; here = λ h. absurd (let z : ⊥ = omega arith in z) }

@@ -1,12 +1,9 @@
-use mathlib.Core.Path.{◌≡◌}
-use mathlib.Core.Logic.{⊎_elim}
+use Rattle.std.proofs.Common.{arith}
+use Rattle.reading_ends.specs.Retired.{bound-none, bound_more}
 use Rattle.reading_ends.proofs.standings.Goals as goal
 
-pub returns-then-width-eq-WIDE : goal.returns-then-width-eq-WIDE
-returns-then-width-eq-WIDE c = rw c.if-width-eq-WIDE.true c.thirty_two_standings.ensures
+pub loop-k-init : goal.loop-k-init
+loop-k-init g c = bound-none c.args.pool.now c.args.n 0
 
-pub returns : goal.returns
-returns c =
-    let a = c.args in
-    let e : a.width ≡ 8 = ⊎_elim (λ e. e) (λ e. absurd (c.if-width-eq-WIDE.false e)) c.requires.0.either in
-    rw e c.eight_standings.ensures
+pub loop-k-preserved : goal.loop-k-preserved
+loop-k-preserved g c = let l = c.loop-k in bound_more c.args.pool.now c.args.n l.k _ l.most (omega arith) (omega arith) l.invariant

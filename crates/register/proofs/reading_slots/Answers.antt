@@ -1,13 +1,9 @@
 use Rattle.spec.specs.Numbers.{slots, word_bits}
 use Rattle.spec.specs.Register.{reader_of, reading_slots}
 use Rattle.laws.specs.Reading.{halves-end, halves-step, halves-fit}
-use mathlib.Core.Path.{◌≡◌, sym, ◌∙◌}
-use native.Mathlib.Nat.{div-one}
-use native.Mathlib.Omega.{arith}
-use Prim.Native.Nat.{ℕ, ◌+◌, ◌-◌, ◌*◌, ◌/◌, ◌^◌, ◌<◌, ◌≤◌}
+use Rattle.std.proofs.Common.{◌≡◌, sym, ◌∙◌, ℕ, ◌+◌, ◌-◌, ◌*◌, ◌/◌, ◌^◌, ◌<◌, ◌≤◌, div-one, arith}
 use mir.Val.{bool_byte}
 use Rattle.datatypes.specs.declared.Register.{Register}
-use borrow.Author.Rules.{rules}
 use Rattle.register.proofs.reading_slots.Goals as goal
 
 -- one slot down: the mask of the slots above doubled, and the slot's bit; it fits a word
@@ -23,25 +19,16 @@ fits r m s h p e = rw (step r m s h p e) (halves-fit slots r (s - 1) (omega arit
 
 pub loop-s-init : goal.loop-s-init
 unfolding reading_slots
-loop-s-init c = (omega arith, sym (halves-end slots c.args.reg))
+loop-s-init c = sym (halves-end slots c.args.reg.now)
 
 pub overflow_mul-m : goal.overflow_mul-m
-overflow_mul-m c =
-    let l = c.loop-s in
-    let f = fits c.args.reg l.m l.s l.invariant.0 c.loop-s-test.true l.invariant.1 in
-    omega arith
+overflow_mul-m c = let l = c.loop-s in let f = fits c.args.reg.now l.m l.s l.auto.s c.loop-s-test.true l.invariant in omega arith
 
 pub overflow_add-m : goal.overflow_add-m
-overflow_add-m c =
-    let l = c.loop-s in
-    let f = fits c.args.reg l.m l.s l.invariant.0 c.loop-s-test.true l.invariant.1 in
-    omega arith
+overflow_add-m c = let l = c.loop-s in let f = fits c.args.reg.now l.m l.s l.auto.s c.loop-s-test.true l.invariant in omega arith
 
 pub loop-s-preserved : goal.loop-s-preserved
-loop-s-preserved c = let l = c.loop-s in (search rules, step c.args.reg l.m l.s l.invariant.0 c.loop-s-test.true l.invariant.1)
+loop-s-preserved c = let l = c.loop-s in step c.args.reg.now l.m l.s l.auto.s c.loop-s-test.true l.invariant
 
 pub returns : goal.returns
-returns c =
-    let l = c.loop-s in
-    let none : l.s ≡ 0 = (let a = c.loop-s-test.false in omega arith) in
-    l.invariant.1 ∙ rw none (div-one (reading_slots c.args.reg))
+returns c = let l = c.loop-s in let none : l.s ≡ 0 = omega arith in l.invariant ∙ rw none (div-one (reading_slots c.args.reg.now))

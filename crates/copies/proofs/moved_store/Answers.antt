@@ -1,4 +1,0 @@
-use Rattle.copies.proofs.moved_store.Goals as goal
-
-pub returns : goal.returns
-returns c = rw c.moved_link-moved.ensures

@@ -1,4 +1,0 @@
-use Rattle.pool.proofs.child.Goals as goal
-
-pub returns : goal.returns
-returns c = cc
