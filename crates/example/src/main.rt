@@ -74,15 +74,13 @@ fn carry_out(rt: &impl Print, pool: &mut [u32], asked: Reply) -> io::Result<Regi
     if !accepted(rt, answer)? {
         return Ok(reg);
     }
-    let mut turns: u32 = 0;
-    while turns < MOST_TURNS {
+    for _ in 0..MOST_TURNS {
         let reply = index::writer_turn(pool, reg);
         reg = reply.register;
         let answer = reply.answer;
         if !writes_on(rt, answer)? {
             return Ok(reg);
         }
-        turns += 1;
     }
     Ok(reg)
 }
@@ -115,15 +113,13 @@ fn search(rt: &impl Print, pool: &mut [u32], asked: Reply, slot: u32) -> io::Res
     if !accepted(rt, answer)? {
         return Ok(reg);
     }
-    let mut turns: u32 = 0;
-    while turns < MOST_TURNS {
+    for _ in 0..MOST_TURNS {
         let reply = index::reader_turn(pool, reg, slot);
         reg = reply.register;
         let answer = reply.answer;
         if !reads_on(rt, answer)? {
             return Ok(reg);
         }
-        turns += 1;
     }
     Ok(reg)
 }
