@@ -60,8 +60,8 @@ line-bad = refl
 
 letters :
     map letter_of (command.SetUp 8 ∷ command.Insert 3 30 ∷ command.Delete 3 ∷ command.Write ∷ command.Begin 0 1 ∷ command.BeginNext 0 1 ∷ command.Turn 0
-    ∷ command.GiveUp 0 ∷ command.Show ∷ command.Page ∷ command.Ill ∷ [])
-    ≡ text "PIDWBSRETL-"
+    ∷ command.GiveUp 0 ∷ command.Show ∷ command.Page ∷ [])
+    ≡ text "PIDWBSRETL"
 letters = refl
 
 line-page : line_of 15 (letter_of command.Page) ok ≡ text "15\tL\tok\t-\t-\n"

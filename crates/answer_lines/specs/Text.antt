@@ -3,6 +3,7 @@ use Rattle.std.specs.Prelude.{ℕ, List, [], ◌∷◌, ◌++◌}
 use Prim.Native.Char.{code}
 use Rattle.datatypes.specs.declared.Link.{Link}
 use Rattle.datatypes.specs.declared.Link.TheVariants.{Root, Left, Right}
+use Rattle.datatypes.specs.Refusals.{number_of}
 use Rattle.spec.specs.Calls.{Answer, ok, go, absent, wait, found, next, more, done, refused}
 use Rattle.command_fields.specs.declared.Command.{Command}
 use Rattle.command_fields.specs.declared.Command.TheVariants as command
@@ -43,7 +44,6 @@ letter_of (command.Turn s) = code "R"
 letter_of (command.GiveUp s) = code "E"
 letter_of command.Show = code "T"
 letter_of command.Page = code "L"
-letter_of command.Ill = code "-"
 
 -- a call's line: call number, letter, and its answer
 unfoldable pub line_of : (number letter : ℕ) → Answer → List ℕ
@@ -63,4 +63,4 @@ says (said.Found v) = found v
 says (said.Next k v) = next k v
 says (said.More l n) = more l n
 says (said.Done l n) = done l n
-says (said.No n) = refused n
+says (said.No e) = refused (number_of e)

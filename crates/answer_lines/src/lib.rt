@@ -10,7 +10,7 @@ ghost use Rattle.texts.specs.Line.{line, room};
 ghost use Rattle.answer_lines.specs.Text.{letter_of, link_text, answer_fields, says, line_of, bad_line};
 
 use command_fields::Command;
-use datatypes::{Acceptance, Link, ReaderAnswer, WriterAnswer};
+use datatypes::{Acceptance, Link, ReaderAnswer, Refusal, WriterAnswer};
 
 // What a call answers: the cases of Answer (crate spec, Calls).
 #[derive(Clone, Copy)]
@@ -23,41 +23,44 @@ pub enum Said {
     Next(u32, u64),
     More(Link, u32),
     Done(Link, u32),
-    No(u32),
+    No(Refusal),
 }
 
-// Answers what an acceptance says.
-pub fn acceptance_said(a: Acceptance) -> Said
-    ensures { says result ≡ accepts a }
-{
-    match a {
-        Acceptance::Accepted => Said::Ok,
-        Acceptance::Refused(n) => Said::No(n),
+impl From<Acceptance> for Said {
+    ghost from_gives = { λ a said. says said ≡ accepts a };
+
+    fn from(a: Acceptance) -> Said {
+        match a {
+            Ok(()) => Said::Ok,
+            Err(why) => Said::No(why),
+        }
     }
 }
 
-// Answers what a writer's turn says.
-pub fn writer_said(a: WriterAnswer) -> Said
-    ensures { says result ≡ writer_says a }
-{
-    match a {
-        WriterAnswer::More(l, n) => Said::More(l, n),
-        WriterAnswer::Done(l, n) => Said::Done(l, n),
-        WriterAnswer::Wait => Said::Wait,
-        WriterAnswer::Refused(n) => Said::No(n),
+impl From<WriterAnswer> for Said {
+    ghost from_gives = { λ a said. says said ≡ writer_says a };
+
+    fn from(a: WriterAnswer) -> Said {
+        match a {
+            WriterAnswer::More(l, n) => Said::More(l, n),
+            WriterAnswer::Done(l, n) => Said::Done(l, n),
+            WriterAnswer::Wait => Said::Wait,
+            WriterAnswer::Refused(why) => Said::No(why),
+        }
     }
 }
 
-// Answers what a reader's turn says.
-pub fn reader_said(a: ReaderAnswer) -> Said
-    ensures { says result ≡ reader_says a }
-{
-    match a {
-        ReaderAnswer::Go => Said::Go,
-        ReaderAnswer::Found(v) => Said::Found(v),
-        ReaderAnswer::Next(k, v) => Said::Next(k, v),
-        ReaderAnswer::Absent => Said::Absent,
-        ReaderAnswer::Refused(n) => Said::No(n),
+impl From<ReaderAnswer> for Said {
+    ghost from_gives = { λ a said. says said ≡ reader_says a };
+
+    fn from(a: ReaderAnswer) -> Said {
+        match a {
+            ReaderAnswer::Go => Said::Go,
+            ReaderAnswer::Found(v) => Said::Found(v),
+            ReaderAnswer::Next(k, v) => Said::Next(k, v),
+            ReaderAnswer::Absent => Said::Absent,
+            ReaderAnswer::Refused(why) => Said::No(why),
+        }
     }
 }
 
@@ -76,13 +79,14 @@ pub fn letter_of(c: Command) -> u8
         Command::GiveUp(_) => b'E',
         Command::Show => b'T',
         Command::Page => b'L',
-        Command::Ill => b'-',
     }
 }
 
 // Each writer below puts its text into out from position at on and answers the next position, as those of texts do.
+// kept: a buffer with a position beside it, since README names put_page and put_sheet in this form.
 
 // a node's link, its side as `.L` or `.R`
+#[tactic(auto, using(texts::proofs::Fields::fields))]
 fn side_field(out: &mut [u8], at: usize, n: u32, side: &[u8]) -> usize
     requires { at + 11 + length side.now ≤ length out.old }
     ensures put { Put out.old at ((decimal n ++ side.now) ++ (tab ∷ [])) out.new result }
@@ -92,6 +96,7 @@ fn side_field(out: &mut [u8], at: usize, n: u32, side: &[u8]) -> usize
     texts::text_field(out, next, side, texts::TAB)
 }
 
+#[tactic(auto, using(texts::proofs::Fields::fields), unfolding(crate::specs::Text::link_text))]
 fn link_field(out: &mut [u8], at: usize, l: Link) -> usize
     requires { at + 13 ≤ length out.old }
     ensures put { Put out.old at (link_text l ++ (tab ∷ [])) out.new result }
@@ -105,6 +110,7 @@ fn link_field(out: &mut [u8], at: usize, l: Link) -> usize
 }
 
 // An answer's fields: a word with two unused ones, with a number in the last, with two numbers, and with a link and its new node.
+#[tactic(auto, using(texts::proofs::Fields::fields))]
 fn plain(out: &mut [u8], at: usize, word: &[u8]) -> usize
     requires { at + length word.now + 5 ≤ length out.old }
     ensures { Put out.old at (line (word.now ∷ text "-" ∷ text "-" ∷ [])) out.new result }
@@ -114,6 +120,7 @@ fn plain(out: &mut [u8], at: usize, word: &[u8]) -> usize
     texts::text_field(out, last, b"-", texts::NEWLINE)
 }
 
+#[tactic(auto, using(texts::proofs::Fields::fields))]
 fn numbered(out: &mut [u8], at: usize, word: &[u8], n: u64) -> usize
     requires { at + length word.now + 24 ≤ length out.old }
     ensures { Put out.old at (line (word.now ∷ text "-" ∷ decimal n ∷ [])) out.new result }
@@ -123,6 +130,7 @@ fn numbered(out: &mut [u8], at: usize, word: &[u8], n: u64) -> usize
     texts::number_field(out, last, n, texts::NEWLINE)
 }
 
+#[tactic(auto, using(texts::proofs::Fields::fields))]
 fn ticket(out: &mut [u8], at: usize, word: &[u8], k: u32, v: u64) -> usize
     requires { at + length word.now + 33 ≤ length out.old }
     ensures { Put out.old at (line (word.now ∷ decimal k ∷ decimal v ∷ [])) out.new result }
@@ -132,6 +140,7 @@ fn ticket(out: &mut [u8], at: usize, word: &[u8], k: u32, v: u64) -> usize
     texts::number_field(out, last, v, texts::NEWLINE)
 }
 
+#[tactic(auto, using(texts::proofs::Fields::fields))]
 fn linked(out: &mut [u8], at: usize, word: &[u8], l: Link, n: u32) -> usize
     requires { at + length word.now + 25 ≤ length out.old }
     ensures { Put out.old at (line (word.now ∷ link_text l ∷ decimal n ∷ [])) out.new result }
@@ -155,11 +164,12 @@ fn put_said(out: &mut [u8], at: usize, a: Said) -> usize
         Said::Next(k, v) => ticket(out, at, b"found", k, v),
         Said::More(l, n) => linked(out, at, b"more", l, n),
         Said::Done(l, n) => linked(out, at, b"done", l, n),
-        Said::No(n) => numbered(out, at, b"no", n as u64),
+        Said::No(why) => numbered(out, at, b"no", u32::from(why) as u64),
     }
 }
 
 // Writes the line of a call: its number, its letter and its answer. Each line of trace asks for room enough for any of them.
+#[tactic(auto, using(texts::proofs::Fields::fields))]
 pub fn write_line(out: &mut [u8], at: usize, number: u64, letter: u8, a: Said) -> usize
     requires { at + room ≤ length out.old }
     ensures { Put out.old at (line_of number letter (says a)) out.new result }
@@ -171,6 +181,7 @@ pub fn write_line(out: &mut [u8], at: usize, number: u64, letter: u8, a: Said) -
 }
 
 // Writes the line of an ill-formed command.
+#[tactic(auto, using(texts::proofs::Fields::fields), unfolding(crate::specs::Text::bad_line))]
 pub fn write_bad(out: &mut [u8], at: usize, number: u64) -> usize
     requires { at + room ≤ length out.old }
     ensures { Put out.old at (bad_line number) out.new result }

@@ -18,7 +18,6 @@ pub enum Command {
     GiveUp(u32),
     Show,
     Page,
-    Ill,
 }
 
 // A field so far: no byte, digits that make a number, or anything else.
@@ -30,6 +29,7 @@ pub enum Field {
 }
 
 // Answers a field's number after one digit more.
+#[tactic(auto, unfolding(crate::specs::Taken::with_digit))]
 fn with_digit(v: u64, b: u8) -> Field
     requires { (48 ≤ b) × (b ≤ 57) }
     ensures { result ≡ with_digit v b }
@@ -42,13 +42,11 @@ fn with_digit(v: u64, b: u8) -> Field
 }
 
 // Answers a field after one byte more.
+#[tactic(auto, unfolding(crate::specs::Taken::field_taken, crate::specs::Commands::is_digit))]
 pub fn field_taken(f: Field, b: u8) -> Field
     ensures { result ≡ field_taken f b }
 {
-    if b < b'0' {
-        return Field::Wrong;
-    }
-    if b'9' < b {
+    if !matches!(b, b'0'..=b'9') {
         return Field::Wrong;
     }
     match f {
@@ -58,65 +56,47 @@ pub fn field_taken(f: Field, b: u8) -> Field
     }
 }
 
-// Answers the command of a letter alone.
-pub fn with_none(l: u8) -> Command
+// Answers the command of a letter alone, if there is one.
+#[tactic(auto, unfolding(crate::specs::Commands::with_none))]
+pub fn with_none(l: u8) -> Option<Command>
     ensures { result ≡ with_none l }
 {
-    if l == b'W' {
-        return Command::Write;
+    match l {
+        b'W' => Some(Command::Write),
+        b'T' => Some(Command::Show),
+        b'L' => Some(Command::Page),
+        _ => None,
     }
-    if l == b'T' {
-        return Command::Show;
-    }
-    if l == b'L' {
-        return Command::Page;
-    }
-    Command::Ill
 }
 
 // Answers the command of a letter and one number.
-pub fn with_one(l: u8, a: u64) -> Command
+#[tactic(auto, unfolding(crate::specs::Commands::with_one))]
+pub fn with_one(l: u8, a: u64) -> Option<Command>
     ensures { result ≡ with_one l a }
 {
-    if numbers::WORD_LIMIT <= a {
-        return Command::Ill;
+    let n = u32::try_from(a).ok()?;
+    match l {
+        b'P' => Some(Command::SetUp(n)),
+        b'D' => Some(Command::Delete(n)),
+        b'R' => Some(Command::Turn(n)),
+        b'E' => Some(Command::GiveUp(n)),
+        _ => None,
     }
-    let n = a as u32;
-    if l == b'P' {
-        return Command::SetUp(n);
-    }
-    if l == b'D' {
-        return Command::Delete(n);
-    }
-    if l == b'R' {
-        return Command::Turn(n);
-    }
-    if l == b'E' {
-        return Command::GiveUp(n);
-    }
-    Command::Ill
 }
 
 // Answers the command of a letter and two numbers.
-pub fn with_two(l: u8, a: u64, b: u64) -> Command
+#[tactic(auto, unfolding(crate::specs::Commands::with_two))]
+pub fn with_two(l: u8, a: u64, b: u64) -> Option<Command>
     ensures { result ≡ with_two l a b }
 {
-    if numbers::WORD_LIMIT <= a {
-        return Command::Ill;
-    }
-    let first = a as u32;
+    let first = u32::try_from(a).ok()?;
     if l == b'I' {
-        return Command::Insert(first, b);
+        return Some(Command::Insert(first, b));
     }
-    if numbers::WORD_LIMIT <= b {
-        return Command::Ill;
+    let second = u32::try_from(b).ok()?;
+    match l {
+        b'B' => Some(Command::Begin(first, second)),
+        b'S' => Some(Command::BeginNext(first, second)),
+        _ => None,
     }
-    let second = b as u32;
-    if l == b'B' {
-        return Command::Begin(first, second);
-    }
-    if l == b'S' {
-        return Command::BeginNext(first, second);
-    }
-    Command::Ill
 }

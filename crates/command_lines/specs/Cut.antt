@@ -1,5 +1,5 @@
 -- The input cut into lines: what its bytes from a position on give, up to the first newline or to their end.
-use Rattle.std.specs.Prelude.{ℕ, suc, ◌+◌, ◌<◌, ◌≤◌, ◌≡◌, Bool, true, false, cond, not, ◌&&◌, List, [], ◌∷◌, ◌++◌, eqb, length, get_or, drop}
+use Rattle.std.specs.Prelude.{ℕ, suc, ◌+◌, ◌<◌, ◌≤◌, ◌≡◌, Bool, true, false, cond, not, ◌&&◌, List, [], ◌∷◌, ◌++◌, Option, eqb, length, get_or, drop}
 use Rattle.std.proofs.Math.Path.{refl}
 use Rattle.std.proofs.Common.{◌∙◌, add-zero, arith, drop_of_length-le, length-drop, drop-cons}
 use Rattle.std.proofs.lemmas.Bool.{false≢true}
@@ -18,7 +18,7 @@ use Rattle.command_fields.specs.Taken.{field_taken}
 use Rattle.command_lines.specs.Machine.{byte_taken, tab_taken, taken, finished, all_taken, reads}
 
 -- a whole line's command and the position after its newline; the line so far and the position of the end
-abbrev pub whole : Command → ℕ → Scanned
+abbrev pub whole : Option Command → ℕ → Scanned
 whole c n = record { piece = Whole c; next = n }
 
 abbrev pub part : Reading → ℕ → Scanned

@@ -1,12 +1,10 @@
 -- A line is read a byte at a time. Theorem `reads`: what has been read when all its bytes are taken is the command that they are.
-use Rattle.std.specs.Prelude.{ℕ, ◌+◌, ◌*◌, ◌-◌, ◌<◌, ◌≤◌, ◌≡◌, refl, Bool, true, false, cond, ◌&&◌, List, [], ◌∷◌, map, eqb, ltb}
+use Rattle.std.specs.Prelude.{ℕ, ◌+◌, ◌*◌, ◌-◌, ◌<◌, ◌≤◌, ◌≡◌, refl, Bool, true, false, cond, ◌&&◌, List, [], ◌∷◌, map, Option, None, Some, eqb, ltb}
 use Prim.Native.Char.{code}
 use Rattle.std.proofs.Common.{◌∙◌, arith, lit<, lt-ltb, le-ltb, ltb-true, ltb-false}
 use Rattle.std.proofs.Math.Bool.{and-false}
-use Rattle.std.proofs.Math.Option.{Option, none, some}
 use Rattle.base.specs.Walk.{cond_both}
 use Rattle.command_fields.specs.declared.Command.{Command}
-use Rattle.command_fields.specs.declared.Command.TheVariants as command
 use Rattle.command_fields.specs.declared.Field.{Field}
 use Rattle.command_fields.specs.declared.Field.TheVariants.{Empty, Number, Wrong}
 use Rattle.command_lines.specs.declared.Reading.{Reading}
@@ -36,16 +34,16 @@ taken r b = cond (eqb b tab) (tab_taken r) (byte_taken r b)
 
 -- what was read when the line ends
 abbrev pub number_read : Field → Option ℕ
-number_read Empty = none
-number_read (Number v) = some v
-number_read Wrong = none
+number_read Empty = None
+number_read (Number v) = Some v
+number_read Wrong = None
 
-abbrev pub finished : Reading → Command
-finished Fresh = command.Ill
+abbrev pub finished : Reading → Option Command
+finished Fresh = None
 finished (Letter l) = of_numbers l []
 finished (One l f) = of_numbers l (number_read f ∷ [])
 finished (Two l f g) = of_numbers l (number_read f ∷ (number_read g ∷ []))
-finished Ill = command.Ill
+finished Ill = None
 
 -- all bytes of a field, and of a line, from what was read before
 unfoldable pub field_read : Field → List ℕ → Field
@@ -57,10 +55,10 @@ all_taken r [] = r
 all_taken r (b ∷ bs) = all_taken (taken r b) bs
 
 -- A field's number.
-wrong_stays : (bs : List ℕ) → number_read (field_read Wrong bs) ≡ none
+wrong_stays : (bs : List ℕ) → number_read (field_read Wrong bs) ≡ None
 unfolding field_read field_taken
 wrong_stays [] = refl
-wrong_stays (b ∷ bs) = cond_both (λ f. number_read (field_read f bs) ≡ none) (is_digit b) (wrong_stays bs) (wrong_stays bs)
+wrong_stays (b ∷ bs) = cond_both (λ f. number_read (field_read f bs) ≡ None) (is_digit b) (wrong_stays bs) (wrong_stays bs)
 
 value_grows : (bs : List ℕ) (v : ℕ) → v ≤ value_after v bs
 unfolding value_after
@@ -69,7 +67,7 @@ value_grows (b ∷ bs) v = omega (arith, value_grows bs (v * 10 + (b - code "0")
 
 -- the number of v's digits followed by these
 abbrev number_after : ℕ → List ℕ → Option ℕ
-number_after v bs = cond (all_digits bs && ltb (value_after v bs) record_limit) (some (value_after v bs)) none
+number_after v bs = cond (all_digits bs && ltb (value_after v bs) record_limit) (Some (value_after v bs)) None
 
 number-after : (bs : List ℕ) (v : ℕ) → v < record_limit → number_read (field_read (Number v) bs) ≡ number_after v bs
 unfolding field_read field_taken with_digit all_digits value_after
@@ -97,12 +95,12 @@ number_read_lem (b ∷ bs) = number-after (b ∷ bs) 0 (lit< tt)
 abbrev numbers_of : List ℕ → List (Option ℕ)
 numbers_of bs = map number_of (other_fields bs)
 
-abbrev said : Reading → List ℕ → Command
+abbrev said : Reading → List ℕ → Option Command
 said Fresh bs = command_of bs
 said (Letter l) bs = of_fields (l ∷ first_field bs) (numbers_of bs)
 said (One l f) bs = of_numbers l (number_read (field_read f (first_field bs)) ∷ numbers_of bs)
 said (Two l f g) bs = of_numbers l (number_read f ∷ (number_read (field_read g (first_field bs)) ∷ numbers_of bs))
-said Ill bs = command.Ill
+said Ill bs = None
 
 -- one byte less to come, one byte more taken
 said-next : (r : Reading) (b : ℕ) (bs : List ℕ) → said (taken r b) bs ≡ said r (b ∷ bs)

@@ -1,7 +1,8 @@
 // A line of the program trace as a command, read field by field.
 #![tactic(auto)]
 
-ghost use Rattle.std.specs.Prelude.{◌≡◌, ◌≤◌, length};
+ghost use Rattle.std.specs.Prelude.{◌≡◌, ◌==◌, ◌≤◌, length, position};
+ghost use Rattle.texts.specs.Ascii.{newline};
 ghost use Rattle.command_lines.specs.declared.Reading.TheVariants.{Fresh, Letter, One, Two, Ill};
 ghost use Rattle.command_lines.specs.Machine.{finished};
 ghost use Rattle.command_lines.specs.Cut.{cut_from, Onward, Ends};
@@ -26,34 +27,29 @@ pub fn start() -> Reading
 }
 
 // a letter with one field, and with two
-fn one_read(l: u8, f: Field) -> Command
+fn one_read(l: u8, f: Field) -> Option<Command>
     ensures { result ≡ finished (One l f) }
 {
     match f {
-        Field::Empty => Command::Ill,
         Field::Number(a) => command_fields::with_one(l, a),
-        Field::Wrong => Command::Ill,
+        _ => None,
     }
 }
 
-fn two_read(l: u8, f: Field, g: Field) -> Command
+fn two_read(l: u8, f: Field, g: Field) -> Option<Command>
     ensures { result ≡ finished (Two l f g) }
 {
-    match f {
-        Field::Empty => Command::Ill,
-        Field::Number(a) => match g {
-            Field::Empty => Command::Ill,
-            Field::Number(b) => command_fields::with_two(l, a, b),
-            Field::Wrong => Command::Ill,
-        },
-        Field::Wrong => Command::Ill,
+    match (f, g) {
+        (Field::Number(a), Field::Number(b)) => command_fields::with_two(l, a, b),
+        _ => None,
     }
 }
 
-// What the input gives up to its next newline or its end: a whole line's command, or the line so far; and the position after it.
+// What the input gives up to its next newline or its end: a whole line's command, none if it is ill-formed, or the line so far;
+// and the position after it.
 #[derive(Clone, Copy)]
 pub enum Piece {
-    Whole(Command),
+    Whole(Option<Command>),
     Part(Reading),
 }
 
@@ -71,25 +67,31 @@ struct Passed {
 }
 
 // a field's bytes, up to a tab, a newline or the input's end
+#[tactic(auto, using(crate::proofs::Cuts::onward))]
 fn field_on(input: &[u8], from: usize, f: Field) -> Passed
     requires { from ≤ length input.now }
     ensures onward { Onward input.now f from result.field result.next }
     ensures ends { Ends input.now result.next }
 {
     let mut field = f;
-    let mut i = from;
-    while i < input.len() {
+    for i in from..input.len() {
         let b = input[i];
-        if b == texts::TAB {
-            return Passed { field, next: i };
-        }
-        if b == texts::NEWLINE {
+        if b == texts::TAB || b == texts::NEWLINE {
             return Passed { field, next: i };
         }
         field = command_fields::field_taken(field, b);
-        i += 1;
     }
-    Passed { field, next: i }
+    Passed {
+        field,
+        next: input.len(),
+    }
+}
+
+// where the next newline stands among these bytes
+fn newline_in(bytes: &[u8]) -> Option<usize>
+    ensures { result ≡ position (λ b. b == newline) bytes.now }
+{
+    bytes.iter().position(|b| *b == texts::NEWLINE)
 }
 
 // What the input gives after each reading.
@@ -97,25 +99,24 @@ fn ill_on(input: &[u8], from: usize) -> Scanned
     requires { from ≤ length input.now }
     ensures { result ≡ cut_from input.now from Ill }
 {
-    let mut i = from;
-    while i < input.len() {
-        if input[i] == texts::NEWLINE {
-            let piece = Piece::Whole(Command::Ill);
-            return Scanned { piece, next: i + 1 };
-        }
-        i += 1;
+    match newline_in(&input[from..]) {
+        Some(k) => Scanned {
+            piece: Piece::Whole(None),
+            next: from + k + 1,
+        },
+        None => Scanned {
+            piece: Piece::Part(Reading::Ill),
+            next: input.len(),
+        },
     }
-    let piece = Piece::Part(Reading::Ill);
-    Scanned { piece, next: i }
 }
 
+#[tactic(auto, using(crate::proofs::Cuts::cuts))]
 fn two_on(input: &[u8], from: usize, l: u8, f: Field, g: Field) -> Scanned
     requires { from ≤ length input.now }
     ensures { result ≡ cut_from input.now from (Two l f g) }
 {
-    let passed = field_on(input, from, g);
-    let field = passed.field;
-    let i = passed.next;
+    let Passed { field, next: i } = field_on(input, from, g);
     if i == input.len() {
         let piece = Piece::Part(Reading::Two(l, f, field));
         return Scanned { piece, next: i };
@@ -127,13 +128,12 @@ fn two_on(input: &[u8], from: usize, l: u8, f: Field, g: Field) -> Scanned
     ill_on(input, i + 1)
 }
 
+#[tactic(auto, using(crate::proofs::Cuts::cuts))]
 fn one_on(input: &[u8], from: usize, l: u8, f: Field) -> Scanned
     requires { from ≤ length input.now }
     ensures { result ≡ cut_from input.now from (One l f) }
 {
-    let passed = field_on(input, from, f);
-    let field = passed.field;
-    let i = passed.next;
+    let Passed { field, next: i } = field_on(input, from, f);
     if i == input.len() {
         let piece = Piece::Part(Reading::One(l, field));
         return Scanned { piece, next: i };
@@ -145,6 +145,7 @@ fn one_on(input: &[u8], from: usize, l: u8, f: Field) -> Scanned
     two_on(input, i + 1, l, field, Field::Empty)
 }
 
+#[tactic(auto, using(crate::proofs::Cuts::cuts))]
 fn letter_on(input: &[u8], from: usize, l: u8) -> Scanned
     requires { from ≤ length input.now }
     ensures { result ≡ cut_from input.now from (Letter l) }
@@ -167,6 +168,7 @@ fn letter_on(input: &[u8], from: usize, l: u8) -> Scanned
     ill_on(input, from + 1)
 }
 
+#[tactic(auto, using(crate::proofs::Cuts::cuts))]
 fn fresh_on(input: &[u8], from: usize) -> Scanned
     requires { from ≤ length input.now }
     ensures { result ≡ cut_from input.now from Fresh }
@@ -177,7 +179,7 @@ fn fresh_on(input: &[u8], from: usize) -> Scanned
     }
     let b = input[from];
     if b == texts::NEWLINE {
-        let piece = Piece::Whole(Command::Ill);
+        let piece = Piece::Whole(None);
         return Scanned {
             piece,
             next: from + 1,

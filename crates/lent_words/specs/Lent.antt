@@ -19,7 +19,6 @@ tried_words lent (command.Turn s) = lent
 tried_words lent (command.GiveUp s) = lent
 tried_words lent command.Show = lent
 tried_words lent command.Page = lent
-tried_words lent command.Ill = lent
 
 -- a refused P keeps the pool there was
 abbrev pub kept_words : (lent tried : ℕ) → Answer → ℕ
@@ -49,7 +48,6 @@ tried-fits lent (command.Turn s) h = h
 tried-fits lent (command.GiveUp s) h = h
 tried-fits lent command.Show h = h
 tried-fits lent command.Page h = h
-tried-fits lent command.Ill h = h
 
 pub kept-fits : (lent tried : ℕ) (a : Answer) → lent ≤ pool_limit → tried ≤ pool_limit → kept_words lent tried a ≤ pool_limit
 kept-fits lent tried ok h g = g

@@ -12,22 +12,19 @@ use command_fields::Command;
 pub fn tried_words(lent: usize, c: Command) -> usize
     ensures { result ≡ tried_words lent c }
 {
-    if let Command::SetUp(n) = c {
-        let nodes = n as usize;
-        if nodes <= numbers::MOST_NODES {
-            return nodes * numbers::NODE_WORDS;
-        }
-        return numbers::POOL_WORDS;
+    match c {
+        Command::SetUp(n) if n as usize <= numbers::MOST_NODES => n as usize * numbers::NODE_WORDS,
+        Command::SetUp(_) => numbers::POOL_WORDS,
+        _ => lent,
     }
-    lent
 }
 
 // Answers how many words stay lent: a refused P keeps the pool there was.
 pub fn kept_words(lent: usize, tried: usize, said: Said) -> usize
     ensures { result ≡ kept_words lent tried (says said) }
 {
-    if let Said::No(_) = said {
-        return lent;
+    match said {
+        Said::No(_) => lent,
+        _ => tried,
     }
-    tried
 }

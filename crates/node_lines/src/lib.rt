@@ -9,6 +9,7 @@ ghost use Rattle.texts.specs.Line.{room};
 ghost use Rattle.node_lines.specs.Shown.{node_shown};
 
 // three numbers, each with the byte that ends its field
+#[tactic(auto, using(texts::proofs::Fields::fields))]
 fn put_three(out: &mut [u8], at: usize, a: u32, b: u32, c: u64, end: u8) -> usize
     requires { at + 43 ≤ length out.old }
     ensures put { Put out.old at (decimal a ++ (tab ∷ decimal b ++ (tab ∷ decimal c ++ (end ∷ [])))) out.new result }
@@ -20,6 +21,7 @@ fn put_three(out: &mut [u8], at: usize, a: u32, b: u32, c: u64, end: u8) -> usiz
 }
 
 // Writes T's line of a node, if it is linked.
+#[tactic(auto, using(crate::specs::Shown::put_six), unfolding(crate::specs::Shown::node_shown, crate::specs::Shown::node_line))]
 pub fn write_node(out: &mut [u8], at: usize, pool: &[u32], n: u32) -> usize
     requires { at + room ≤ length out.old }
     ensures { Put out.old at (node_shown pool.now n) out.new result }

@@ -42,8 +42,10 @@ fn colour_letter(pool: &[u32], n: u32) -> u8
 }
 
 // Each writer below puts its text into out from position at on and answers the next position, as those of texts do.
+// kept: a buffer with a position beside it, since README names put_page and put_sheet in this form.
 
 // the columns of node, key and record
+#[tactic(auto, using(texts::proofs::Fields::fields), unfolding(crate::specs::Sheets::ticket_columns, crate::specs::Page::column))]
 fn put_ticket(out: &mut [u8], at: usize, n: u32, k: u32, v: u64) -> usize
     requires { at + ticket_bytes ≤ length out.old }
     ensures put { Put out.old at (ticket_columns (decimal n) (decimal k) (decimal v)) out.new result }
@@ -55,6 +57,7 @@ fn put_ticket(out: &mut [u8], at: usize, n: u32, k: u32, v: u64) -> usize
 }
 
 // the columns of colour, left and right, and the newline
+#[tactic(auto, using(texts::proofs::Fields::fields), unfolding(crate::specs::Sheets::link_columns, crate::specs::Page::column, texts::specs::Column::right_in))]
 fn put_links(out: &mut [u8], at: usize, colour: u8, left: u32, right: u32) -> usize
     requires { at + link_bytes ≤ length out.old }
     ensures { Put out.old at (link_columns (colour ∷ []) (decimal left) (decimal right)) out.new result }
@@ -85,15 +88,14 @@ fn put_lines(out: &mut [u8], at: usize, pool: &[u32], ranks: &[u64]) -> usize
     ensures { Put out.old at (lines_of pool.now (map node_of ranks.now)) out.new result }
 {
     let mut next = at;
-    let mut i: usize = 0;
-    while i < ranks.len() {
-        next = put_line(out, next, pool, page_order::node_of(ranks[i]));
-        i += 1;
+    for rank in ranks {
+        next = put_line(out, next, pool, page_order::node_of(*rank));
     }
     next
 }
 
 // the form feed, on a page's first sheet nothing
+#[tactic(auto, using(crate::proofs::Parts::nothing), unfolding(crate::specs::Sheets::sheet_feed))]
 fn put_feed(out: &mut [u8], at: usize, last: u64) -> usize
     requires { at < length out.old }
     ensures { Put out.old at (sheet_feed last) out.new result }
@@ -104,6 +106,7 @@ fn put_feed(out: &mut [u8], at: usize, last: u64) -> usize
     texts::put_byte(out, at, FORM_FEED)
 }
 
+#[tactic(auto, using(crate::proofs::Parts::head), unfolding(crate::specs::Sheets::sheet_head, crate::specs::Page::head_line, crate::specs::Page::columns, crate::specs::Page::column, texts::specs::Column::right_in))]
 fn put_head(out: &mut [u8], at: usize, last: u64) -> usize
     requires { at + length (sheet_head last) ≤ length out.old }
     ensures { Put out.old at (sheet_head last) out.new result }
@@ -118,14 +121,11 @@ fn put_head(out: &mut [u8], at: usize, last: u64) -> usize
 }
 
 // the last of these ranks; of none, the one given
+#[tactic(auto, using(crate::proofs::Parts::last_rank))]
 fn last_rank(ranks: &[u64], last: u64) -> u64
     ensures { result ≡ last_or last ranks.now }
 {
-    let count = ranks.len();
-    if count == 0 {
-        return last;
-    }
-    ranks[count - 1]
+    ranks.last().copied().unwrap_or(last)
 }
 
 // A sheet put into a buffer: the position after it, and the rank of its last line.
@@ -137,6 +137,7 @@ pub struct Sheet {
 
 // Puts the page's sheet after the line of rank `last`, or its first sheet if that is 0. The ranks of its lines, 60 at most, are found by one walk
 // over the pool's nodes: there is no buffer of all nodes. By theorem page-sheets (specs, Sheets) the sheets put together are the page.
+#[tactic(auto, using(crate::proofs::Parts::sheet), unfolding(crate::specs::Sheets::sheet_after, crate::specs::Sheets::last_after))]
 pub fn put_sheet(out: &mut [u8], at: usize, pool: &[u32], last: u64) -> Sheet
     requires { (length pool.now ≤ pool_limit) × (at + length (sheet_after pool.now last) ≤ length out.old) }
     ensures put { Put out.old at (sheet_after pool.now last) out.new result.next }
@@ -151,16 +152,13 @@ pub fn put_sheet(out: &mut [u8], at: usize, pool: &[u32], last: u64) -> Sheet
 }
 
 // Answers how many sheets the page has: at least one, which for an empty index has the head alone.
+#[tactic(auto, using(crate::proofs::Parts::count), unfolding(crate::specs::Sheets::sheets))]
 pub fn sheets(pool: &[u32]) -> usize
     requires { length pool.now ≤ pool_limit }
     ensures value { result ≡ sheets pool.now }
     ensures upper_bound { result ≤ most_sheets }
 {
-    let lines = page_order::lines(pool);
-    if lines == 0 {
-        return 1;
-    }
-    (lines - 1) / SHEET_LINES + 1
+    page_order::lines(pool).saturating_sub(1) / SHEET_LINES + 1
 }
 
 // Puts the whole page.
@@ -168,14 +166,12 @@ pub fn put_page(out: &mut [u8], at: usize, pool: &[u32]) -> usize
     requires { (length pool.now ≤ pool_limit) × (at + length (page pool.now) ≤ length out.old) }
     ensures { Put out.old at (page pool.now) out.new result }
 {
-    let mut left = sheets(pool);
     let mut next = at;
     let mut last: u64 = 0;
-    while 0 < left {
+    for _sheet in 0..sheets(pool) {
         let sheet = put_sheet(out, next, pool, last);
         next = sheet.next;
         last = sheet.last;
-        left -= 1;
     }
     next
 }

@@ -117,3 +117,5 @@ module _ {a : List ℕ} {at width n v : ℕ} {b : List ℕ} (i : ℕ) (d : Digit
         within = rw d.long d.room;
         bytes = (rw m at d.bytes) ∙ ap (λ t. take at a ++ t) (rw (m, right-nothing (decimal v)) at d.whole);
       }
+
+pub ruleset widths = (right-length)

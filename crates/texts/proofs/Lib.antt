@@ -1,1 +1,3 @@
 pub mod Column
+pub mod Digits
+pub mod Fields

@@ -14,6 +14,7 @@ pub const NEWLINE: u8 = b'\n';
 const BLANK: u8 = b' ';
 
 // Each writer below puts its text into out from position at on and answers the next position (specs, Put); the caller sees to the room.
+// kept: a buffer with a position beside it, since README names put_page and put_sheet in this form.
 
 // Puts one byte.
 pub fn put_byte(out: &mut [u8], at: usize, b: u8) -> usize
@@ -33,6 +34,7 @@ fn put_two(out: &mut [u8], at: usize, n: u64) -> usize
     put_byte(out, next, b'0' + (n % 10) as u8)
 }
 
+#[tactic(auto, using(crate::proofs::Digits::number_digits))]
 fn put_low(out: &mut [u8], at: usize, n: u64) -> usize
     requires { (n < 100) × (at + length (decimal n) ≤ length out.old) }
     ensures { Put out.old at (decimal n) out.new result }
@@ -43,6 +45,7 @@ fn put_low(out: &mut [u8], at: usize, n: u64) -> usize
     put_two(out, at, n)
 }
 
+#[tactic(auto, using(crate::proofs::Digits::number_digits))]
 fn put_small(out: &mut [u8], at: usize, n: u64) -> usize
     requires { (n < 10000) × (at + length (decimal n) ≤ length out.old) }
     ensures { Put out.old at (decimal n) out.new result }
@@ -55,6 +58,7 @@ fn put_small(out: &mut [u8], at: usize, n: u64) -> usize
 }
 
 // Puts a number in base ten, its high digits first, four at a time.
+#[tactic(auto, using(crate::proofs::Digits::number_digits))]
 pub fn put_number(out: &mut [u8], at: usize, n: u64) -> usize
     requires { at + length (decimal n) ≤ length out.old }
     ensures { Put out.old at (decimal n) out.new result }
@@ -71,12 +75,9 @@ fn put_text(out: &mut [u8], at: usize, s: &[u8]) -> usize
     requires { at + length s.now ≤ length out.old }
     ensures { Put out.old at s.now out.new result }
 {
-    let mut i: usize = 0;
-    while i < s.len() {
-        out[at + i] = s[i];
-        i += 1;
-    }
-    at + i
+    let end = at + s.len();
+    out[at..end].copy_from_slice(s);
+    end
 }
 
 // Puts a number and the byte that ends its field.
@@ -101,12 +102,9 @@ fn put_blanks(out: &mut [u8], at: usize, count: usize) -> usize
     requires { at + count ≤ length out.old }
     ensures { Put out.old at (replicate count blank) out.new result }
 {
-    let mut i: usize = 0;
-    while i < count {
-        out[at + i] = BLANK;
-        i += 1;
-    }
-    at + i
+    let end = at + count;
+    out[at..end].fill(BLANK);
+    end
 }
 
 // a number's digits over the blanks of a column, from its right end
@@ -115,10 +113,8 @@ fn put_digits(out: &mut [u8], at: usize, width: usize, n: u64) -> usize
     ensures { Put out.old at (right_in width (decimal n)) out.new result }
 {
     let end = at + width;
-    let mut i = end;
     let mut v = n;
-    while at < i {
-        i -= 1;
+    for i in (at..end).rev() {
         out[i] = b'0' + (v % 10) as u8;
         if v < 10 {
             return end;
@@ -129,6 +125,7 @@ fn put_digits(out: &mut [u8], at: usize, width: usize, n: u64) -> usize
 }
 
 // Puts a gap of blanks and a number right-aligned in the width after it.
+#[tactic(auto, using(crate::proofs::Column::widths))]
 pub fn put_right(out: &mut [u8], at: usize, gap: usize, width: usize, n: u64) -> usize
     requires { at + (gap + width) ≤ length out.old }
     ensures put { Put out.old at (replicate gap blank ++ right_in width (decimal n)) out.new result }

@@ -1,30 +1,33 @@
-use mathlib.Core.Path.{refl}
-use native.Mathlib.Omega.{arith}
+use Rattle.std.proofs.Common.{◌≡◌, ◌+◌, ◌-◌, ◌<◌, arith}
 use Rattle.texts.specs.Put.{part-both}
-use Rattle.page.specs.Sheets.{sheet-part, page-start, sheet-fits, page-end}
-use borrow.Author.Rules.{rules}
+use Rattle.page.specs.Sheets.{sheets, sheet-part, page-start, sheet-fits, page-end}
 use Rattle.page.proofs.put_page.Goals as goal
 
-pub loop-left-init : goal.loop-left-init
-loop-left-init c =
+pub loop-sheet-init : goal.loop-sheet-init
+loop-sheet-init c =
     let a = c.args in
-    rw c.sheets-left.ensures.value (refl, page-start a.pool.now a.out.now a.at c.requires.0 (omega (arith, c.requires.1)))
+    let n = sheets a.pool.now in
+    let e : n - 0 ≡ n = omega arith in
+    rw e (page-start a.pool.now a.out.now a.at c.requires.0 (omega (arith, c.requires.1)))
 
 pub put_sheet-sheet-requires : goal.put_sheet-sheet-requires
 put_sheet-sheet-requires c =
     let a = c.args in
-    (c.requires.0, sheet-fits a.pool.now a.out.now a.at c.loop-left.left c.loop-left.last c.loop-left.invariant.1 c.loop-left.invariant.0 c.loop-left-test.true c.requires.1)
+    let l = c.loop-sheet in
+    let h : 0 < sheets a.pool.now - l._sheet = omega arith in
+    (c.requires.0, sheet-fits a.pool.now a.out.now a.at (sheets a.pool.now - l._sheet) l.last l.invariant l.auto.out h c.requires.1)
 
-pub loop-left-preserved : goal.loop-left-preserved
-loop-left-preserved c =
-    let s = c.put_sheet-sheet in
-    let a = c.args in
-    rw s.ensures.last_value (search rules, part-both c.loop-left.invariant.1 (sheet-part a.pool.now c.loop-left.left c.loop-left.last c.loop-left-test.true s.ensures.put))
-
-pub shape_of-out : goal.shape_of-out
-shape_of-out c = c.loop-left.invariant.0
+pub loop-sheet-preserved : goal.loop-sheet-preserved
+loop-sheet-preserved c =
+    let s = c.put_sheet-sheet.ensures in
+    let p = c.args.pool.now in
+    let l = c.loop-sheet in
+    let h : 0 < sheets p - l._sheet = omega arith in
+    let e : sheets p - (l._sheet + 1) ≡ sheets p - l._sheet - 1 = omega arith in
+    rw (e, s.last_value) (part-both l.invariant (sheet-part p (sheets p - l._sheet) l.last h s.put))
 
 pub returns : goal.returns
 returns c =
     let a = c.args in
-    let l = c.loop-left in page-end a.pool.now a.out.now a.at l.left l.last l.invariant.1 c.loop-left-test.false
+    let l = c.loop-sheet in
+    page-end a.pool.now a.out.now a.at (sheets a.pool.now - l._sheet) l.last l.invariant (omega arith)

@@ -1,12 +1,8 @@
-use mathlib.Core.Path.{◌≡◌}
-use lib.ListN.{length}
+use Rattle.std.proofs.Common.{◌-◌}
 use Rattle.page.specs.Page.{page}
 use Rattle.texts.specs.Put.{PutPart}
-use Rattle.page.specs.Sheets.{sheets_after}
+use Rattle.page.specs.Sheets.{sheets, sheets_after}
 use Rattle.page.proofs.put_page.Given as goal
 
-abbrev pub invariant-loop-left : goal.invariant-loop-left
-invariant-loop-left l = (length l.out ≡ length l.initial.out) × PutPart l.initial.out l.at (page l.pool) l.out l.next (sheets_after l.pool l.left l.last)
-
-abbrev pub decreases-loop-left : goal.decreases-loop-left
-decreases-loop-left l = l.left
+abbrev pub invariant-loop-sheet : goal.invariant-loop-sheet
+invariant-loop-sheet l = PutPart l.initial.out l.at (page l.pool) l.out l.next (sheets_after l.pool (sheets l.pool - l._sheet) l.last)
