@@ -141,7 +141,12 @@ fn list_refusal(pool: &[u32], reg: &Register, keys: &[u32], records: &[u64]) -> 
 }
 
 // Inserts a list: of an accepted one the tree is made apart, and one store is to come.
-pub fn insert_list(pool: &mut [u32], reg: &mut Register, keys: &[u32], records: &[u64]) -> Acceptance
+pub fn insert_list(
+    pool: &mut [u32],
+    reg: &mut Register,
+    keys: &[u32],
+    records: &[u64],
+) -> Acceptance
     ensures { outcome (accepts result) (state pool.new reg.new) ≡ insert_list (state pool.old reg.old) keys.now records.now }
 {
     idle_refusal(pool, reg)?;

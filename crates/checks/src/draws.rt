@@ -1,32 +1,45 @@
 // The random draws and the calls made of them.
 
-pub const INSERT: u32 = 1;
+// The kind of a call. Its number is its row's place among the counts.
+#[derive(Clone, Copy, PartialEq, Eq)]
+pub enum Kind {
+    Insert = 1,
+    Delete = 2,
+    WriterTurn = 3,
+    Begin = 4,
+    ReaderTurn = 5,
+    GiveUp = 6,
+    BeginNext = 7,
+    List = 8,
+}
 
-pub const DELETE: u32 = 2;
-
-pub const WRITER_TURN: u32 = 3;
-
-pub const BEGIN: u32 = 4;
-
-pub const READER_TURN: u32 = 5;
-
-pub const GIVE_UP: u32 = 6;
-
-pub const BEGIN_NEXT: u32 = 7;
-
-pub const LIST: u32 = 8;
+// What a reading is: a lookup, or a search for the next ticket.
+#[derive(Clone, Copy, PartialEq, Eq)]
+pub enum Reading {
+    Lookup,
+    Search,
+}
 
 // the most tickets of a run; their keys are so far apart, but that the last has the largest key
 pub const TICKETS: u32 = 2048;
 
 const KEY_STEP: u32 = 2_097_152;
 
-const LARGEST: u32 = 4_294_967_295;
+impl Kind {
+    // Answers what a begin begins.
+    pub fn begins(self) -> Option<Reading> {
+        match self {
+            Kind::Begin => Some(Reading::Lookup),
+            Kind::BeginNext => Some(Reading::Search),
+            _ => None,
+        }
+    }
+}
 
 // A call drawn: its kind, and arguments for any kind.
 #[derive(Clone, Copy)]
 pub struct Call {
-    pub kind: u32,
+    pub kind: Kind,
     pub slot: u32,
     pub ticket: u32,
     pub key: u32,
@@ -42,19 +55,14 @@ pub struct Mood {
     pub emptying: bool,
 }
 
-// 1,664,525 times x modulo two to the power 32
-fn wrapping_times(x: u32) -> u32 {
-    (x as u64 * 1_664_525 % numbers::WORD_LIMIT) as u32
-}
-
 // Answers the draw after this one.
 pub fn next(x: u32) -> u32 {
-    std::num::wrapping_add_u32(wrapping_times(x), 1_013_904_223)
+    x.wrapping_mul(1_664_525).wrapping_add(1_013_904_223)
 }
 
 // Answers a number below n, of a draw's high bits; 0 for no n.
 pub fn high(x: u32, n: u32) -> u32 {
-    if n == 0 { 0 } else { x / 65_536 % n }
+    (x / 65_536).checked_rem(n).unwrap_or(0)
 }
 
 // Answers the draw after those of a call.
@@ -77,8 +85,7 @@ fn mood_at(i: u64, nodes: u32) -> Mood {
 
 // Answers whether the deletes around a run's call number i are to empty the index.
 pub fn emptying(i: u64, nodes: u32) -> bool {
-    let m = mood_at(i, nodes);
-    m.emptying
+    mood_at(i, nodes).emptying
 }
 
 // Answers how many different keys a run on so many nodes draws from.
@@ -92,12 +99,11 @@ pub fn tickets(nodes: u32) -> u32 {
 
 // The key of a ticket: spread over all 32-bit numbers, 0 the first and 4,294,967,295 the last. A greater ticket has a greater key.
 fn key_of(t: u32, tickets: u32) -> u32 {
-    if t < tickets {
-        if t == tickets - 1 {
-            return LARGEST;
-        }
+    if t.checked_add(1) == Some(tickets) {
+        u32::MAX
+    } else {
+        t % TICKETS * KEY_STEP
     }
-    t % TICKETS * KEY_STEP
 }
 
 // Answers the key of a ticket in a run on so many nodes.
@@ -107,23 +113,18 @@ pub fn ticket_key(t: u32, nodes: u32) -> u32 {
 
 // the ticket that may have this key
 fn ticket_near(key: u32, tickets: u32) -> u32 {
-    if key == LARGEST {
-        if 0 < tickets {
-            return tickets - 1;
-        }
+    if key == u32::MAX {
+        tickets.saturating_sub(1)
+    } else {
+        key / KEY_STEP
     }
-    key / KEY_STEP
 }
 
-// Answers the ticket with this key in a run on so many nodes, TICKETS if there is none.
-pub fn ticket_of(key: u32, nodes: u32) -> u32 {
+// Answers the ticket with this key in a run on so many nodes.
+pub fn ticket_of(key: u32, nodes: u32) -> Option<u32> {
     let n = tickets(nodes);
     let t = ticket_near(key, n);
-    if (t < n) & (key_of(t, n) == key) {
-        t
-    } else {
-        TICKETS
-    }
+    ((t < n) & (key_of(t, n) == key)).then_some(t)
 }
 
 // one slot drawn in so many is the first that is too high, one is a very high one
@@ -131,58 +132,54 @@ const SLOT_DRAWS: u32 = 32;
 
 // a slot, now and then one too high
 fn slot_of(q: u32) -> u32 {
-    let spread = q / numbers::SLOT_LIMIT % SLOT_DRAWS;
-    if spread == 0 {
-        return numbers::SLOT_LIMIT;
+    let slot = q % numbers::SLOT_LIMIT;
+    match q / numbers::SLOT_LIMIT % SLOT_DRAWS {
+        0 => numbers::SLOT_LIMIT,
+        1 => u32::MAX - slot,
+        _ => slot,
     }
-    if spread == 1 {
-        return LARGEST - q % numbers::SLOT_LIMIT;
-    }
-    q % numbers::SLOT_LIMIT
 }
 
 // the first slot from s on, round the slots, that reads, or that doesn't; s itself if there is none
 fn slot_from(s: u32, reading: u32, reads: bool) -> u32 {
-    let first = s % numbers::SLOT_LIMIT;
-    let mut n: u32 = 0;
-    while n < numbers::SLOT_LIMIT {
-        let t = (first + n) % numbers::SLOT_LIMIT;
-        if (reading >> t) % 2 == reads as u32 {
-            return t;
-        }
-        n += 1;
-    }
-    s
+    (0..numbers::SLOT_LIMIT)
+        .map(|n| (s % numbers::SLOT_LIMIT + n) % numbers::SLOT_LIMIT)
+        .find(|t| (reading >> *t) % 2 == u32::from(reads))
+        .unwrap_or(s)
 }
 
 // one call in so many takes its slot as drawn
 const BLIND_DRAWS: u32 = 8;
 
 // The others' turns and give ups are of a slot that reads, and their begins of one that doesn't: few drawn slots would be so by chance.
-fn aimed_slot(s: u32, kind: u32, reading: u32, q: u32) -> u32 {
-    let aims = q % BLIND_DRAWS != 0;
-    if aims & (s < numbers::SLOT_LIMIT) {
-        return slot_from(s, reading, (kind == READER_TURN) | (kind == GIVE_UP));
+fn aimed_slot(s: u32, kind: Kind, reading: u32, q: u32) -> u32 {
+    if (q % BLIND_DRAWS != 0) & (s < numbers::SLOT_LIMIT) {
+        slot_from(s, reading, matches!(kind, Kind::ReaderTurn | Kind::GiveUp))
+    } else {
+        s
     }
-    s
 }
 
-fn write_kind(growing: bool, often: bool) -> u32 {
-    if growing == often { INSERT } else { DELETE }
+fn write_kind(growing: bool, often: bool) -> Kind {
+    if growing == often {
+        Kind::Insert
+    } else {
+        Kind::Delete
+    }
 }
 
-fn begin_kind(even: bool) -> u32 {
-    if even { BEGIN } else { BEGIN_NEXT }
+fn begin_kind(even: bool) -> Kind {
+    if even { Kind::Begin } else { Kind::BeginNext }
 }
 
-fn reader_kind(c: u32, begins: u32) -> u32 {
+fn reader_kind(c: u32, begins: u32) -> Kind {
     if c < begins {
-        return begin_kind(c % 2 == 0);
+        begin_kind(c % 2 == 0)
+    } else if c < 63 {
+        Kind::ReaderTurn
+    } else {
+        Kind::GiveUp
     }
-    if c < 63 {
-        return READER_TURN;
-    }
-    GIVE_UP
 }
 
 fn bound(busy: bool, then: u32, otherwise: u32) -> u32 {
@@ -190,47 +187,47 @@ fn bound(busy: bool, then: u32, otherwise: u32) -> u32 {
 }
 
 // a write, from a number below 64; `last` is the last of those that make one
-fn filling_kind(c: u32, growing: bool, last: u32) -> u32 {
+fn filling_kind(c: u32, growing: bool, last: u32) -> Kind {
     if c == last {
-        return LIST;
+        Kind::List
+    } else {
+        write_kind(growing, c % 4 != 0)
     }
-    write_kind(growing, c % 4 != 0)
 }
 
 // the kind of a call from a number below 64, with many readers or few
-fn steady_kind(c: u32, m: Mood) -> u32 {
+fn steady_kind(c: u32, m: Mood) -> Kind {
     if c < bound(m.busy, 16, 24) {
-        return WRITER_TURN;
+        Kind::WriterTurn
+    } else if c < bound(m.busy, 32, 50) {
+        filling_kind(c, m.growing, bound(m.busy, 31, 49))
+    } else {
+        reader_kind(c, bound(m.busy, 38, 52))
     }
-    if c < bound(m.busy, 32, 50) {
-        return filling_kind(c, m.growing, bound(m.busy, 31, 49));
-    }
-    reader_kind(c, bound(m.busy, 38, 52))
 }
 
 // a write where the index is emptied: a list once it is empty
-fn removing_kind(c: u32, empty: bool) -> u32 {
+fn removing_kind(c: u32, empty: bool) -> Kind {
     if c % 8 == 0 {
-        return INSERT;
+        Kind::Insert
+    } else if empty {
+        Kind::List
+    } else {
+        Kind::Delete
     }
-    if empty { LIST } else { DELETE }
 }
 
 // the kind of a call from a number below 64, where the index is emptied
-fn emptying_kind(c: u32, empty: bool) -> u32 {
-    if c < 26 {
-        return WRITER_TURN;
+fn emptying_kind(c: u32, empty: bool) -> Kind {
+    match c {
+        0..26 => Kind::WriterTurn,
+        26..46 => removing_kind(c, empty),
+        46..60 => reader_kind(c, 48),
+        _ => Kind::GiveUp,
     }
-    if c < 46 {
-        return removing_kind(c, empty);
-    }
-    if c < 60 {
-        return reader_kind(c, 48);
-    }
-    GIVE_UP
 }
 
-fn kind_of(c: u32, m: Mood, empty: bool) -> u32 {
+fn kind_of(c: u32, m: Mood, empty: bool) -> Kind {
     if m.emptying {
         emptying_kind(c, empty)
     } else {
@@ -238,9 +235,9 @@ fn kind_of(c: u32, m: Mood, empty: bool) -> u32 {
     }
 }
 
-// Answers the record of two words.
-pub fn joined(low: u32, high: u32) -> u64 {
-    low as u64 + high as u64 * numbers::WORD_LIMIT
+// the record of two words
+fn joined(low: u32, high: u32) -> u64 {
+    u64::from(high) << 32 | u64::from(low)
 }
 
 // Answers the record of an insert, from two draws. One in eight is the ticket's number, so that a held key now and then gets the record that it has;
@@ -274,8 +271,9 @@ pub fn draw_call(x: u32, i: u64, nodes: u32, reading: u32, empty: bool) -> Call 
 
 // Answers the call with another ticket.
 pub fn with_ticket(call: Call, ticket: u32, nodes: u32) -> Call {
-    let mut r = call;
-    r.ticket = ticket;
-    r.key = ticket_key(ticket, nodes);
-    r
+    Call {
+        ticket,
+        key: ticket_key(ticket, nodes),
+        ..call
+    }
 }

@@ -1,182 +1,215 @@
 // How many nodes each reading compares, by a count of the program's own: a reading's first turn loads the root, and each later one compares a
-// node. Which nodes that were, each camera's tally, and the longest counts of a run. Lent as WORDS words, as the model is.
-use crate::model;
+// node. Which nodes that were, each camera's tally, and the longest counts of a run.
+ghost use Rattle.std.specs.Prelude.{◌<◌};
+ghost use Rattle.spec.specs.Numbers.{slots};
+
+use crate::draws::Reading;
 
 // cameras, each with a tally; slot s is used by camera s modulo their number
 pub const CAMERAS: usize = 8;
 
-// A slot's words: whether it searches for the next ticket, its reading's number, the first moment of it, and its turns so far.
-const SLOT_SPAN: usize = 4;
+// a node is below this
+const NODES: usize = numbers::MOST_NODES + 1;
 
-const SEEKS: u32 = 0;
-
-const READING: u32 = 1;
-
-const BEGUN: u32 = 2;
-
-const TURNS: u32 = 3;
-
-// for each slot and each node, the number of the last reading that compared the node there
-const MARKS: usize = numbers::SLOTS * SLOT_SPAN;
-
-const MARK_SPAN: usize = numbers::MOST_NODES + 1;
-
-// a camera's words: readings answered, nodes that they compared, the longest count
-const TALLIES: usize = MARKS + numbers::SLOTS * MARK_SPAN;
-
-const TALLY_SPAN: usize = 3;
-
-// the run's words: moments and readings so far, the last moment with a write in hand
-const MOMENTS: usize = TALLIES + CAMERAS * TALLY_SPAN;
-
-const READINGS: usize = MOMENTS + 1;
-
-const BUSY: usize = MOMENTS + 2;
-
-// the longest counts of the run: of lookups and of searches for the next ticket; and of those with no write in hand at any of their moments
-const LONGEST: usize = MOMENTS + 3;
-
-pub const LOOKUP: usize = 0;
-
-pub const SEARCH: usize = 1;
-
-pub const QUIET: usize = 2;
-
-pub const WORDS: usize = LONGEST + 4;
-
-const MOST: u32 = 4_294_967_295;
-
-// the sum, or the largest number
-fn plus(a: u32, b: u32) -> u32 {
-    if b <= MOST - a { a + b } else { MOST }
+// What a slot does: its reading with its number, the first moment of it, and its turns so far.
+#[derive(Clone, Copy)]
+struct Slot {
+    kind: Reading,
+    number: u32,
+    begun: u32,
+    turns: u32,
 }
 
-fn add(words: &mut [u32], at: usize, n: u32) {
-    let v = model::word(words, at);
-    model::set_word(words, at, plus(v, n));
+const UNUSED: Slot = Slot {
+    kind: Reading::Lookup,
+    number: 0,
+    begun: 0,
+    turns: 0,
+};
+
+// A camera's tally, which shares nothing with the index's own: readings answered, nodes that they compared, the longest count.
+#[derive(Clone, Copy, PartialEq, Eq)]
+struct Tally {
+    answered: u32,
+    compared: u32,
+    longest: u32,
 }
 
-fn raise(words: &mut [u32], at: usize, n: u32) {
-    if model::word(words, at) < n {
-        model::set_word(words, at, n);
+const NO_TALLY: Tally = Tally {
+    answered: 0,
+    compared: 0,
+    longest: 0,
+};
+
+// the longest counts of a run's lookups and of its searches
+#[derive(Clone, Copy)]
+struct Longest {
+    lookup: u32,
+    search: u32,
+}
+
+const NONE_YET: Longest = Longest {
+    lookup: 0,
+    search: 0,
+};
+
+impl Longest {
+    fn of(self, kind: Reading) -> u32 {
+        match kind {
+            Reading::Lookup => self.lookup,
+            Reading::Search => self.search,
+        }
+    }
+
+    fn raise(&mut self, kind: Reading, n: u32) {
+        match kind {
+            Reading::Lookup => self.lookup = self.lookup.max(n),
+            Reading::Search => self.search = self.search.max(n),
+        }
     }
 }
 
-fn slot_place(s: u32, f: u32) -> usize {
-    s as usize % numbers::SLOTS * SLOT_SPAN + f as usize
-}
-
-fn slot_word(words: &[u32], s: u32, f: u32) -> u32 {
-    model::word(words, slot_place(s, f))
-}
-
-fn set_slot_word(words: &mut [u32], s: u32, f: u32, v: u32) {
-    model::set_word(words, slot_place(s, f), v);
+#[derive(Drop)]
+pub struct Lengths {
+    slots: [Slot; numbers::SLOTS],
+    // for each slot and each node, the number of the last reading that compared the node there
+    marks: [[u32; NODES]; numbers::SLOTS],
+    tallies: [Tally; CAMERAS],
+    // moments and readings so far, and the last moment with a write in hand
+    moments: u32,
+    readings: u32,
+    busy: u32,
+    // of all readings, and of those with no write in hand at any of their moments
+    longest: Longest,
+    quiet: Longest,
 }
 
 // Answers the camera that uses a slot.
-pub fn camera_of(s: u32) -> usize {
+pub fn camera_of(s: u32) -> usize
+    ensures { result < 8 }
+{
     s as usize % CAMERAS
 }
 
-// Notes that a slot begins a reading.
-pub fn begin(words: &mut [u32], s: u32, seeks: bool) {
-    let moment = plus(model::word(words, MOMENTS), 1);
-    add(words, READINGS, 1);
-    let reading = model::word(words, READINGS);
-    set_slot_word(words, s, SEEKS, seeks as u32);
-    set_slot_word(words, s, READING, reading);
-    set_slot_word(words, s, BEGUN, moment);
-    set_slot_word(words, s, TURNS, 0);
-}
-
-// a slot compares a node; answers whether it is its reading's first comparison of it
-fn compare_node(words: &mut [u32], s: u32, node: u32) -> bool {
-    let at = MARKS + s as usize % numbers::SLOTS * MARK_SPAN + node as usize % MARK_SPAN;
-    let reading = slot_word(words, s, READING);
-    let first = model::word(words, at) != reading;
-    model::set_word(words, at, reading);
-    first & (0 < node) & (node < MARK_SPAN as u32)
-}
-
-// Notes a turn of a slot whose record named this node; answers whether it is right: none in the reading's first turn, later one that the
-// reading hasn't compared.
-pub fn turn(words: &mut [u32], s: u32, node: u32) -> bool {
-    let turns = slot_word(words, s, TURNS);
-    set_slot_word(words, s, TURNS, plus(turns, 1));
-    if turns == 0 {
-        return node == 0;
-    }
-    compare_node(words, s, node)
-}
-
-// Answers how many nodes a slot's reading has compared.
-pub fn count(words: &[u32], s: u32) -> u32 {
-    let turns = slot_word(words, s, TURNS);
-    if turns == 0 { 0 } else { turns - 1 }
-}
-
-// whether no write was in hand at any moment of a slot's reading
-fn quiet(words: &[u32], s: u32) -> bool {
-    model::word(words, BUSY) < slot_word(words, s, BEGUN)
+fn place(s: u32) -> usize
+    ensures { result < slots }
+{
+    s as usize % numbers::SLOTS
 }
 
 // whether two to the power h is at most the square of n + 1
 fn low(h: u32, n: u32) -> bool {
-    if h < 40 {
-        let m = n as u64 + 1;
-        let p = 1u64 << h;
-        return (p / m < m) | ((p / m == m) & (p % m == 0));
+    let m = u64::from(n) + 1;
+    (h < 40) && m.checked_mul(m).is_none_or(|square| 1u64 << h <= square)
+}
+
+impl Lengths {
+    // Answers a run's lengths before its first call.
+    pub fn new() -> Lengths {
+        Lengths {
+            slots: [UNUSED; numbers::SLOTS],
+            marks: [[0; NODES]; numbers::SLOTS],
+            tallies: [NO_TALLY; CAMERAS],
+            moments: 0,
+            readings: 0,
+            busy: 0,
+            longest: NONE_YET,
+            quiet: NONE_YET,
+        }
     }
-    false
-}
 
-fn tally_place(camera: usize, f: u32) -> usize {
-    TALLIES + camera % CAMERAS * TALLY_SPAN + f as usize
-}
-
-fn count_answer(words: &mut [u32], camera: usize, n: u32) {
-    add(words, tally_place(camera, 0), 1);
-    add(words, tally_place(camera, 1), n);
-    raise(words, tally_place(camera, 2), n);
-}
-
-// Notes that a slot's reading has been answered; answers whether no write was in hand at any of its moments.
-pub fn answer(words: &mut [u32], s: u32) -> bool {
-    let n = count(words, s);
-    let kind = slot_word(words, s, SEEKS) as usize % 2;
-    let still = quiet(words, s);
-    count_answer(words, camera_of(s), n);
-    raise(words, LONGEST + kind, n);
-    if still {
-        raise(words, LONGEST + QUIET + kind, n);
+    // Makes them those before a run's first call.
+    pub fn clear(&mut self) {
+        *self = Lengths::new();
     }
-    still
-}
 
-// Answers whether a slot's count is within the bound for so many keys held.
-pub fn bounded(words: &[u32], s: u32, held: u32) -> bool {
-    low(count(words, s), held)
-}
-
-// Answers whether a camera's tally is this.
-pub fn tally_is(words: &[u32], camera: usize, answered: u32, compared: u32, longest: u32) -> bool {
-    let a = model::word(words, tally_place(camera, 0)) == answered;
-    let b = model::word(words, tally_place(camera, 1)) == compared;
-    let c = model::word(words, tally_place(camera, 2)) == longest;
-    a & b & c
-}
-
-// Notes the moment after a call.
-pub fn moment(words: &mut [u32], in_hand: bool) {
-    add(words, MOMENTS, 1);
-    if in_hand {
-        let now = model::word(words, MOMENTS);
-        model::set_word(words, BUSY, now);
+    // Notes that a slot begins a reading.
+    pub fn begin(&mut self, s: u32, kind: Reading) {
+        self.readings = self.readings.saturating_add(1);
+        self.slots[place(s)] = Slot {
+            kind,
+            number: self.readings,
+            begun: self.moments.saturating_add(1),
+            turns: 0,
+        };
     }
-}
 
-// Answers a longest count of the run: of lookups or of searches, QUIET more for those with no write in hand.
-pub fn longest(words: &[u32], kind: usize) -> u32 {
-    model::word(words, LONGEST + kind % 4)
+    // a slot compares a node; answers whether it is its reading's first comparison of it
+    fn compare_node(&mut self, s: u32, node: u32) -> bool {
+        let reading = self.slots[place(s)].number;
+        let n = node as usize % NODES;
+        let last = self.marks[place(s)][n];
+        self.marks[place(s)][n] = reading;
+        (last != reading) & (0 < node) & (node < NODES as u32)
+    }
+
+    // Notes a turn of a slot whose record named this node; answers whether it is right: none in the reading's first turn, later one that the
+    // reading hasn't compared.
+    pub fn turn(&mut self, s: u32, node: u32) -> bool {
+        let turns = self.slots[place(s)].turns;
+        self.slots[place(s)].turns = turns.saturating_add(1);
+        if turns == 0 {
+            node == 0
+        } else {
+            self.compare_node(s, node)
+        }
+    }
+
+    // Answers how many nodes a slot's reading has compared.
+    pub fn count(&self, s: u32) -> u32 {
+        self.slots[place(s)].turns.saturating_sub(1)
+    }
+
+    fn count_answer(&mut self, camera: usize, n: u32) {
+        let tally = &mut self.tallies[camera % CAMERAS];
+        tally.answered = tally.answered.saturating_add(1);
+        tally.compared = tally.compared.saturating_add(n);
+        tally.longest = tally.longest.max(n);
+    }
+
+    // Notes that a slot's reading has been answered; answers whether no write was in hand at any of its moments.
+    pub fn answer(&mut self, s: u32) -> bool {
+        let n = self.count(s);
+        let Slot { kind, begun, .. } = self.slots[place(s)];
+        let quiet = self.busy < begun;
+        self.count_answer(camera_of(s), n);
+        self.longest.raise(kind, n);
+        if quiet {
+            self.quiet.raise(kind, n);
+        }
+        quiet
+    }
+
+    // Answers whether a slot's count is within the bound for so many keys held.
+    pub fn bounded(&self, s: u32, held: u32) -> bool {
+        low(self.count(s), held)
+    }
+
+    // Answers whether a camera's tally is this.
+    pub fn tally_is(&self, camera: usize, answered: u32, compared: u32, longest: u32) -> bool {
+        let tally = Tally {
+            answered,
+            compared,
+            longest,
+        };
+        self.tallies[camera % CAMERAS] == tally
+    }
+
+    // Notes the moment after a call.
+    pub fn moment(&mut self, in_hand: bool) {
+        self.moments = self.moments.saturating_add(1);
+        if in_hand {
+            self.busy = self.moments;
+        }
+    }
+
+    // Answers the longest count of a run's lookups or of its searches.
+    pub fn longest(&self, kind: Reading) -> u32 {
+        self.longest.of(kind)
+    }
+
+    // Answers the longest count of those with no write in hand at any of their moments.
+    pub fn longest_quiet(&self, kind: Reading) -> u32 {
+        self.quiet.of(kind)
+    }
 }

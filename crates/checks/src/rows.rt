@@ -1,13 +1,10 @@
-// The counts of a run, by row; a row past the end counts nothing.
-ghost use Rattle.std.specs.Prelude.{◌<◌};
-ghost use Rattle.spec.specs.Numbers.{word_bits};
+// The counts of all runs, by row; a row past the end counts nothing.
 
-const MOST: u64 = 18_446_744_073_709_551_615;
-
+// kept: rows are constants: (d) places in one table; from many of them on rows go by a kind, a form or a slot (ACCEPTED + write.place()).
 pub const ROWS: usize = 224;
 
 // Set up, and then the other calls by the numbers of their kinds; refusals by their numbers; finished deletes by their form, finished and
-// accepted writes by their kind in the model, modulo 4 (lists: 0).
+// accepted writes by their places (model: Write).
 pub const CALLS: usize = 0;
 
 pub const REFUSALS: usize = 192;
@@ -137,62 +134,57 @@ pub const SLOT_BEGUN: usize = 103;
 
 pub const SLOT_AWAITED: usize = SLOT_BEGUN + numbers::SLOTS;
 
-// Answers the count of a row.
-pub fn get(counts: &[u64], row: usize) -> u64 {
-    if row < counts.len() { counts[row] } else { 0 }
+// The counts of a run.
+#[derive(Drop)]
+pub struct Counts {
+    rows: [u64; ROWS],
 }
 
-// Answers how much the count of a row has grown from n.
-pub fn growth(counts: &[u64], row: usize, n: u64) -> u64 {
-    let v = get(counts, row);
-    if n < v { v - n } else { 0 }
-}
+impl Counts {
+    // Answers the counts before any call.
+    pub fn new() -> Counts {
+        Counts { rows: [0; ROWS] }
+    }
 
-// Adds n to the count of a row.
-pub fn add(counts: &mut [u64], row: usize, n: u64) {
-    if row < counts.len() {
-        if counts[row] <= MOST - n {
-            counts[row] = counts[row] + n;
+    // Answers the count of a row.
+    pub fn get(&self, row: usize) -> u64 {
+        self.rows.get(row).copied().unwrap_or(0)
+    }
+
+    // Answers how much the count of a row has grown from n.
+    pub fn growth(&self, row: usize, n: u64) -> u64 {
+        self.get(row).saturating_sub(n)
+    }
+
+    // Adds n to the count of a row.
+    pub fn add(&mut self, row: usize, n: u64) {
+        if let Some(count) = self.rows.get_mut(row) {
+            *count = count.saturating_add(n);
         }
     }
-}
 
-// Adds one to the count of a row.
-pub fn one(counts: &mut [u64], row: usize) {
-    add(counts, row, 1);
-}
-
-// Counts in a row what is so.
-pub fn one_if(counts: &mut [u64], row: usize, so: bool) {
-    if so {
-        one(counts, row);
+    // Adds one to the count of a row.
+    pub fn one(&mut self, row: usize) {
+        self.add(row, 1);
     }
-}
 
-// Notes a comparison: what differs is counted.
-pub fn same(counts: &mut [u64], ok: bool) {
-    one_if(counts, DIFFERENCES, !ok);
-}
-
-// every slot of a mask
-const ALL_SLOTS: u32 = 4_294_967_295;
-
-fn slot_awaited(counts: &mut [u64], mask: u32, s: u32)
-    requires { s < word_bits }
-{
-    if (mask >> s) % 2 == 1 {
-        one(counts, SLOT_AWAITED + s as usize);
+    // Counts in a row what is so.
+    pub fn one_if(&mut self, row: usize, so: bool) {
+        if so {
+            self.one(row);
+        }
     }
-}
 
-// Counts the awaited slots after a call.
-pub fn awaited(counts: &mut [u64], mask: u32) {
-    let mut s: u32 = 0;
-    while s < numbers::SLOT_LIMIT {
-        slot_awaited(counts, mask, s);
-        s += 1;
+    // Notes a comparison: what differs is counted.
+    pub fn same(&mut self, ok: bool) {
+        self.one_if(DIFFERENCES, !ok);
     }
-    if mask == ALL_SLOTS {
-        one(counts, ALL_AWAITED);
+
+    // Counts the awaited slots after a call.
+    pub fn awaited(&mut self, mask: u32) {
+        for s in 0..numbers::SLOTS {
+            self.one_if(SLOT_AWAITED + s, (mask >> s) % 2 == 1);
+        }
+        self.one_if(ALL_AWAITED, mask == u32::MAX);
     }
 }

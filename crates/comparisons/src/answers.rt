@@ -1,19 +1,55 @@
-// Answers as numbers: a refusal is its number, accepted is 0.
-pub const ACCEPTED: u32 = 0;
+// What a call answered, without its register.
+use datatypes::{Acceptance, ReaderAnswer, WriterAnswer};
 
-// the refusals' numbers are below this
-pub const REFUSALS: u32 = 20;
+// Found has the record, next the key and the record, a refusal its number.
+#[derive(Clone, Copy, PartialEq, Eq)]
+pub enum Answer {
+    Accepted,
+    Refused(u32),
+    More,
+    Done,
+    Wait,
+    Go,
+    Found(u64),
+    Next(u32, u64),
+    Absent,
+}
 
-pub const MORE: u32 = 101;
+impl Answer {
+    // Answers whether it is a refusal.
+    pub fn refuses(self) -> bool {
+        matches!(self, Answer::Refused(_))
+    }
+}
 
-pub const DONE: u32 = 102;
+impl From<Acceptance> for Answer {
+    fn from(a: Acceptance) -> Answer {
+        match a {
+            Acceptance::Accepted => Answer::Accepted,
+            Acceptance::Refused(n) => Answer::Refused(n),
+        }
+    }
+}
 
-pub const WAIT: u32 = 103;
+impl From<WriterAnswer> for Answer {
+    fn from(a: WriterAnswer) -> Answer {
+        match a {
+            WriterAnswer::More(_, _) => Answer::More,
+            WriterAnswer::Done(_, _) => Answer::Done,
+            WriterAnswer::Wait => Answer::Wait,
+            WriterAnswer::Refused(n) => Answer::Refused(n),
+        }
+    }
+}
 
-pub const GO: u32 = 104;
-
-pub const FOUND: u32 = 105;
-
-pub const ABSENT: u32 = 106;
-
-pub const NEXT: u32 = 107;
+impl From<ReaderAnswer> for Answer {
+    fn from(a: ReaderAnswer) -> Answer {
+        match a {
+            ReaderAnswer::Go => Answer::Go,
+            ReaderAnswer::Found(v) => Answer::Found(v),
+            ReaderAnswer::Next(k, v) => Answer::Next(k, v),
+            ReaderAnswer::Absent => Answer::Absent,
+            ReaderAnswer::Refused(n) => Answer::Refused(n),
+        }
+    }
+}

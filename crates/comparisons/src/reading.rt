@@ -1,187 +1,143 @@
 // The readers' calls, each beside the plain list.
-use crate::{answers, writing};
-use checks::draws::Call;
-use checks::{model, rows};
+use crate::answers::Answer;
+use crate::{Beside, Said};
+use checks::draws::{Call, Reading};
+use checks::{draws, rows};
 
-// document 02, C-15: slots are 0 to 31
-const LAST_SLOT: u32 = 31;
-
-fn begin_foretold(model: &[u32], s: u32) -> u32 {
-    if LAST_SLOT < s {
-        return numbers::SLOT_TOO_HIGH;
+impl Beside {
+    fn begin_foretold(&self, s: u32) -> Answer {
+        if numbers::SLOT_LIMIT <= s {
+            Answer::Refused(numbers::SLOT_TOO_HIGH)
+        } else if self.model.reading(s) {
+            Answer::Refused(numbers::SLOT_READING)
+        } else {
+            Answer::Accepted
+        }
     }
-    if model::reading(model, s) {
-        return numbers::SLOT_READING;
+
+    // of a reader's turn and of a give up
+    fn slot_foretold(&self, s: u32) -> Answer {
+        if numbers::SLOT_LIMIT <= s {
+            Answer::Refused(numbers::SLOT_TOO_HIGH)
+        } else if self.model.reading(s) {
+            Answer::Accepted
+        } else {
+            Answer::Refused(numbers::SLOT_NOT_READING)
+        }
     }
-    answers::ACCEPTED
-}
 
-// of a reader's turn and of a give up
-fn slot_foretold(model: &[u32], s: u32) -> u32 {
-    if LAST_SLOT < s {
-        return numbers::SLOT_TOO_HIGH;
+    // Compares the answer of a begin, and begins the lookup or the search for the next ticket in the model.
+    pub fn begin(&mut self, call: Call, kind: Reading, answer: Answer) {
+        let foretold = self.begin_foretold(call.slot);
+        self.answered(answer, foretold);
+        if foretold == Answer::Accepted {
+            self.model.begin(call.slot, kind, call.ticket);
+            self.counts.one(match kind {
+                Reading::Lookup => rows::BEGUN,
+                Reading::Search => rows::NEXT_BEGUN,
+            });
+            self.counts.one(rows::SLOT_BEGUN + call.slot as usize);
+        }
     }
-    if model::reading(model, s) {
-        return answers::ACCEPTED;
+
+    // An answer is right if it was so at one of the reading's moments; it is counted as an older one if it isn't so at the last.
+    fn end(&mut self, s: u32, kind: Reading, right: bool, now: bool) {
+        let (compared, older) = match kind {
+            Reading::Lookup => (rows::LOOKUPS, rows::OLDER),
+            Reading::Search => (rows::NEXT_SEARCHES, rows::NEXT_OLDER),
+        };
+        self.counts.same(right);
+        self.counts.one(compared);
+        self.counts.one_if(older, !now);
+        self.model.end_reading(s);
     }
-    numbers::SLOT_NOT_READING
-}
 
-// Compares the answer of a begin, and begins the lookup in the model.
-pub fn begin(model: &mut [u32], counts: &mut [u64], call: Call, number: u32) {
-    let foretold = begin_foretold(model, call.slot);
-    writing::answered(counts, number, foretold);
-    if foretold == answers::ACCEPTED {
-        model::begin_lookup(model, call.slot, call.ticket);
-        rows::one(counts, rows::BEGUN);
-        rows::one(counts, rows::SLOT_BEGUN + call.slot as usize);
+    // an answered record that is wide, above 32 bits
+    fn count_wide(&mut self, v: u64) {
+        self.counts
+            .one_if(rows::WIDE_ANSWERED, numbers::WORD_LIMIT <= v);
     }
-}
 
-// Compares the answer of a begin of a search for the next ticket, and begins it in the model.
-pub fn begin_next(model: &mut [u32], counts: &mut [u64], call: Call, number: u32) {
-    let foretold = begin_foretold(model, call.slot);
-    writing::answered(counts, number, foretold);
-    if foretold == answers::ACCEPTED {
-        model::begin_next(model, call.slot, call.ticket);
-        rows::one(counts, rows::NEXT_BEGUN);
-        rows::one(counts, rows::SLOT_BEGUN + call.slot as usize);
+    fn found(&mut self, s: u32, v: u64) {
+        let right = self.model.was_listed(s, v);
+        let now = self.model.is_listed(s, v);
+        self.counts.one(rows::FOUND);
+        self.count_wide(v);
+        self.counts
+            .one_if(rows::FOUND_OUTDATED, self.model.is_outdated(s, v));
+        self.end(s, Reading::Lookup, right, now);
     }
-}
 
-// An answer is right if it was so at one of the lookup's moments; it is counted as an older one if it isn't so at the last.
-fn end_lookup(model: &mut [u32], counts: &mut [u64], s: u32, right: bool, now: bool) {
-    rows::same(counts, right);
-    rows::one(counts, rows::LOOKUPS);
-    model::end_reading(model, s);
-    if !now {
-        rows::one(counts, rows::OLDER);
+    // `ticket`: that of the answered key
+    fn next(&mut self, s: u32, ticket: Option<u32>, v: u64) {
+        let right = ticket.is_some_and(|t| self.model.was_next(s, t, v));
+        let now = ticket.is_some_and(|t| self.model.is_next(s, t, v));
+        let outdated = ticket.is_some_and(|t| self.model.has_other(t, v));
+        self.counts.one(rows::NEXT);
+        self.count_wide(v);
+        self.counts.one_if(rows::NEXT_OUTDATED, outdated);
+        self.end(s, Reading::Search, right, now);
     }
-}
 
-// likewise of a search for the next ticket
-fn end_next(model: &mut [u32], counts: &mut [u64], s: u32, right: bool, now: bool) {
-    rows::same(counts, right);
-    rows::one(counts, rows::NEXT_SEARCHES);
-    model::end_reading(model, s);
-    if !now {
-        rows::one(counts, rows::NEXT_OLDER);
+    // absent, of either kind of reading
+    fn absent(&mut self, s: u32) {
+        if self.model.kind(s) == Some(Reading::Search) {
+            let right = self.model.was_none(s);
+            let now = self.model.is_none(s);
+            self.counts.one(rows::NONE);
+            self.end(s, Reading::Search, right, now);
+        } else {
+            let right = self.model.was_lacking(s);
+            let now = self.model.is_lacking(s);
+            self.counts.one(rows::ABSENT);
+            self.end(s, Reading::Lookup, right, now);
+        }
     }
-}
 
-// an answered record that is wide, above 32 bits
-fn count_wide(counts: &mut [u64], v: u64) {
-    rows::one_if(counts, rows::WIDE_ANSWERED, numbers::WORD_LIMIT <= v);
-}
-
-fn found(model: &mut [u32], counts: &mut [u64], s: u32, v: u64) {
-    let right = !model::seeks(model, s) & model::was_listed(model, s, v);
-    let now = model::is_listed(model, s, v);
-    rows::one(counts, rows::FOUND);
-    count_wide(counts, v);
-    rows::one_if(
-        counts,
-        rows::FOUND_OUTDATED,
-        model::is_outdated(model, s, v),
-    );
-    end_lookup(model, counts, s, right, now);
-}
-
-fn absent(model: &mut [u32], counts: &mut [u64], s: u32) {
-    let right = model::was_lacking(model, s);
-    let now = model::is_lacking(model, s);
-    rows::one(counts, rows::ABSENT);
-    end_lookup(model, counts, s, right, now);
-}
-
-fn next(model: &mut [u32], counts: &mut [u64], s: u32, t: u32, v: u64) {
-    let right = model::seeks(model, s) & model::was_next(model, s, t, v);
-    let now = model::is_next(model, s, t, v);
-    rows::one(counts, rows::NEXT);
-    count_wide(counts, v);
-    rows::one_if(counts, rows::NEXT_OUTDATED, model::has_other(model, t, v));
-    end_next(model, counts, s, right, now);
-}
-
-fn none(model: &mut [u32], counts: &mut [u64], s: u32) {
-    let right = model::was_none(model, s);
-    let now = model::is_none(model, s);
-    rows::one(counts, rows::NONE);
-    end_next(model, counts, s, right, now);
-}
-
-// absent, of either kind of reading
-fn absent_or_none(model: &mut [u32], counts: &mut [u64], s: u32) {
-    if model::seeks(model, s) {
-        none(model, counts, s);
-    } else {
-        absent(model, counts, s);
+    // The list stays in a reader's turn, so the moment after it is like the last one seen.
+    fn follow_reader(&mut self, nodes: u32, s: u32, answer: Answer) {
+        match answer {
+            Answer::Go => {
+                self.counts.one(rows::GO);
+                self.model.note_turn(s);
+            }
+            Answer::Found(v) => self.found(s, v),
+            Answer::Next(k, v) => self.next(s, draws::ticket_of(k, nodes), v),
+            Answer::Absent => self.absent(s),
+            _ => {}
+        }
     }
-}
 
-// The list stays in a reader's turn, so the moment after it is like the last one seen.
-fn follow_turn(
-    model: &mut [u32],
-    counts: &mut [u64],
-    s: u32,
-    number: u32,
-    ticket: u32,
-    record: u64,
-) {
-    if number == answers::GO {
-        rows::one(counts, rows::GO);
-        model::note_turn(model, s);
-        return;
+    // with a list in hand the root is 0: a reading's first turn answers absent
+    fn compare_first_turn(&mut self, said: Said) {
+        let first = (said.node == 0) & !said.answer.refuses();
+        if first & self.model.list_in_hand().is_some() {
+            self.counts.same(said.answer == Answer::Absent);
+            self.counts.one(rows::LIST_TURNS);
+        }
     }
-    if number == answers::FOUND {
-        found(model, counts, s, record);
-        return;
-    }
-    if number == answers::NEXT {
-        next(model, counts, s, ticket, record);
-        return;
-    }
-    if number == answers::ABSENT {
-        absent_or_none(model, counts, s);
-    }
-}
 
-fn turn_number(number: u32) -> u32 {
-    if answers::GO <= number {
-        answers::ACCEPTED
-    } else {
-        number
+    // Compares the answer of a reader's turn; found, absent and next are held against the moments of the lookup or search.
+    pub fn reader_turn(&mut self, nodes: u32, s: u32, said: Said) {
+        self.compare_first_turn(said);
+        let answer = if said.answer.refuses() {
+            said.answer
+        } else {
+            Answer::Accepted
+        };
+        self.answered(answer, self.slot_foretold(s));
+        self.follow_reader(nodes, s, said.answer);
     }
-}
 
-// Compares the answer of a reader's turn; found, absent and next are held against the moments of the lookup or search. `ticket`: that of next.
-pub fn reader_turn(
-    model: &mut [u32],
-    counts: &mut [u64],
-    s: u32,
-    number: u32,
-    ticket: u32,
-    record: u64,
-) {
-    let foretold = slot_foretold(model, s);
-    writing::answered(counts, turn_number(number), foretold);
-    follow_turn(model, counts, s, number, ticket, record);
-}
-
-fn count_given_up(counts: &mut [u64], seeks: bool) {
-    if seeks {
-        rows::one(counts, rows::NEXT_GIVEN_UP);
-    } else {
-        rows::one(counts, rows::GIVEN_UP);
-    }
-}
-
-// Compares the answer of a give up, and ends the lookup or search in the model.
-pub fn give_up(model: &mut [u32], counts: &mut [u64], s: u32, number: u32) {
-    let foretold = slot_foretold(model, s);
-    writing::answered(counts, number, foretold);
-    if foretold == answers::ACCEPTED {
-        count_given_up(counts, model::seeks(model, s));
-        model::end_reading(model, s);
+    // Compares the answer of a give up, and ends the lookup or search in the model.
+    pub fn give_up(&mut self, s: u32, answer: Answer) {
+        self.answered(answer, self.slot_foretold(s));
+        if let Some(kind) = self.model.kind(s) {
+            self.counts.one(match kind {
+                Reading::Lookup => rows::GIVEN_UP,
+                Reading::Search => rows::NEXT_GIVEN_UP,
+            });
+            self.model.end_reading(s);
+        }
     }
 }

@@ -1,208 +1,27 @@
 // The writer's calls, each beside the reference tree and the plain list.
 ghost use Rattle.std.specs.Prelude.{◌<◌};
 
-use crate::answers;
+use crate::answers::Answer;
+use crate::{Beside, Said};
 use checks::draws::Call;
+use checks::model::Write;
 use checks::{model, rows};
 use datatypes::{Purpose, Side, Step};
-
-fn count_refusal(counts: &mut [u64], number: u32) {
-    if (0 < number) & (number < answers::REFUSALS) {
-        rows::one(counts, rows::REFUSALS + number as usize);
-    }
-}
-
-// Compares an answer with the one foretold.
-pub fn answered(counts: &mut [u64], number: u32, foretold: u32) {
-    count_refusal(counts, number);
-    rows::same(counts, number == foretold);
-    rows::one(counts, rows::ANSWERS);
-}
-
-// Compares the answer of set up.
-pub fn set_up(counts: &mut [u64], number: u32) {
-    answered(counts, number, answers::ACCEPTED);
-    rows::one(counts, rows::CALLS);
-}
-
-// the stores of the last write's rotations: two for a single one, three for a double one
-fn rotation_stores(tree: &[u32]) -> u32
-    ensures { result < 64 }
-{
-    reference::single_rotations(tree) % 8 * 2 + reference::double_rotations(tree) % 8 * 3
-}
-
-// the stores of a delete before its rotations
-fn delete_stores(form: u32) -> u32
-    ensures { result < 3 }
-{
-    if form == 1 { 1 } else { 2 }
-}
-
-// the kind of an insert: a held key's replaces its record
-fn insert_kind(tree: &mut [u32], key: u32) -> u32 {
-    if reference::find(tree, key) == reference::NIL {
-        model::INSERT
-    } else {
-        model::REPLACE
-    }
-}
-
-fn full(nodes: u32, tree: &[u32]) -> bool {
-    nodes <= reference::held(tree) % 4096 + 4
-}
-
-fn insert_foretold(nodes: u32, tree: &[u32], model: &[u32], kind: u32, free: u32) -> u32 {
-    if model::kind_in_hand(model) != model::NONE {
-        return numbers::WRITE_IN_HAND;
-    }
-    if (kind == model::INSERT) & full(nodes, tree) {
-        return numbers::INDEX_FULL;
-    }
-    if free < 3 {
-        return numbers::TOO_FEW_FREE;
-    }
-    answers::ACCEPTED
-}
-
-// takes an accepted insert in hand
-fn begin_insert(tree: &mut [u32], model: &mut [u32], counts: &mut [u64], call: Call, kind: u32) {
-    rows::one_if(
-        counts,
-        rows::WIDE_INSERTED,
-        numbers::WORD_LIMIT <= call.record,
-    );
-    reference::insert(tree, call.key, call.record);
-    model::take_in_hand(model, kind, call.ticket, call.record);
-    model::plan_stores(model, 0, 1 + rotation_stores(tree));
-    rows::one(counts, rows::ACCEPTED + (kind % 4) as usize);
-}
-
-// counts the answer to an insert of a held key, by what is special about it; `full`: one of a new key would be refused by 10
-fn count_replacement(model: &[u32], counts: &mut [u64], call: Call, full: bool, number: u32) {
-    let accepted = number == answers::ACCEPTED;
-    let old = model::list_record(model, call.ticket);
-    rows::one_if(counts, rows::REPLACED_FULL, accepted & full);
-    rows::one_if(counts, rows::REPLACED_SAME, accepted & (old == call.record));
-    rows::one_if(
-        counts,
-        rows::HIGH_REPLACED,
-        accepted & model::differ_high(old, call.record),
-    );
-    rows::one_if(counts, rows::REPLACED_FEW, number == numbers::TOO_FEW_FREE);
-}
-
-fn count_insert(model: &[u32], counts: &mut [u64], call: Call, kind: u32, full: bool, number: u32) {
-    if kind == model::REPLACE {
-        count_replacement(model, counts, call, full, number);
-    }
-}
-
-// Compares the answer of an insert, and makes an accepted one in the reference tree. `free`: the free nodes before the call.
-pub fn insert(
-    nodes: u32,
-    tree: &mut [u32],
-    model: &mut [u32],
-    counts: &mut [u64],
-    call: Call,
-    free: u32,
-    number: u32,
-) {
-    let kind = insert_kind(tree, call.key);
-    let foretold = insert_foretold(nodes, tree, model, kind, free);
-    answered(counts, number, foretold);
-    count_insert(model, counts, call, kind, full(nodes, tree), number);
-    if foretold == answers::ACCEPTED {
-        begin_insert(tree, model, counts, call, kind);
-    }
-}
-
-fn delete_foretold(tree: &mut [u32], model: &[u32], key: u32, free: u32) -> u32 {
-    if model::kind_in_hand(model) != model::NONE {
-        return numbers::WRITE_IN_HAND;
-    }
-    if reference::find(tree, key) == reference::NIL {
-        return numbers::KEY_NOT_HELD;
-    }
-    if free < 4 {
-        return numbers::TOO_FEW_FREE;
-    }
-    answers::ACCEPTED
-}
-
-// takes an accepted delete in hand
-fn begin_delete(tree: &mut [u32], model: &mut [u32], counts: &mut [u64], key: u32, ticket: u32) {
-    let form = reference::delete_form(tree, key);
-    reference::delete(tree, key);
-    model::take_in_hand(model, model::DELETE, ticket, 0);
-    model::plan_stores(model, form, delete_stores(form) + rotation_stores(tree));
-    rows::one(counts, rows::ACCEPTED + 2);
-}
-
-// Compares the answer of a delete, and makes an accepted one in the reference tree. `free`: the free nodes before the call.
-pub fn delete(
-    tree: &mut [u32],
-    model: &mut [u32],
-    counts: &mut [u64],
-    call: Call,
-    free: u32,
-    number: u32,
-) {
-    let foretold = delete_foretold(tree, model, call.key, free);
-    answered(counts, number, foretold);
-    if foretold == answers::ACCEPTED {
-        begin_delete(tree, model, counts, call.key, call.ticket);
-    }
-}
-
-fn turn_foretold(model: &[u32]) -> u32 {
-    if model::kind_in_hand(model) == model::NONE {
-        return numbers::NO_WRITE_IN_HAND;
-    }
-    if model::awaited(model) != 0 {
-        return answers::WAIT;
-    }
-    if model::last_is_next(model) {
-        return answers::DONE;
-    }
-    answers::MORE
-}
-
-fn purpose_column(purpose: Purpose) -> usize
-    ensures { result < 5 }
-{
-    match purpose {
-        Purpose::ForInsert => 0,
-        Purpose::RedSibling => 2,
-        Purpose::BlackSibling => 4,
-    }
-}
-
-fn side_column(side: Side) -> usize
-    ensures { result < 2 }
-{
-    match side {
-        Side::L => 0,
-        Side::R => 1,
-    }
-}
+use reference::DeleteForm;
 
 // the row of a rotation's step in the counts: six a step, by purpose and side
 fn rotation_row(step: usize, side: Side, purpose: Purpose) -> usize
     requires { step < 5 }
 {
-    rows::ROTATIONS + step * 6 + purpose_column(purpose) + side_column(side)
+    rows::ROTATIONS + step * 6 + purpose as usize * 2 + side as usize
 }
 
-// the row of a record's replacement
-pub const REPLACE_ROW: usize = rows::STEPS + 1;
-
-// Answers the row of a store.
-pub fn step_row(step: Step) -> usize {
+// the row of a store
+fn step_row(step: Step) -> usize {
     match step {
         Step::Vacant => rows::STEPS + 7,
         Step::Insert(_, _) => rows::STEPS,
-        Step::Replace(_) => REPLACE_ROW,
+        Step::Replace(_) => rows::STEPS + 1,
         Step::DiagLower(side, purpose) => rotation_row(0, side, purpose),
         Step::DiagRaise(side, purpose) => rotation_row(1, side, purpose),
         Step::ZigLowerA(side, purpose) => rotation_row(2, side, purpose),
@@ -217,83 +36,189 @@ pub fn step_row(step: Step) -> usize {
     }
 }
 
-// both trees after a finished write; `listed`: it was a list
-fn compare_trees(pool: &[u32], root: u32, tree: &[u32], counts: &mut [u64], listed: bool) {
-    let same = walks::same_nodes(pool, root, tree);
-    rows::same(counts, same == reference::held(tree));
-    rows::add(counts, rows::NODES, same as u64);
-    rows::add(
-        counts,
-        rows::LIST_NODES,
-        if listed { same as u64 } else { 0 },
-    );
-    rows::one(counts, rows::TREES);
-}
-
-// the standings of all nodes after a finished write: as many are linked as keys are held, none stands made apart, and reading slots hold the
-// retired ones
-fn compare_standings(pool: &[u32], tree: &[u32], model: &[u32], counts: &mut [u64]) {
-    let linked = (walks::linked_nodes(pool) == reference::held(tree))
-        & (walks::apart_nodes(pool) == 0);
-    let holders = walks::all_holders_right(pool, model::reading_slots(model));
-    rows::same(counts, linked & holders);
-}
-
-fn finish_write(pool: &[u32], root: u32, tree: &[u32], model: &mut [u32], counts: &mut [u64]) {
-    let kind = model::kind_in_hand(model);
-    rows::one(counts, rows::FINISHED + (kind % 4) as usize);
-    rows::one(
-        counts,
-        rows::FORMS + (model::form_in_hand(model) % 4) as usize,
-    );
-    model::finish_write(model);
-    compare_trees(pool, root, tree, counts, kind == model::LIST);
-    compare_standings(pool, tree, model, counts);
-}
-
-// what a turn's answer brings about
-fn follow_turn(
-    pool: &[u32],
-    root: u32,
-    tree: &[u32],
-    model: &mut [u32],
-    counts: &mut [u64],
-    number: u32,
-) {
-    if number == answers::MORE {
-        rows::one(counts, rows::MORE);
-        model::store_made(model);
-        return;
-    }
-    if number == answers::DONE {
-        rows::one(counts, rows::DONE);
-        model::store_made(model);
-        finish_write(pool, root, tree, model, counts);
-        return;
-    }
-    if number == answers::WAIT {
-        rows::one(counts, rows::WAIT);
+// the row of a delete's form
+fn form_row(form: DeleteForm) -> usize {
+    match form {
+        DeleteForm::OneChild => rows::FORMS + 1,
+        DeleteForm::NextIsChild => rows::FORMS + 2,
+        DeleteForm::Other => rows::FORMS + 3,
     }
 }
 
-fn count_step(counts: &mut [u64], number: u32, row: usize) {
-    if (number == answers::MORE) | (number == answers::DONE) {
-        rows::one(counts, row);
+impl Beside {
+    // the stores of the last write: so many, and then two for a single rotation and three for a double one
+    fn stores(&self, first: u32) -> u32 {
+        let singles = self.tree.single_rotations().saturating_mul(2);
+        let doubles = self.tree.double_rotations().saturating_mul(3);
+        first.saturating_add(singles).saturating_add(doubles)
     }
-}
 
-// Compares the answer of a writer's turn; after the last one the trees are walked together.
-pub fn writer_turn(
-    pool: &[u32],
-    root: u32,
-    tree: &[u32],
-    model: &mut [u32],
-    counts: &mut [u64],
-    row: usize,
-    number: u32,
-) {
-    let foretold = turn_foretold(model);
-    answered(counts, number, foretold);
-    count_step(counts, number, row);
-    follow_turn(pool, root, tree, model, counts, number);
+    // whether an insert of a new key is refused by 10
+    fn full(&self, nodes: u32) -> bool {
+        nodes <= self.tree.held().saturating_add(4)
+    }
+
+    fn insert_foretold(&self, write: Write, full: bool, free: u32) -> Answer {
+        if self.model.write_in_hand().is_some() {
+            Answer::Refused(numbers::WRITE_IN_HAND)
+        } else if full & (write == Write::Insert) {
+            Answer::Refused(numbers::INDEX_FULL)
+        } else if free < 3 {
+            Answer::Refused(numbers::TOO_FEW_FREE)
+        } else {
+            Answer::Accepted
+        }
+    }
+
+    // takes a write in hand, which takes so many stores before its rotations
+    fn begin_write(&mut self, write: Write, call: Call, record: u64, first: u32) {
+        let stores = self.stores(first);
+        self.model.take_in_hand(write, call.ticket, record, stores);
+        self.counts.one(rows::ACCEPTED + write.place());
+    }
+
+    // takes an accepted insert in hand
+    fn begin_insert(&mut self, write: Write, call: Call) {
+        self.counts
+            .one_if(rows::WIDE_INSERTED, numbers::WORD_LIMIT <= call.record);
+        self.tree.insert(call.key, call.record);
+        self.begin_write(write, call, call.record, 1);
+    }
+
+    // counts the answer to an insert of a held key, by what is special about it; `full`: one of a new key would be refused by 10
+    fn count_replacement(&mut self, call: Call, full: bool, answer: Answer) {
+        let few = answer == Answer::Refused(numbers::TOO_FEW_FREE);
+        self.counts.one_if(rows::REPLACED_FEW, few);
+        if answer != Answer::Accepted {
+            return;
+        }
+        self.counts.one_if(rows::REPLACED_FULL, full);
+        if let Some(old) = self.model.list_record(call.ticket) {
+            self.counts.one_if(rows::REPLACED_SAME, old == call.record);
+            self.counts
+                .one_if(rows::HIGH_REPLACED, model::differ_high(old, call.record));
+        }
+    }
+
+    // Compares the answer of an insert, and makes an accepted one in the reference tree. `free`: the free nodes before the call.
+    pub fn insert(&mut self, nodes: u32, call: Call, free: u32, answer: Answer) {
+        let write = match self.tree.find(call.key) {
+            None => Write::Insert,
+            Some(_) => Write::Replace,
+        };
+        let full = self.full(nodes);
+        let foretold = self.insert_foretold(write, full, free);
+        self.answered(answer, foretold);
+        if write == Write::Replace {
+            self.count_replacement(call, full, answer);
+        }
+        if foretold == Answer::Accepted {
+            self.begin_insert(write, call);
+        }
+    }
+
+    fn delete_foretold(&mut self, key: u32, free: u32) -> Answer {
+        if self.model.write_in_hand().is_some() {
+            Answer::Refused(numbers::WRITE_IN_HAND)
+        } else if self.tree.find(key).is_none() {
+            Answer::Refused(numbers::KEY_NOT_HELD)
+        } else if free < 4 {
+            Answer::Refused(numbers::TOO_FEW_FREE)
+        } else {
+            Answer::Accepted
+        }
+    }
+
+    // takes an accepted delete in hand
+    fn begin_delete(&mut self, call: Call) {
+        let form = self.tree.delete_form(call.key);
+        let first = if form == DeleteForm::OneChild { 1 } else { 2 };
+        self.tree.delete(call.key);
+        self.begin_write(Write::Delete(form), call, 0, first);
+    }
+
+    // Compares the answer of a delete, and makes an accepted one in the reference tree. `free`: the free nodes before the call.
+    pub fn delete(&mut self, call: Call, free: u32, answer: Answer) {
+        let foretold = self.delete_foretold(call.key, free);
+        self.answered(answer, foretold);
+        if foretold == Answer::Accepted {
+            self.begin_delete(call);
+        }
+    }
+
+    fn turn_foretold(&self) -> Answer {
+        if self.model.write_in_hand().is_none() {
+            Answer::Refused(numbers::NO_WRITE_IN_HAND)
+        } else if self.model.awaited() != 0 {
+            Answer::Wait
+        } else if self.model.last_is_next() {
+            Answer::Done
+        } else {
+            Answer::More
+        }
+    }
+
+    // after a replacement: its copy takes a free node, and the old node is free at once if no slot reads
+    fn compare_copy(&mut self, said: Said) {
+        if matches!(said.step, Step::Replace(_)) {
+            let reading = self.model.reading_slots() != 0;
+            let left = said.free.saturating_add(u32::from(reading));
+            self.counts.same(said.free_before == left);
+        }
+    }
+
+    // both trees after a finished write
+    fn compare_trees(&mut self, pool: &[u32], root: u32, write: Write) {
+        let same = walks::same_nodes(pool, root, &self.tree);
+        self.counts.same(same == Some(self.tree.held()));
+        let nodes = same.unwrap_or(0) as u64;
+        self.counts.add(rows::NODES, nodes);
+        if matches!(write, Write::List(_)) {
+            self.counts.add(rows::LIST_NODES, nodes);
+        }
+        self.counts.one(rows::TREES);
+    }
+
+    // the standings of all nodes after a finished write: as many are linked as keys are held, none stands made apart, and reading slots hold the
+    // retired ones
+    fn compare_standings(&mut self, pool: &[u32]) {
+        let linked = walks::linked_nodes(pool) == self.tree.held();
+        let apart = walks::apart_nodes(pool) == 0;
+        let holders = walks::all_holders_right(pool, self.model.reading_slots());
+        self.counts.same(linked & apart & holders);
+    }
+
+    fn finish_write(&mut self, pool: &[u32], root: u32) {
+        if let Some(write) = self.model.write_in_hand() {
+            self.counts.one(rows::FINISHED + write.place());
+            if let Write::Delete(form) = write {
+                self.counts.one(form_row(form));
+            }
+            self.model.finish_write();
+            self.compare_trees(pool, root, write);
+            self.compare_standings(pool);
+        }
+    }
+
+    // a store was made; after a write's last one the trees are walked together
+    fn follow_store(&mut self, pool: &[u32], said: Said, last: bool) {
+        self.counts.one(step_row(said.step));
+        self.counts.one(if last { rows::DONE } else { rows::MORE });
+        self.model.store_made();
+        if last {
+            self.compare_copy(said);
+            self.finish_write(pool, said.root);
+        }
+    }
+
+    // Compares the answer of a writer's turn.
+    pub fn writer_turn(&mut self, pool: &[u32], said: Said) {
+        self.answered(said.answer, self.turn_foretold());
+        match said.answer {
+            Answer::More => self.follow_store(pool, said, false),
+            Answer::Done => self.follow_store(pool, said, true),
+            Answer::Wait => self.counts.one(rows::WAIT),
+            _ => {}
+        }
+    }
 }

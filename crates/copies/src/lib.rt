@@ -67,12 +67,8 @@ pub fn moved_write(b: u32, n: u32, w: Write) -> Write
     ensures { result ≡ moved_write b n w }
 {
     let mut r = w;
-    let mut i: u32 = 0;
-    while i < numbers::STORE_LIMIT {
-        let at = i as usize;
-        let x = r.stores[at];
-        r.stores[at] = moved_store(b, n, x);
-        i += 1;
+    for x in &mut r.stores {
+        *x = moved_store(b, n, *x);
     }
     r
 }

@@ -1,309 +1,219 @@
 // The counts that the program compare keeps, a line each.
 #![tactic(auto)]
 
-ghost use Rattle.std.specs.Prelude.{◌<◌};
-ghost use Rattle.spec.specs.Numbers.{slots};
-
-use checks::{draws, lengths, rows};
+use checks::draws::{Kind, Reading};
+use checks::lengths::Lengths;
+use checks::rows;
+use checks::rows::Counts;
 use std::io;
 
-fn line(rt: &impl Print, label: &str, n: u64) -> io::Result<()> {
-    println!(rt; "{label}\t{n}")
-}
-
-fn part(rt: &impl Print, label: &str, n: u32) -> io::Result<()> {
-    print!(rt; "{label}\t{n}")
+// A run: its nodes, how many calls, the most keys held, and how many lists were accepted after an emptying.
+#[derive(Clone, Copy)]
+pub struct RunLine {
+    pub nodes: u32,
+    pub calls: u64,
+    pub most: u32,
+    pub lists: u64,
 }
 
 // the most nodes that a lookup and a search compared, and with no write in hand since their begin
-fn longest(rt: &impl Print, lengths: &[u32]) -> io::Result<()> {
-    part(
-        rt,
-        "\tlongest lookup",
-        lengths::longest(lengths, lengths::LOOKUP),
-    )?;
-    part(
-        rt,
-        "\tlongest search",
-        lengths::longest(lengths, lengths::SEARCH),
-    )?;
-    part(
-        rt,
-        "\twith no write in hand: lookup",
-        lengths::longest(lengths, lengths::QUIET),
-    )?;
-    part(
-        rt,
-        "\tsearch",
-        lengths::longest(lengths, lengths::QUIET + lengths::SEARCH),
-    )
+fn longest(rt: &impl Print, lengths: &Lengths) -> io::Result<()> {
+    let lookup = lengths.longest(Reading::Lookup);
+    let search = lengths.longest(Reading::Search);
+    print!(rt; "\tlongest lookup\t{lookup}\tlongest search\t{search}")?;
+    let lookup = lengths.longest_quiet(Reading::Lookup);
+    let search = lengths.longest_quiet(Reading::Search);
+    println!(rt; "\twith no write in hand: lookup\t{lookup}\tsearch\t{search}")
 }
 
-// Prints the line of a run of so many calls on so many nodes, with so many lists accepted after an emptying.
-pub fn run(
-    rt: &impl Print,
-    nodes: u32,
-    calls: u64,
-    most: u32,
-    lists: u64,
-    lengths: &[u32],
-) -> io::Result<()> {
-    part(rt, "nodes", nodes)?;
-    print!(rt; "\tcalls\t{calls}")?;
-    part(rt, "\tmost keys held", most)?;
-    print!(rt; "\tlists after an emptying\t{lists}")?;
-    longest(rt, lengths)?;
-    println!(rt; "")
+// Prints the line of a run.
+pub fn run(rt: &impl Print, run: RunLine, lengths: &Lengths) -> io::Result<()> {
+    print!(rt; "nodes\t{}\tcalls\t{}", run.nodes, run.calls)?;
+    print!(rt; "\tmost keys held\t{}", run.most)?;
+    print!(rt; "\tlists after an emptying\t{}", run.lists)?;
+    longest(rt, lengths)
 }
 
-// how many calls of a kind were made
-fn made(counts: &[u64], kind: u32) -> u64 {
-    rows::get(counts, rows::CALLS + kind as usize)
-}
+// a line and its row
+type Line = (&'static str, usize);
 
-fn calls(rt: &impl Print, counts: &[u64]) -> io::Result<()> {
-    line(rt, "set up", rows::get(counts, rows::CALLS))?;
-    line(rt, "insert", made(counts, draws::INSERT))?;
-    line(rt, "delete", made(counts, draws::DELETE))?;
-    line(rt, "writer's turn", made(counts, draws::WRITER_TURN))?;
-    line(rt, "begin", made(counts, draws::BEGIN))?;
-    line(
-        rt,
+const CALLS: [Line; 9] = [
+    ("set up", rows::CALLS),
+    ("insert", rows::CALLS + Kind::Insert as usize),
+    ("delete", rows::CALLS + Kind::Delete as usize),
+    ("writer's turn", rows::CALLS + Kind::WriterTurn as usize),
+    ("begin", rows::CALLS + Kind::Begin as usize),
+    (
         "begin a search for the next ticket",
-        made(counts, draws::BEGIN_NEXT),
-    )?;
-    line(rt, "reader's turn", made(counts, draws::READER_TURN))?;
-    line(rt, "give up", made(counts, draws::GIVE_UP))?;
-    line(rt, "list", made(counts, draws::LIST))
-}
+        rows::CALLS + Kind::BeginNext as usize,
+    ),
+    ("reader's turn", rows::CALLS + Kind::ReaderTurn as usize),
+    ("give up", rows::CALLS + Kind::GiveUp as usize),
+    ("list", rows::CALLS + Kind::List as usize),
+];
 
-fn refusals(rt: &impl Print, counts: &[u64]) -> io::Result<()> {
-    let mut n: usize = 1;
-    while n < 13 {
-        print!(rt; "refused by {n}")?;
-        line(rt, "", rows::get(counts, rows::REFUSALS + n))?;
-        n += 1;
+const LIST_REFUSALS: [Line; 5] = [
+    ("refused by 18", rows::REFUSALS + 18),
+    ("refused by 19", rows::REFUSALS + 19),
+    ("lists refused by 6", rows::LISTS_REFUSED),
+    ("lists refused by 10", rows::LISTS_REFUSED + 1),
+    ("lists refused by 11", rows::LISTS_REFUSED + 2),
+];
+
+const LISTS: [Line; 10] = [
+    ("lists accepted", rows::ACCEPTED),
+    ("lists finished", rows::FINISHED),
+    ("lists accepted at a run's start", rows::LISTS_FIRST),
+    ("lists accepted after an emptying", rows::LISTS_LATER),
+    ("lists accepted with a slot reading", rows::LISTS_READ),
+    (
+        "lists accepted with a slot before its first turn",
+        rows::LISTS_UNTURNED,
+    ),
+    (
+        "lists accepted with a slot at a retired node",
+        rows::LISTS_RETIRED,
+    ),
+    ("lists of N - 4 keys accepted", rows::LISTS_LONGEST),
+    ("lists accepted with the key 0", rows::LISTS_SMALLEST),
+    (
+        "lists accepted with the key 4294967295",
+        rows::LISTS_LARGEST,
+    ),
+];
+
+const WRITES: [Line; 15] = [
+    ("inserts of a new key accepted", rows::ACCEPTED + 1),
+    ("inserts of a new key finished", rows::FINISHED + 1),
+    ("inserts of a held key accepted", rows::ACCEPTED + 3),
+    ("inserts of a held key finished", rows::FINISHED + 3),
+    (
+        "inserts of a held key accepted in a full index",
+        rows::REPLACED_FULL,
+    ),
+    (
+        "inserts of a held key accepted with the record that it has",
+        rows::REPLACED_SAME,
+    ),
+    ("inserts of a held key refused by 11", rows::REPLACED_FEW),
+    ("deletes accepted", rows::ACCEPTED + 2),
+    ("deletes finished", rows::FINISHED + 2),
+    ("deletes of a node with at most one child", rows::FORMS + 1),
+    (
+        "deletes of a node whose right child has no left child",
+        rows::FORMS + 2,
+    ),
+    ("deletes of the other form", rows::FORMS + 3),
+    ("more", rows::MORE),
+    ("done", rows::DONE),
+    ("wait", rows::WAIT),
+];
+
+const READINGS: [Line; 13] = [
+    ("lookups begun", rows::BEGUN),
+    ("go", rows::GO),
+    ("found", rows::FOUND),
+    ("absent", rows::ABSENT),
+    (
+        "answers that held at an earlier moment than the last",
+        rows::OLDER,
+    ),
+    (
+        "found with a record that its key no longer has",
+        rows::FOUND_OUTDATED,
+    ),
+    ("given up", rows::GIVEN_UP),
+    ("searches for the next ticket begun", rows::NEXT_BEGUN),
+    ("next", rows::NEXT),
+    ("none", rows::NONE),
+    (
+        "answers that are no longer the next ticket at the last moment",
+        rows::NEXT_OLDER,
+    ),
+    (
+        "next with a record that its key no longer has",
+        rows::NEXT_OUTDATED,
+    ),
+    ("searches given up", rows::NEXT_GIVEN_UP),
+];
+
+const WIDE_RECORDS: [Line; 3] = [
+    ("inserts accepted with a wide record", rows::WIDE_INSERTED),
+    (
+        "inserts of a held key accepted with a record that differs in the high word alone",
+        rows::HIGH_REPLACED,
+    ),
+    ("found and next with a wide record", rows::WIDE_ANSWERED),
+];
+
+const STEPS: [Line; 9] = [
+    ("calls with every slot awaited", rows::ALL_AWAITED),
+    ("store insert", rows::STEPS),
+    ("store replace", rows::STEPS + 1),
+    ("store unlink", rows::STEPS + 2),
+    ("store adopt", rows::STEPS + 3),
+    ("store promote", rows::STEPS + 4),
+    ("store publish", rows::STEPS + 5),
+    ("store detach", rows::STEPS + 6),
+    ("store link all", rows::LINK_ALL),
+];
+
+// the steps of a rotation, by their first rows; each has six, by purpose (insert, red sibling, black sibling) and side
+const ROTATIONS: [Line; 5] = [
+    ("store diag lower", rows::ROTATIONS),
+    ("store diag raise", rows::ROTATIONS + 6),
+    ("store zig lower A", rows::ROTATIONS + 12),
+    ("store zig lower C", rows::ROTATIONS + 18),
+    ("store zig raise", rows::ROTATIONS + 24),
+];
+
+const COMPARISONS: [Line; 14] = [
+    ("nodes of lists compared as taken", rows::LIST_TAKEN),
+    ("nodes of lists compared after the store", rows::LIST_NODES),
+    ("standings compared with a list in hand", rows::LIST_STATES),
+    ("first turns compared with a list in hand", rows::LIST_TURNS),
+    ("answers compared", rows::ANSWERS),
+    ("lookups compared with their moments", rows::LOOKUPS),
+    ("searches compared with their moments", rows::NEXT_SEARCHES),
+    ("trees and standings compared", rows::TREES),
+    ("nodes compared", rows::NODES),
+    (
+        "keys held, free count and awaited slots compared",
+        rows::STATES,
+    ),
+    ("counts of nodes compared, and no node twice", rows::COUNTS),
+    (
+        "counts bounded with no write in hand since the begin",
+        rows::QUIET_COUNTS,
+    ),
+    ("tallies of cameras compared", rows::TALLIES),
+    ("differences", rows::DIFFERENCES),
+];
+
+fn lines(rt: &impl Print, counts: &Counts, table: &[Line]) -> io::Result<()> {
+    for (label, row) in table {
+        println!(rt; "{label}\t{}", counts.get(*row))?;
     }
     Ok(())
 }
 
-fn list_refusals(rt: &impl Print, counts: &[u64]) -> io::Result<()> {
-    line(rt, "refused by 18", rows::get(counts, rows::REFUSALS + 18))?;
-    line(rt, "refused by 19", rows::get(counts, rows::REFUSALS + 19))?;
-    line(
-        rt,
-        "lists refused by 6",
-        rows::get(counts, rows::LISTS_REFUSED),
-    )?;
-    line(
-        rt,
-        "lists refused by 10",
-        rows::get(counts, rows::LISTS_REFUSED + 1),
-    )?;
-    line(
-        rt,
-        "lists refused by 11",
-        rows::get(counts, rows::LISTS_REFUSED + 2),
-    )
-}
-
-fn lists(rt: &impl Print, counts: &[u64]) -> io::Result<()> {
-    line(rt, "lists accepted", rows::get(counts, rows::ACCEPTED))?;
-    line(rt, "lists finished", rows::get(counts, rows::FINISHED))?;
-    line(
-        rt,
-        "lists accepted at a run's start",
-        rows::get(counts, rows::LISTS_FIRST),
-    )?;
-    line(
-        rt,
-        "lists accepted after an emptying",
-        rows::get(counts, rows::LISTS_LATER),
-    )?;
-    line(
-        rt,
-        "lists accepted with a slot reading",
-        rows::get(counts, rows::LISTS_READ),
-    )?;
-    line(
-        rt,
-        "lists accepted with a slot before its first turn",
-        rows::get(counts, rows::LISTS_UNTURNED),
-    )?;
-    line(
-        rt,
-        "lists accepted with a slot at a retired node",
-        rows::get(counts, rows::LISTS_RETIRED),
-    )?;
-    list_keys(rt, counts)
-}
-
-fn list_keys(rt: &impl Print, counts: &[u64]) -> io::Result<()> {
-    line(
-        rt,
-        "lists of N - 4 keys accepted",
-        rows::get(counts, rows::LISTS_LONGEST),
-    )?;
-    line(
-        rt,
-        "lists accepted with the key 0",
-        rows::get(counts, rows::LISTS_SMALLEST),
-    )?;
-    line(
-        rt,
-        "lists accepted with the key 4294967295",
-        rows::get(counts, rows::LISTS_LARGEST),
-    )
-}
-
-fn inserts(rt: &impl Print, counts: &[u64]) -> io::Result<()> {
-    line(
-        rt,
-        "inserts of a new key accepted",
-        rows::get(counts, rows::ACCEPTED + 1),
-    )?;
-    line(
-        rt,
-        "inserts of a new key finished",
-        rows::get(counts, rows::FINISHED + 1),
-    )?;
-    line(
-        rt,
-        "inserts of a held key accepted",
-        rows::get(counts, rows::ACCEPTED + 3),
-    )?;
-    line(
-        rt,
-        "inserts of a held key finished",
-        rows::get(counts, rows::FINISHED + 3),
-    )?;
-    line(
-        rt,
-        "inserts of a held key accepted in a full index",
-        rows::get(counts, rows::REPLACED_FULL),
-    )?;
-    line(
-        rt,
-        "inserts of a held key accepted with the record that it has",
-        rows::get(counts, rows::REPLACED_SAME),
-    )?;
-    line(
-        rt,
-        "inserts of a held key refused by 11",
-        rows::get(counts, rows::REPLACED_FEW),
-    )
-}
-
-fn wide_records(rt: &impl Print, counts: &[u64]) -> io::Result<()> {
-    line(
-        rt,
-        "inserts accepted with a wide record",
-        rows::get(counts, rows::WIDE_INSERTED),
-    )?;
-    line(
-        rt,
-        "inserts of a held key accepted with a record that differs in the high word alone",
-        rows::get(counts, rows::HIGH_REPLACED),
-    )?;
-    line(
-        rt,
-        "found and next with a wide record",
-        rows::get(counts, rows::WIDE_ANSWERED),
-    )
-}
-
-fn deletes(rt: &impl Print, counts: &[u64]) -> io::Result<()> {
-    line(
-        rt,
-        "deletes accepted",
-        rows::get(counts, rows::ACCEPTED + 2),
-    )?;
-    line(
-        rt,
-        "deletes finished",
-        rows::get(counts, rows::FINISHED + 2),
-    )?;
-    line(
-        rt,
-        "deletes of a node with at most one child",
-        rows::get(counts, rows::FORMS + 1),
-    )?;
-    line(
-        rt,
-        "deletes of a node whose right child has no left child",
-        rows::get(counts, rows::FORMS + 2),
-    )?;
-    line(
-        rt,
-        "deletes of the other form",
-        rows::get(counts, rows::FORMS + 3),
-    )
-}
-
-fn turns(rt: &impl Print, counts: &[u64]) -> io::Result<()> {
-    line(rt, "more", rows::get(counts, rows::MORE))?;
-    line(rt, "done", rows::get(counts, rows::DONE))?;
-    line(rt, "wait", rows::get(counts, rows::WAIT))
-}
-
-fn readers(rt: &impl Print, counts: &[u64]) -> io::Result<()> {
-    line(rt, "lookups begun", rows::get(counts, rows::BEGUN))?;
-    line(rt, "go", rows::get(counts, rows::GO))?;
-    line(rt, "found", rows::get(counts, rows::FOUND))?;
-    line(rt, "absent", rows::get(counts, rows::ABSENT))?;
-    line(
-        rt,
-        "answers that held at an earlier moment than the last",
-        rows::get(counts, rows::OLDER),
-    )?;
-    line(
-        rt,
-        "found with a record that its key no longer has",
-        rows::get(counts, rows::FOUND_OUTDATED),
-    )?;
-    line(rt, "given up", rows::get(counts, rows::GIVEN_UP))
-}
-
-fn next_searches(rt: &impl Print, counts: &[u64]) -> io::Result<()> {
-    line(
-        rt,
-        "searches for the next ticket begun",
-        rows::get(counts, rows::NEXT_BEGUN),
-    )?;
-    line(rt, "next", rows::get(counts, rows::NEXT))?;
-    line(rt, "none", rows::get(counts, rows::NONE))?;
-    line(
-        rt,
-        "answers that are no longer the next ticket at the last moment",
-        rows::get(counts, rows::NEXT_OLDER),
-    )?;
-    line(
-        rt,
-        "next with a record that its key no longer has",
-        rows::get(counts, rows::NEXT_OUTDATED),
-    )?;
-    line(
-        rt,
-        "searches given up",
-        rows::get(counts, rows::NEXT_GIVEN_UP),
-    )
+fn refusals(rt: &impl Print, counts: &Counts) -> io::Result<()> {
+    for n in 1..13usize {
+        println!(rt; "refused by {n}\t{}", counts.get(rows::REFUSALS + n))?;
+    }
+    Ok(())
 }
 
 // Prints so many counts in a line, from a row on; both numbers are below rows::ROWS.
-fn row(rt: &impl Print, label: &str, counts: &[u64], first: usize, many: usize) -> io::Result<()>
-    requires { (first < 224) × (many < 224) }
-{
+fn row(rt: &impl Print, label: &str, counts: &Counts, first: usize, many: usize) -> io::Result<()> {
     print!(rt; "{label}")?;
-    let mut i: usize = 0;
-    while i < many {
-        let n = rows::get(counts, first + i);
-        print!(rt; "\t{n}")?;
-        i += 1;
+    for n in (first..rows::ROWS).take(many) {
+        print!(rt; "\t{}", counts.get(n))?;
     }
     println!(rt; "")
 }
 
-fn slots(rt: &impl Print, counts: &[u64]) -> io::Result<()> {
+fn slots(rt: &impl Print, counts: &Counts) -> io::Result<()> {
     row(
         rt,
         "begun in slots 0 to 31",
@@ -317,44 +227,20 @@ fn slots(rt: &impl Print, counts: &[u64]) -> io::Result<()> {
         counts,
         rows::SLOT_AWAITED,
         numbers::SLOTS,
-    )?;
-    line(
-        rt,
-        "calls with every slot awaited",
-        rows::get(counts, rows::ALL_AWAITED),
     )
 }
 
-fn steps(rt: &impl Print, counts: &[u64]) -> io::Result<()> {
-    line(rt, "store insert", rows::get(counts, rows::STEPS))?;
-    line(rt, "store replace", rows::get(counts, rows::STEPS + 1))?;
-    line(rt, "store unlink", rows::get(counts, rows::STEPS + 2))?;
-    line(rt, "store adopt", rows::get(counts, rows::STEPS + 3))?;
-    line(rt, "store promote", rows::get(counts, rows::STEPS + 4))?;
-    line(rt, "store publish", rows::get(counts, rows::STEPS + 5))?;
-    line(rt, "store detach", rows::get(counts, rows::STEPS + 6))?;
-    line(rt, "store link all", rows::get(counts, rows::LINK_ALL))
-}
-
-// Prints the counts of a rotation's step, by purpose (insert, red sibling, black sibling) and side.
-fn rotation(rt: &impl Print, label: &str, counts: &[u64], step: usize) -> io::Result<()>
-    requires { step < 5 }
-{
-    row(rt, label, counts, rows::ROTATIONS + step * 6, 6)
-}
-
-fn rotations(rt: &impl Print, counts: &[u64]) -> io::Result<()> {
+fn rotations(rt: &impl Print, counts: &Counts) -> io::Result<()> {
     println!(rt;
         "stores of rotations\tinsert L\tinsert R\tred sibling L\tred sibling R\tblack sibling L\tblack sibling R"
     )?;
-    rotation(rt, "store diag lower", counts, 0)?;
-    rotation(rt, "store diag raise", counts, 1)?;
-    rotation(rt, "store zig lower A", counts, 2)?;
-    rotation(rt, "store zig lower C", counts, 3)?;
-    rotation(rt, "store zig raise", counts, 4)
+    for (label, first) in &ROTATIONS {
+        row(rt, label, counts, *first, 6)?;
+    }
+    Ok(())
 }
 
-fn wrong_lists(rt: &impl Print, counts: &[u64]) -> io::Result<()> {
+fn wrong_lists(rt: &impl Print, counts: &Counts) -> io::Result<()> {
     print!(rt;
         "wrong lists\tempty\tequal keys first\tequal in the middle\tequal last\tfalling keys first\tfalling in the middle\tfalling last"
     )?;
@@ -362,86 +248,18 @@ fn wrong_lists(rt: &impl Print, counts: &[u64]) -> io::Result<()> {
     row(rt, "refused by 18", counts, rows::LISTS_WRONG + 1, 9)
 }
 
-fn list_comparisons(rt: &impl Print, counts: &[u64]) -> io::Result<()> {
-    line(
-        rt,
-        "nodes of lists compared as taken",
-        rows::get(counts, rows::LIST_TAKEN),
-    )?;
-    line(
-        rt,
-        "nodes of lists compared after the store",
-        rows::get(counts, rows::LIST_NODES),
-    )?;
-    line(
-        rt,
-        "standings compared with a list in hand",
-        rows::get(counts, rows::LIST_STATES),
-    )?;
-    line(
-        rt,
-        "first turns compared with a list in hand",
-        rows::get(counts, rows::LIST_TURNS),
-    )
-}
-
-fn comparisons(rt: &impl Print, counts: &[u64]) -> io::Result<()> {
-    line(rt, "answers compared", rows::get(counts, rows::ANSWERS))?;
-    line(
-        rt,
-        "lookups compared with their moments",
-        rows::get(counts, rows::LOOKUPS),
-    )?;
-    line(
-        rt,
-        "searches compared with their moments",
-        rows::get(counts, rows::NEXT_SEARCHES),
-    )?;
-    line(
-        rt,
-        "trees and standings compared",
-        rows::get(counts, rows::TREES),
-    )?;
-    line(rt, "nodes compared", rows::get(counts, rows::NODES))?;
-    line(
-        rt,
-        "keys held, free count and awaited slots compared",
-        rows::get(counts, rows::STATES),
-    )?;
-    line(
-        rt,
-        "counts of nodes compared, and no node twice",
-        rows::get(counts, rows::COUNTS),
-    )?;
-    line(
-        rt,
-        "counts bounded with no write in hand since the begin",
-        rows::get(counts, rows::QUIET_COUNTS),
-    )?;
-    line(
-        rt,
-        "tallies of cameras compared",
-        rows::get(counts, rows::TALLIES),
-    )?;
-    line(rt, "differences", rows::get(counts, rows::DIFFERENCES))
-}
-
 // Prints every count.
-pub fn all(rt: &impl Print, counts: &[u64]) -> io::Result<()> {
-    calls(rt, counts)?;
+pub fn all(rt: &impl Print, counts: &Counts) -> io::Result<()> {
+    lines(rt, counts, &CALLS)?;
     refusals(rt, counts)?;
-    list_refusals(rt, counts)?;
+    lines(rt, counts, &LIST_REFUSALS)?;
     wrong_lists(rt, counts)?;
-    lists(rt, counts)?;
-    inserts(rt, counts)?;
-    deletes(rt, counts)?;
-    turns(rt, counts)?;
-    readers(rt, counts)?;
-    next_searches(rt, counts)?;
-    wide_records(rt, counts)?;
+    lines(rt, counts, &LISTS)?;
+    lines(rt, counts, &WRITES)?;
+    lines(rt, counts, &READINGS)?;
+    lines(rt, counts, &WIDE_RECORDS)?;
     slots(rt, counts)?;
-    steps(rt, counts)?;
+    lines(rt, counts, &STEPS)?;
     rotations(rt, counts)?;
-    list_comparisons(rt, counts)?;
-    comparisons(rt, counts)
+    lines(rt, counts, &COMPARISONS)
 }

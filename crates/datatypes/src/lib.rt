@@ -139,6 +139,7 @@ pub enum Place {
 
 // How a fix-up of colours ends: with nothing more, with the node that it ended at turned black, with one rotation or two,
 // or at a step that names a node where there is none.
+// kept: `Missing` in place of an Option, since the definitions (spec, Plan: missing) and the theorems name it.
 #[derive(Clone, Copy)]
 pub enum Ending {
     Balanced,

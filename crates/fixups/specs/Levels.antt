@@ -23,22 +23,22 @@ module _ (p : List ℕ) (path : List Link) where
   abbrev aunt : ℕ
   aunt = child p (other (side_of second)) (owner second)
 
-pub insert_fixup-on : (p : List ℕ) (m : ℕ) (path : List Link) → 3 ≤ length path → is_red p (owner (first p path)) ≡ true → is_red p (aunt p path) ≡ true
+pub insert_fixup_on : (p : List ℕ) (m : ℕ) (path : List Link) → 3 ≤ length path → is_red p (owner (first p path)) ≡ true → is_red p (aunt p path) ≡ true
     → insert_fixup p m path ≡ insert_fixup p (m + 1) (drop 2 path)
 unfolding insert_fixup
-insert_fixup-on p m [] h e f = absurd (let z : ⊥ = omega arith in z)
-insert_fixup-on p m (x ∷ []) h e f = absurd (let z : ⊥ = omega arith in z)
-insert_fixup-on p m (x ∷ y ∷ []) h e f = absurd (let z : ⊥ = omega arith in z)
-insert_fixup-on p m (x ∷ y ∷ z ∷ up) h e f = rw (e, f)
+insert_fixup_on p m [] h e f = absurd (let z : ⊥ = omega arith in z)
+insert_fixup_on p m (x ∷ []) h e f = absurd (let z : ⊥ = omega arith in z)
+insert_fixup_on p m (x ∷ y ∷ []) h e f = absurd (let z : ⊥ = omega arith in z)
+insert_fixup_on p m (x ∷ y ∷ z ∷ up) h e f = rw (e, f)
 
-pub paint_insert_fixup-level : (m n : ℕ) (path : List Link) (p : List ℕ) → m ≡ suc n → 2 ≤ length path
+pub paint_insert_fixup_level : (m n : ℕ) (path : List Link) (p : List ℕ) → m ≡ suc n → 2 ≤ length path
     → paint_insert_fixup m path p
     ≡ paint_insert_fixup n (drop 2 path) (paint (paint (paint p (owner (first p path)) black_colour) (aunt p path) black_colour) (owner (second p path)) red_colour)
 unfolding paint_insert_fixup
-paint_insert_fixup-level zero n path p e h = absurd (let z : ⊥ = omega arith in z)
-paint_insert_fixup-level (suc m) n [] p e h = absurd (let z : ⊥ = omega arith in z)
-paint_insert_fixup-level (suc m) n (x ∷ []) p e h = absurd (let z : ⊥ = omega arith in z)
-paint_insert_fixup-level (suc m) n (x ∷ y ∷ up) p e h =
+paint_insert_fixup_level zero n path p e h = absurd (let z : ⊥ = omega arith in z)
+paint_insert_fixup_level (suc m) n [] p e h = absurd (let z : ⊥ = omega arith in z)
+paint_insert_fixup_level (suc m) n (x ∷ []) p e h = absurd (let z : ⊥ = omega arith in z)
+paint_insert_fixup_level (suc m) n (x ∷ y ∷ up) p e h =
     let i : m ≡ n = omega arith in
     rw i
 
@@ -48,16 +48,16 @@ delete_fixup_red p m x [] e = rw e
 delete_fixup_red p m x (l ∷ []) e = rw e
 delete_fixup_red p m x (l ∷ above ∷ up) e = rw e
 
-pub paint_delete_levels-none : (m : ℕ) (path : List Link) (p : List ℕ) → (1 ≤ m → length path ≡ 0) → paint_delete_levels m path p ≡ p
+pub paint_delete_levels_none : (m : ℕ) (path : List Link) (p : List ℕ) → (1 ≤ m → length path ≡ 0) → paint_delete_levels m path p ≡ p
 unfolding paint_delete_levels
-paint_delete_levels-none zero path p h = refl
-paint_delete_levels-none (suc m) [] p h = refl
-paint_delete_levels-none (suc m) (l ∷ up) p h = absurd (let i = h (omega arith) in let z : ⊥ = omega arith in z)
+paint_delete_levels_none zero path p h = refl
+paint_delete_levels_none (suc m) [] p h = refl
+paint_delete_levels_none (suc m) (l ∷ up) p h = absurd (let i = h (omega arith) in let z : ⊥ = omega arith in z)
 
-pub paint_delete_levels-level : (m n : ℕ) (l : Link) (up : List Link) (p : List ℕ) → n + 1 ≡ m
+pub paint_delete_levels_level : (m n : ℕ) (l : Link) (up : List Link) (p : List ℕ) → n + 1 ≡ m
     → paint_delete_levels m (l ∷ up) p ≡ paint_delete_levels n up (paint p (child p (other (side_of l)) (owner l)) red_colour)
 unfolding paint_delete_levels
-paint_delete_levels-level zero n l up p e = absurd (let z : ⊥ = omega arith in z)
-paint_delete_levels-level (suc m) n l up p e =
+paint_delete_levels_level zero n l up p e = absurd (let z : ⊥ = omega arith in z)
+paint_delete_levels_level (suc m) n l up p e =
     let i : m ≡ n = omega arith in
     rw i

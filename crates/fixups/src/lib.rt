@@ -187,7 +187,7 @@ pub fn delete_fixup(pool: &[u32], path: &Path, x: u32) -> Fixup
 }
 
 // Paints so many levels up a path: each sibling red.
-#[tactic(auto, unfolding(spec::specs::Plan::paint_delete_levels))]
+#[tactic(auto, using(crate::specs::Levels::paint_delete_levels_none, crate::specs::Levels::paint_delete_levels_level))]
 pub fn paint_delete_levels(pool: &mut [u32], path: &Path, levels: u32)
     ensures { pool.new ≡ paint_delete_levels levels path.now pool.old }
 {

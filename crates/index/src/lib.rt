@@ -12,7 +12,9 @@ ghost use Rattle.spec.specs.Register.{state};
 ghost use Rattle.spec.specs.Calls.{outcome, accepts, writer_says, reader_says, set_up, insert, delete, insert_list, writer_turn, begin, reader_turn, turn_count, give_up};
 ghost use Rattle.index.specs.Turned.{writer_number, Turns};
 
-use datatypes::{Acceptance, Kind, ReaderAnswer, ReaderReply, Refusal, Register, Reply, WriterAnswer};
+use datatypes::{
+    Acceptance, Kind, ReaderAnswer, ReaderReply, Refusal, Register, Reply, WriterAnswer,
+};
 use lookups::Looked;
 use refusals::Tested;
 
@@ -81,7 +83,12 @@ pub fn delete(pool: &[u32], mut reg: Register, k: u32) -> Reply<Acceptance>
 // there are not as many records; 19 the root isn't 0; 10 more keys than N − 4; 11 fewer free nodes than keys; 12 a node would be taken from an
 // empty queue.
 // Leaves: the first free nodes taken and filled in key order, made apart (standing 3), and in the register the write in hand; refused, both as they were.
-pub fn insert_list(pool: &mut [u32], mut reg: Register, keys: &[u32], records: &[u64]) -> Reply<Acceptance>
+pub fn insert_list(
+    pool: &mut [u32],
+    mut reg: Register,
+    keys: &[u32],
+    records: &[u64],
+) -> Reply<Acceptance>
     ensures answer_value { accepts result.answer ≡ (insert_list (state pool.old reg) keys.now records.now).answer }
     ensures register_after { state pool.new result.register ≡ (insert_list (state pool.old reg) keys.now records.now).after }
 {
@@ -114,19 +121,17 @@ pub fn writer_turn(pool: &mut [u32], reg: Register) -> Reply<WriterAnswer>
     ensures answer_value { writer_says result.answer ≡ (writer_turn (state pool.old reg)).answer }
     ensures register_after { state pool.new result.register ≡ (writer_turn (state pool.old reg)).after }
 {
-    if let Err(refusal) = writer_refusal(pool, &reg) {
-        return Reply {
+    match writer_refusal(pool, &reg) {
+        Err(refusal) => Reply {
             answer: WriterAnswer::Refused(refusal),
             register: reg,
-        };
-    }
-    if heads::some_awaited(reg.awaited) {
-        return Reply {
+        },
+        Ok(()) if heads::some_awaited(reg.awaited) => Reply {
             answer: WriterAnswer::Wait,
             register: reg,
-        };
+        },
+        Ok(()) => turns::make_first(pool, reg),
     }
-    turns::make_first(pool, reg)
 }
 
 // Begin: starts a lookup of the key k in the slot s. It loads no node yet.

@@ -1,42 +1,76 @@
-// A list drawn from the tickets of a run, now and then a wrong one. Its keys and records stand first in two arrays lent for them.
-use checks::{draws, model};
+// A list drawn from the tickets of a run, now and then a wrong one.
+ghost use Rattle.std.specs.Prelude.{◌≤◌, length};
+ghost use Rattle.lists.specs.declared.drawn.TheConstants.{ROOM};
+
+use checks::draws;
 
 // room for the records of all tickets, and for one more
-pub const ROOM: usize = draws::TICKETS as usize + 1;
+const ROOM: usize = draws::TICKETS as usize + 1;
 
-// What is wrong with a list: nothing; it is empty; two keys are equal, or fall, at its beginning (this number), in its middle (1 more) or at its
-// end (2 more); it has a record fewer than keys, or one more.
-pub const RIGHT: u32 = 0;
+// What is wrong with a list: it is empty; two keys are equal, or fall, at its beginning, in its middle or at its end; it has a record fewer than
+// keys, or one more. Its number is its place among the rows of wrong lists.
+#[derive(Clone, Copy, PartialEq, Eq)]
+pub enum Fault {
+    Empty = 1,
+    EqualFirst = 2,
+    EqualInMiddle = 3,
+    EqualLast = 4,
+    FallingFirst = 5,
+    FallingInMiddle = 6,
+    FallingLast = 7,
+    FewerRecords = 8,
+    MoreRecords = 9,
+}
 
-const EMPTY: u32 = 1;
-
-const EQUAL: u32 = 2;
-
-const FALLING: u32 = 5;
-
-const FEWER_RECORDS: u32 = 8;
-
-const MORE_RECORDS: u32 = 9;
-
-// one list in so many has this fault
+// one list in so many has a given fault
 const FAULT_DRAWS: u32 = 64;
 
-// A list: how many keys and how many records it has, and what is wrong with it.
-#[derive(Clone, Copy)]
+impl Fault {
+    // whether it is one of two keys
+    fn of_pair(self) -> bool {
+        !matches!(
+            self,
+            Fault::Empty | Fault::FewerRecords | Fault::MoreRecords
+        )
+    }
+
+    // the first of the two keys of a fault in a list of m keys
+    fn place(self, m: usize) -> usize {
+        match self {
+            Fault::EqualInMiddle | Fault::FallingInMiddle => m.saturating_sub(2) / 2,
+            Fault::EqualLast | Fault::FallingLast => m.saturating_sub(2),
+            _ => 0,
+        }
+    }
+
+    // how many records go with m keys
+    fn records(self, m: usize) -> usize {
+        match self {
+            Fault::FewerRecords => m.saturating_sub(1),
+            Fault::MoreRecords => m.saturating_add(1),
+            _ => m,
+        }
+    }
+}
+
+// A list and its fault. kept: two arrays with their lengths beside them: (a) no heap, and index::insert_list takes two slices.
+#[derive(Drop)]
 pub struct List {
-    pub keys: u32,
-    pub records: u32,
-    pub fault: u32,
+    keys: [u32; ROOM],
+    records: [u64; ROOM],
+    keys_many: usize,
+    records_many: usize,
+    pub fault: Option<Fault>,
 }
 
 // a number from 1 to n
 fn up_to(n: u32, p: u32) -> u32 {
-    draws::high(p, n) % 4096 + 1
+    draws::high(p, n).saturating_add(1)
 }
 
 // N − 4, the most keys of a list
 fn most_keys(nodes: u32) -> u32 {
-    if 4 < nodes { nodes - 4 } else { 1 }
+    nodes.saturating_sub(4).max(1)
 }
 
 // a key too many, or as many as may be
@@ -46,17 +80,13 @@ fn too_long(nodes: u32, p: u32) -> u32 {
     } else {
         up_to(nodes, p)
     };
-    most_keys(nodes) % 4096 + over % 4096
+    most_keys(nodes).saturating_add(over)
 }
 
 // a key fewer than a full tree has, as many, or a key more
 fn about_full(p: u32) -> u32 {
-    let level = draws::high(p, 9);
-    if level < 9 {
-        let keys = 1u32 << level;
-        return keys % 4096 * 2 + draws::high(draws::next(p), 3) % 4;
-    }
-    1
+    let level = draws::high(p, 9).min(8);
+    (2u32 << level).saturating_add(draws::high(draws::next(p), 3))
 }
 
 // a length that an index of so many nodes can take
@@ -75,115 +105,106 @@ fn length_of(p: u32, q: u32, nodes: u32) -> u32 {
     }
 }
 
-fn put_record(records: &mut [u64], at: usize, v: u64) {
-    if at < records.len() {
-        records[at] = v;
-    }
-}
-
-// a key and its record at place i, if they are chosen; answers the place after
-fn put_chosen(keys: &mut [u32], records: &mut [u64], i: u32, k: u32, v: u64, chosen: bool) -> u32 {
-    if chosen {
-        model::set_word(keys, i as usize, k);
-        put_record(records, i as usize, v);
-        return i % 4096 + 1;
-    }
-    i
-}
-
 // whether the first of so many tickets is among the m - taken that are still to be taken of them
 fn chosen(x: u32, tickets: u32, m: u32, taken: u32) -> bool {
-    if taken < m {
-        return draws::high(x, tickets) < m - taken;
-    }
-    false
-}
-
-// Takes m tickets in rising order, each choice of them as likely as any other; all if there are fewer. Answers how many.
-fn take_tickets(keys: &mut [u32], records: &mut [u64], m: u32, nodes: u32, seed: u32) -> u32 {
-    let tickets = draws::tickets(nodes);
-    let mut x = seed;
-    let mut taken: u32 = 0;
-    let mut t: u32 = 0;
-    while t < tickets {
-        let p = draws::next(x);
-        let q = draws::next(p);
-        x = draws::next(q);
-        let k = draws::ticket_key(t, nodes);
-        let v = draws::record_of(p, q, t);
-        taken = put_chosen(keys, records, taken, k, v, chosen(x, tickets - t, m, taken));
-        t += 1;
-    }
-    taken
+    draws::high(x, tickets) < m.saturating_sub(taken)
 }
 
 // A fault drawn for a list of m keys; one of two keys needs two.
-fn fault_of(p: u32, m: u32) -> u32 {
-    let fault = draws::high(p, FAULT_DRAWS);
-    if MORE_RECORDS < fault {
-        return RIGHT;
-    }
-    if (m < 2) & (EQUAL <= fault) & (fault < FEWER_RECORDS) {
-        return MORE_RECORDS;
-    }
-    fault
+fn fault_of(p: u32, m: usize) -> Option<Fault> {
+    let fault = match draws::high(p, FAULT_DRAWS) {
+        1 => Fault::Empty,
+        2 => Fault::EqualFirst,
+        3 => Fault::EqualInMiddle,
+        4 => Fault::EqualLast,
+        5 => Fault::FallingFirst,
+        6 => Fault::FallingInMiddle,
+        7 => Fault::FallingLast,
+        8 => Fault::FewerRecords,
+        9 => Fault::MoreRecords,
+        _ => return None,
+    };
+    Some(if (m < 2) & fault.of_pair() {
+        Fault::MoreRecords
+    } else {
+        fault
+    })
 }
 
-// the first of the two keys of a fault
-fn fault_place(m: u32, fault: u32) -> u32 {
-    if m < 2 {
-        return 0;
+impl List {
+    // Answers an empty list.
+    pub fn new() -> List {
+        List {
+            keys: [0; ROOM],
+            records: [0; ROOM],
+            keys_many: 0,
+            records_many: 0,
+            fault: Some(Fault::Empty),
+        }
     }
-    match fault {
-        3 | 6 => (m - 2) / 2,
-        4 | 7 => m - 2,
-        _ => 0,
+
+    // Answers its keys.
+    pub fn keys(&self) -> &[u32]
+        ensures { length result.now ≤ ROOM }
+    {
+        &self.keys[..self.keys_many.min(ROOM)]
     }
-}
 
-// two keys side by side become equal, or change places
-fn spoil_pair(keys: &mut [u32], at: u32, equal: bool) {
-    let i = at as usize;
-    let first = model::word(keys, i);
-    let second = model::word(keys, i + 1);
-    model::set_word(keys, i, if equal { first } else { second });
-    model::set_word(keys, i + 1, first);
-}
-
-fn spoil(keys: &mut [u32], m: u32, fault: u32) {
-    if (EQUAL <= fault) & (fault < FEWER_RECORDS) {
-        spoil_pair(keys, fault_place(m, fault), fault < FALLING);
+    // Answers its records.
+    pub fn records(&self) -> &[u64] {
+        &self.records[..self.records_many.min(ROOM)]
     }
-}
 
-// Answers m less 1, 0 for 0.
-pub fn one_fewer(m: u32) -> u32 {
-    if 0 < m { m - 1 } else { 0 }
-}
-
-// how many records go with m keys
-fn records_of(m: u32, fault: u32) -> u32 {
-    if fault == MORE_RECORDS {
-        return m % 4096 + 1;
+    // Takes m tickets in rising order, each choice of them as likely as any other; all if there are fewer. Answers how many.
+    fn take(&mut self, m: u32, nodes: u32, seed: u32) -> usize {
+        let tickets = draws::tickets(nodes);
+        let mut x = seed;
+        let mut taken = 0;
+        for t in 0..tickets {
+            let p = draws::next(x);
+            let q = draws::next(p);
+            x = draws::next(q);
+            if (taken < ROOM) && chosen(x, tickets - t, m, taken as u32) {
+                self.keys[taken] = draws::ticket_key(t, nodes);
+                self.records[taken] = draws::record_of(p, q, t);
+                taken += 1;
+            }
+        }
+        taken
     }
-    if fault == FEWER_RECORDS {
-        return one_fewer(m);
-    }
-    m
-}
 
-// Draws a list in a run on so many nodes.
-pub fn draw(keys: &mut [u32], records: &mut [u64], nodes: u32, seed: u32) -> List {
-    let p = draws::next(seed);
-    let q = draws::next(p);
-    let r = draws::next(q);
-    let taken = take_tickets(keys, records, length_of(p, q, nodes), nodes, r);
-    let fault = fault_of(r, taken);
-    spoil(keys, taken, fault);
-    let m = if fault == EMPTY { 0 } else { taken };
-    List {
-        keys: m,
-        records: records_of(m, fault),
-        fault,
+    // two keys side by side become equal, or change places
+    fn spoil(&mut self, m: usize, fault: Fault) {
+        let i = fault.place(m);
+        if i < ROOM - 1 {
+            match fault {
+                Fault::EqualFirst | Fault::EqualInMiddle | Fault::EqualLast => {
+                    self.keys[i + 1] = self.keys[i]
+                }
+                _ => self.keys.swap(i, i + 1),
+            }
+        }
+    }
+
+    // Draws a list in a run on so many nodes.
+    pub fn draw(&mut self, nodes: u32, seed: u32) {
+        let p = draws::next(seed);
+        let q = draws::next(p);
+        let r = draws::next(q);
+        let taken = self.take(length_of(p, q, nodes), nodes, r);
+        let fault = fault_of(r, taken);
+        let m = if fault == Some(Fault::Empty) {
+            0
+        } else {
+            taken
+        };
+        self.keys_many = m;
+        self.records_many = fault.map_or(m, |f| f.records(m));
+        self.fault = fault;
+        if let Some(f) = fault
+            && f.of_pair()
+        {
+            self.spoil(m, f);
+        }
     }
 }

@@ -1,185 +1,160 @@
 // The stores that a write plans.
 #![tactic(auto)]
 
-ghost use Rattle.std.specs.Prelude.{◌≡◌, [], ◌∷◌, not, cond, ◌<◌, ◌≤◌, ◌+◌, length};
-ghost use Rattle.datatypes.specs.declared.Ending.TheVariants.{Balanced};
-ghost use Rattle.datatypes.specs.Side.{owner};
+ghost use Rattle.std.specs.Prelude.{◌≡◌, map, ◌++◌, ◌<◌, ◌≤◌, ◌+◌, length};
+ghost use Rattle.datatypes.specs.declared.Register.{Register};
 ghost use Rattle.spec.specs.Numbers.{most_stores};
-ghost use Rattle.spec.specs.Pool.{is_red};
-ghost use Rattle.spec.specs.Search.{path_to};
 ghost use Rattle.spec.specs.Register.{state, write_of};
-ghost use Rattle.spec.specs.Plan.{store, rotation_stores, ending_stores, missing, fixup_result, insert_fixup, insert_plan, replace_plan, unlink_plan, successor_plan, delete_plan};
-ghost use Rattle.paths.specs.Upward.{most_links, upward};
+ghost use Rattle.spec.specs.Plan.{store, rotation_stores, ending_stores, plan, fixup_after_insert, insert_plan, replace_plan, unlink_plan, successor_plan, delete_plan};
+ghost use Rattle.plans.specs.Planned.{planned};
 ghost use Rattle.plans.specs.Pushed.{pushed, push_all};
 
-use datatypes::{Ending, Fixup, Form, Link, Register, Rotation, Side, Step, Store, Write};
+use datatypes::{Ending, Fixup, Form, Link, Rotation, Side, Step, Store, Write};
+use paths::Path;
 
-// What a write plans: whether all its steps find their nodes, and its stores as the write in hand.
-#[derive(Clone, Copy)]
-pub struct Planned {
-    pub possible: bool,
-    pub write: Write,
-}
-
-fn push(w: Write, link: Link, step: Step) -> Write
-    requires { w.count < most_stores }
-    ensures { result ≡ pushed w (store link step) }
+// Plans one store more.
+fn push(w: &mut Write, link: Link, step: Step)
+    requires { w.old.count < most_stores }
+    ensures { w.new ≡ pushed w.old (store link step) }
 {
-    let i = w.count as usize;
-    let mut r = w;
-    r.stores[i] = Store { link, step };
-    r.count = w.count + 1;
-    r
-}
-
-// one store at the link l, and two
-fn one_store(l: Link, s: Step) -> Write
-    ensures { result ≡ write_of (store l s ∷ []) }
-{
-    push(register::no_write(), l, s)
-}
-
-fn two_stores(l: Link, s: Step, t: Step) -> Write
-    ensures { result ≡ write_of (store l s ∷ store l t ∷ []) }
-{
-    push(one_store(l, s), l, t)
+    w.stores[w.count as usize] = Store { link, step };
+    w.count += 1;
 }
 
 // the stores of a rotation
-fn push_rotation(w: Write, t: Rotation) -> Write
-    requires { w.count + length (rotation_stores t) ≤ most_stores }
-    ensures { result ≡ push_all w (rotation_stores t) }
+fn push_rotation(w: &mut Write, t: Rotation)
+    requires { w.old.count + length (rotation_stores t) ≤ most_stores }
+    ensures { w.new ≡ push_all w.old (rotation_stores t) }
 {
-    let link = t.link;
-    let side = t.side;
-    let purpose = t.purpose;
-    let form = t.form;
+    let Rotation {
+        link,
+        form,
+        side,
+        purpose,
+    } = t;
     match form {
         Form::Diag => {
-            let a = push(w, link, Step::DiagLower(side, purpose));
-            push(a, link, Step::DiagRaise(side, purpose))
+            push(w, link, Step::DiagLower(side, purpose));
+            push(w, link, Step::DiagRaise(side, purpose));
         }
         Form::Zig => {
-            let a = push(w, link, Step::ZigLowerA(side, purpose));
-            let b = push(a, link, Step::ZigLowerC(side, purpose));
-            push(b, link, Step::ZigRaise(side, purpose))
+            push(w, link, Step::ZigLowerA(side, purpose));
+            push(w, link, Step::ZigLowerC(side, purpose));
+            push(w, link, Step::ZigRaise(side, purpose));
         }
     }
-}
-
-// Finds where the fix-up after an insert of the key k at the link l ends.
-fn fixup_after_insert(pool: &[u32], root: u32, k: u32, l: Link) -> Fixup
-    ensures { result ≡ cond (is_red pool.now (owner l)) (insert_fixup pool.now 0 (path_to pool.now root k l)) (fixup_result 0 Balanced) }
-{
-    if !pool::is_red(pool, links::owner(l)) {
-        return fixups::fixup_result(0, Ending::Balanced);
-    }
-    let mut path: [u64; numbers::MOST_LINKS] = [0; numbers::MOST_LINKS];
-    let depth = paths::path_to(pool, root, k, l, &mut path);
-    fixups::insert_fixup(pool, &path, depth, 0)
 }
 
 // the stores that a fix-up's ending plans
-fn push_ending(w: Write, e: Ending) -> Write
-    requires { w.count + length (ending_stores e) ≤ most_stores }
-    ensures { result ≡ push_all w (ending_stores e) }
+fn push_ending(w: &mut Write, e: Ending)
+    requires { w.old.count + length (ending_stores e) ≤ most_stores }
+    ensures { w.new ≡ push_all w.old (ending_stores e) }
 {
     match e {
-        Ending::Balanced => w,
-        Ending::Blacken => w,
         Ending::Rotate(t) => push_rotation(w, t),
         Ending::RotateTwice(t, u) => {
-            let a = push_rotation(w, t);
-            push_rotation(a, u)
+            push_rotation(w, t);
+            push_rotation(w, u);
         }
-        Ending::Missing => w,
+        _ => {}
     }
 }
 
-// the stores so far with those of a fix-up's ending
-fn plan(w: Write, e: Ending) -> Planned
-    requires { w.count + length (ending_stores e) ≤ most_stores }
-    ensures possible_value { result.possible ≡ not (missing e) }
-    ensures write_value { result.write ≡ push_all w (ending_stores e) }
+// Makes the write of the stores of these steps at the link l, and then of those of a fix-up's ending.
+fn filled(l: Link, steps: &[Step], e: Ending) -> Write
+    requires { length steps.now + length (ending_stores e) ≤ most_stores }
+    ensures { result ≡ write_of (map (store l) steps.now ++ ending_stores e) }
 {
-    let write = push_ending(w, e);
-    let gone = fixups::missing(e);
-    Planned {
-        possible: !gone,
-        write,
+    let mut write = register::no_write();
+    for step in steps {
+        push(&mut write, l, *step);
     }
+    push_ending(&mut write, e);
+    write
 }
 
-// Plans the insert of the key k with its record v at the empty link l.
-pub fn insert_plan(pool: &[u32], reg: Register, k: u32, v: u64, l: Link) -> Planned
-    ensures possible_value { result.possible ≡ (insert_plan (state pool.now reg) k v l).possible }
-    ensures write_value { result.write ≡ write_of (insert_plan (state pool.now reg) k v l).stores }
+// The same, where each step finds its nodes.
+fn plan(l: Link, steps: &[Step], e: Ending) -> Option<Write>
+    requires { length steps.now + length (ending_stores e) ≤ most_stores }
+    ensures { result ≡ planned (plan (map (store l) steps.now) e) }
 {
-    let fix = fixup_after_insert(pool, reg.root, k, l);
-    let ending = fix.ending;
-    plan(one_store(l, Step::Insert(k, v)), ending)
+    if let Ending::Missing = e {
+        return None;
+    }
+    Some(filled(l, steps, e))
 }
 
-// Plans the insert of a held key, whose node the link l holds, with its record v. Why by `plan`: docs/DECISIONS.md, 87.
-pub fn replace_plan(v: u64, l: Link) -> Planned
-    ensures possible_value { result.possible ≡ (replace_plan v l).possible }
-    ensures write_value { result.write ≡ write_of (replace_plan v l).stores }
+// Finds where the fix-up after an insert of the key k at the link l ends.
+#[tactic(auto, unfolding(spec::specs::Plan::fixup_after_insert))]
+fn fixup_after_insert(pool: &[u32], root: u32, k: u32, l: Link) -> Fixup
+    ensures { (q : Register) → q.root ≡ root → result ≡ fixup_after_insert (state pool.now q) k l }
 {
-    plan(one_store(l, Step::Replace(v)), Ending::Balanced)
-}
-
-// Plans the delete of node b, which has at most one child, at the end of a path of that depth.
-fn unlink_plan(pool: &[u32], reg: Register, l: Link, b: u32, path: &[u64], depth: u32) -> Planned
-    requires { (depth ≤ length path.now) × (depth ≤ most_links) }
-    ensures possible_value { result.possible ≡ (unlink_plan (state pool.now reg) l b (upward path.now depth)).possible }
-    ensures write_value { result.write ≡ write_of (unlink_plan (state pool.now reg) l b (upward path.now depth)).stores }
-{
-    let x = delete_fixups::only_child(pool, b);
-    let fix = delete_fixups::fixup_after_removal(pool, b, x, path, depth);
-    let ending = fix.ending;
-    plan(one_store(l, Step::Unlink), ending)
-}
-
-// Plans the delete of node b, which has two children; the path of that depth leads to the next key's node.
-fn successor_plan(pool: &[u32], reg: Register, l: Link, b: u32, path: &[u64], depth: u32) -> Planned
-    requires { (depth ≤ length path.now) × (depth ≤ most_links) }
-    ensures possible_value { result.possible ≡ (successor_plan (state pool.now reg) l b (upward path.now depth)).possible }
-    ensures write_value { result.write ≡ write_of (successor_plan (state pool.now reg) l b (upward path.now depth)).stores }
-{
-    if depth == 0 {
-        return Planned {
-            possible: false,
-            write: register::no_write(),
+    if !pool::is_red(pool, links::owner(l)) {
+        return Fixup {
+            levels: 0,
+            ending: Ending::Balanced,
         };
     }
-    let n = pool::node_at(pool, reg.root, paths::nearest(path, depth));
-    let fix = delete_fixups::fixup_after_removal(
-        pool,
-        n,
-        pool::child(pool, Side::R, n),
-        path,
-        depth,
-    );
-    let ending = fix.ending;
-    let right = pool::child(pool, Side::R, b);
-    if pool::child(pool, Side::L, right) == 0 {
-        return plan(two_stores(l, Step::Adopt, Step::Promote), ending);
-    }
-    let key = pool::word(pool, b, pool::KEY);
-    plan(two_stores(l, Step::Publish(n), Step::Detach(key)), ending)
+    let mut path = Path::new();
+    paths::path_to(pool, root, k, l, &mut path);
+    fixups::insert_fixup(pool, &path)
 }
 
-// Plans the delete of node b, which the link l holds.
-pub fn delete_plan(pool: &[u32], reg: Register, l: Link, b: u32) -> Planned
-    ensures possible_value { result.possible ≡ (delete_plan (state pool.now reg) l b).possible }
-    ensures write_value { result.write ≡ write_of (delete_plan (state pool.now reg) l b).stores }
+// Plans the insert of the key k with its record v at the empty link l. Of the register only the root is read.
+#[tactic(auto, unfolding(spec::specs::Plan::insert_plan))]
+pub fn insert_plan(pool: &[u32], root: u32, k: u32, v: u64, l: Link) -> Option<Write>
+    ensures { (q : Register) → q.root ≡ root → result ≡ planned (insert_plan (state pool.now q) k v l) }
 {
-    let mut path: [u64; numbers::MOST_LINKS] = [0; numbers::MOST_LINKS];
-    let key = pool::word(pool, b, pool::KEY);
-    let depth = paths::path_to(pool, reg.root, key, l, &mut path);
-    if delete_fixups::two_children(pool, b) {
-        let d = paths::successor_path(pool, b, &mut path, depth);
-        return successor_plan(pool, reg, l, b, &path, d);
+    let fix = fixup_after_insert(pool, root, k, l);
+    plan(l, &[Step::Insert(k, v)], fix.ending)
+}
+
+// Plans the insert of a held key, whose node the link l holds, with its record v. Why by `filled`: docs/DECISIONS.md, 87.
+pub fn replace_plan(v: u64, l: Link) -> Write
+    ensures { result ≡ write_of (replace_plan v l).stores }
+{
+    filled(l, &[Step::Replace(v)], Ending::Balanced)
+}
+
+// Plans the delete of node b, which has at most one child, at the end of a path.
+#[tactic(auto, unfolding(spec::specs::Plan::unlink_plan))]
+fn unlink_plan(pool: &[u32], l: Link, b: u32, path: &Path) -> Option<Write>
+    ensures { (q : Register) → result ≡ planned (unlink_plan (state pool.now q) l b path.now) }
+{
+    let x = delete_fixups::only_child(pool, b);
+    let fix = delete_fixups::fixup_after_removal(pool, b, x, path);
+    plan(l, &[Step::Unlink], fix.ending)
+}
+
+// Plans the delete of node b, which has two children; the path leads to the next key's node.
+#[tactic(auto, using(crate::specs::Pushed::removal_short))]
+fn successor_plan(pool: &[u32], root: u32, l: Link, b: u32, path: &Path) -> Option<Write>
+    ensures { (q : Register) → q.root ≡ root → result ≡ planned (successor_plan (state pool.now q) l b path.now) }
+{
+    if !path.reached() {
+        return None;
     }
-    unlink_plan(pool, reg, l, b, &path, depth)
+    let n = pool::node_at(pool, root, path.nearest());
+    let x = pool::child(pool, Side::R, n);
+    let fix = delete_fixups::fixup_after_removal(pool, n, x, path);
+    let right = pool::child(pool, Side::R, b);
+    if pool::child(pool, Side::L, right) == 0 {
+        return plan(l, &[Step::Adopt, Step::Promote], fix.ending);
+    }
+    let key = pool::word(pool, b, pool::KEY);
+    plan(l, &[Step::Publish(n), Step::Detach(key)], fix.ending)
+}
+
+// Plans the delete of node b, which the link l holds. Of the register only the root is read.
+#[tactic(auto, unfolding(spec::specs::Plan::delete_plan))]
+pub fn delete_plan(pool: &[u32], root: u32, l: Link, b: u32) -> Option<Write>
+    ensures { (q : Register) → q.root ≡ root → result ≡ planned (delete_plan (state pool.now q) l b) }
+{
+    let mut path = Path::new();
+    paths::path_to(pool, root, pool::word(pool, b, pool::KEY), l, &mut path);
+    if !delete_fixups::two_children(pool, b) {
+        return unlink_plan(pool, l, b, &path);
+    }
+    paths::successor_path(pool, b, &mut path);
+    successor_plan(pool, root, l, b, &path)
 }

@@ -16,7 +16,7 @@ use datatypes::{Fixup, Head, Link, Side, Stored};
 use paths::Path;
 
 // Paints the colours of a fix-up along a path, where x came; then retires n.
-
+// kept: fix, x and path by themselves, as paint_delete_fixup of the definitions takes them; a struct of the three is no plainer.
 fn colour_and_retire(
     pool: &mut [u32],
     h: Head,

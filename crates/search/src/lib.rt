@@ -25,7 +25,8 @@ pub fn child_towards(pool: &[u32], k: u32, n: u32) -> u32
     pool::child(pool, towards(pool, k, n), n)
 }
 
-// Searches for a key from node n, which the link l holds, with so many nodes still allowed: one loop, left with the place where it ends.
+// Searches for a key from node n, which the link l holds, with so many nodes still allowed.
+// kept: the paper names this form, one loop that is left with the place it found.
 pub fn seek(pool: &[u32], k: u32, l: Link, n: u32, allowed: u32) -> Place
     ensures { result ≡ seek pool.now k allowed l n }
 {

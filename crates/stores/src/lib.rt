@@ -64,6 +64,7 @@ fn insert_under_black(pool: &mut [u32], h: Head, l: Link, k: u32, v: u64) -> Sto
 //     P r   A r    =>   P b   A b
 //                      /
 //                    z r
+#[tactic(auto, unfolding(spec::specs::Turn::step_finds, spec::specs::Turn::step_made, spec::specs::Turn::insert_store, spec::specs::Plan::fixup_after_insert))]
 fn insert_under_red(pool: &mut [u32], h: Head, l: Link, k: u32, v: u64) -> Option<Stored>
     requires { (length pool.old < pool_limit) × (is_red pool.old (owner l) ≡ true) × (h.first ≡ 0 → ⊥) × Whole pool.old }
     ensures { Tries l (Insert k v) pool.old h pool.new result }
@@ -86,7 +87,7 @@ fn insert_under_red(pool: &mut [u32], h: Head, l: Link, k: u32, v: u64) -> Optio
 }
 
 // Inserts: stores a new red node in the empty link l and makes the fix-up's colour work. This is the write's list store.
-#[tactic(auto, using(crate::specs::Inserted::insert_empty))]
+#[tactic(auto, unfolding(spec::specs::Turn::step_finds))]
 pub fn insert(pool: &mut [u32], h: Head, l: Link, k: u32, v: u64) -> Option<Stored>
     requires { (length pool.old < pool_limit) × Whole pool.old }
     ensures { Tries l (Insert k v) pool.old h pool.new result }

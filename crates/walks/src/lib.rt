@@ -1,220 +1,207 @@
-// The index's pool beside the reference tree, node by node.
+// The index's pool beside the reference tree, node by node. It uses nothing of the index.
 #![tactic(auto)]
 
-// a node's words in a pool
-const KEY: usize = 0;
+ghost use Rattle.std.specs.Prelude.{◌≤◌, length};
 
-const RECORD_LOW: usize = 1;
+use numbers::{MOST_NODES, NODE_WORDS, WORD_LIMIT};
+use reference::{Colour, NIL, Tree};
 
-const RECORD_HIGH: usize = 2;
+// the most pairs of nodes that two trees have
+const PAIRS: usize = MOST_NODES + 1;
 
-const LEFT: usize = 3;
+// the standings by their words
+#[derive(Clone, Copy)]
+enum Standing {
+    Free = 0,
+    Linked = 1,
+    Retired = 2,
+    Apart = 3,
+}
 
-const RIGHT: usize = 4;
-
-const COLOUR: usize = 5;
-
-const STANDING: usize = 6;
-
-const HOLDERS: usize = 7;
-
-const NEXT: usize = 8;
-
-// standings
-const FREE: u32 = 0;
-
-const LINKED: u32 = 1;
-
-const RETIRED: u32 = 2;
-
-const APART: u32 = 3;
-
-const PAIRS: usize = 2048;
-
-// a word of a node, 0 of no node
-fn word(pool: &[u32], n: u32, f: usize) -> u32 {
-    if n == 0 {
-        return 0;
+fn colour_word(c: Colour) -> u32 {
+    match c {
+        Colour::Black => 0,
+        Colour::Red => 1,
     }
-    if numbers::NODE_WORDS <= f {
-        return 0;
+}
+
+// A node of a pool. Its colour and its standing are words: a damaged pool may have any number there.
+#[derive(Clone, Copy)]
+struct Node {
+    key: u32,
+    record: u64,
+    left: u32,
+    right: u32,
+    colour: u32,
+    standing: u32,
+    holders: u32,
+    next: u32,
+}
+
+impl From<&[u32; NODE_WORDS]> for Node {
+    fn from(words: &[u32; NODE_WORDS]) -> Node {
+        let [
+            key,
+            record_low,
+            record_high,
+            left,
+            right,
+            colour,
+            standing,
+            holders,
+            next,
+        ] = *words;
+        Node {
+            key,
+            record: u64::from(record_low) + u64::from(record_high) * WORD_LIMIT,
+            left,
+            right,
+            colour,
+            standing,
+            holders,
+            next,
+        }
     }
-    let at = (n as usize - 1) * numbers::NODE_WORDS + f;
-    if at < pool.len() { pool[at] } else { 0 }
+}
+
+impl Node {
+    // a node by its number; its words are 0 past the pool's last whole node, and of no node
+    fn at(pool: &[u32], n: u32) -> Node {
+        let place = (n as usize).checked_sub(1);
+        let words = place.and_then(|place| pool.as_chunks().0.get(place));
+        Node::from(words.unwrap_or(&[0; NODE_WORDS]))
+    }
+
+    // a retired node has holders, all of them among the reading slots; any other node has none
+    fn holders_right(&self, reading: u32) -> bool {
+        if self.standing == Standing::Retired as u32 {
+            self.holders != 0 && self.holders & reading == self.holders
+        } else {
+            self.holders == 0
+        }
+    }
+
+    // a node of each tree: the same key, record and colour, and children on the same sides
+    fn same_as(&self, tree: &Tree, n: u32) -> bool {
+        self.key == tree.key(n)
+            && self.record == tree.record(n)
+            && self.colour == colour_word(tree.colour(n))
+            && (self.left == NIL) == (tree.left(n) == NIL)
+            && (self.right == NIL) == (tree.right(n) == NIL)
+    }
+
+    // a node just taken and made apart, with this key and record
+    fn is_taken(&self, k: u32, v: u64) -> bool {
+        self.key == k
+            && self.record == v
+            && self.standing == Standing::Apart as u32
+            && self.holders == 0
+            && self.next == NIL
+    }
+}
+
+// the words of each node of a pool; none of a pool longer than the longest
+fn all_words(pool: &[u32]) -> &[[u32; NODE_WORDS]]
+    ensures { length result.now ≤ MOST_NODES }
+{
+    let words = pool.as_chunks().0;
+    if words.len() <= MOST_NODES {
+        words
+    } else {
+        &[]
+    }
 }
 
 // Answers how many nodes the pool has.
 pub fn nodes(pool: &[u32]) -> u32 {
-    if pool.len() < numbers::POOL_WORDS {
-        (pool.len() / numbers::NODE_WORDS) as u32
-    } else {
-        0
-    }
+    all_words(pool).len() as u32
 }
 
 // how many nodes have this standing
-fn count_standing(pool: &[u32], standing: u32) -> u32 {
-    let capacity = nodes(pool);
-    let mut count: u32 = 0;
-    let mut n: u32 = 0;
-    while n < capacity {
-        if word(pool, n + 1, STANDING) == standing {
-            count += 1;
-        }
-        n += 1;
-    }
-    count
+fn count_standing(pool: &[u32], standing: Standing) -> u32 {
+    all_words(pool)
+        .iter()
+        .filter(|words| Node::from(*words).standing == standing as u32)
+        .count() as u32
 }
 
 // Answers how many nodes stand free.
 pub fn free_nodes(pool: &[u32]) -> u32 {
-    count_standing(pool, FREE)
+    count_standing(pool, Standing::Free)
 }
 
 // Answers how many nodes stand linked.
 pub fn linked_nodes(pool: &[u32]) -> u32 {
-    count_standing(pool, LINKED)
+    count_standing(pool, Standing::Linked)
 }
 
 // Answers how many nodes stand made apart.
 pub fn apart_nodes(pool: &[u32]) -> u32 {
-    count_standing(pool, APART)
-}
-
-// a retired node has holders, all of them among the reading slots; any other node has none
-fn holders_right(pool: &[u32], n: u32, reading: u32) -> bool {
-    let holders = word(pool, n, HOLDERS);
-    if word(pool, n, STANDING) == RETIRED {
-        return (holders != 0) & (holders & reading == holders);
-    }
-    holders == 0
+    count_standing(pool, Standing::Apart)
 }
 
 // Answers whether just the retired nodes have holders, and only slots of these, a bit each.
 pub fn all_holders_right(pool: &[u32], reading: u32) -> bool {
-    let capacity = nodes(pool);
-    let mut n: u32 = 0;
-    while n < capacity {
-        if !holders_right(pool, n + 1, reading) {
-            return false;
+    all_words(pool)
+        .iter()
+        .all(|words| Node::from(words).holders_right(reading))
+}
+
+// Pairs of nodes, of the pool and of the tree, in the order in which they are compared.
+// kept: a fixed array with a count: (a) no heap.
+#[derive(Drop)]
+struct Pairs {
+    pairs: [(u32, u32); PAIRS],
+    many: usize,
+}
+
+impl Pairs {
+    // Adds a pair, unless there is no node.
+    fn push(&mut self, a: u32, b: u32) {
+        if a == NIL {
+            return;
         }
-        n += 1;
-    }
-    true
-}
-
-// a node's record, of two words
-fn record(pool: &[u32], n: u32) -> u64 {
-    let high = word(pool, n, RECORD_HIGH);
-    word(pool, n, RECORD_LOW) as u64 + high as u64 * numbers::WORD_LIMIT
-}
-
-// a node of each tree: the same key, record and colour
-fn same_node(pool: &[u32], a: u32, tree: &[u32], b: u32) -> bool {
-    (word(pool, a, KEY) == reference::key(tree, b))
-        & (record(pool, a) == reference::record(tree, b))
-        & (word(pool, a, COLOUR) == reference::colour(tree, b))
-}
-
-// children on the same sides
-fn same_shape(pool: &[u32], a: u32, tree: &[u32], b: u32) -> bool {
-    ((word(pool, a, LEFT) == 0) == (reference::left(tree, b) == 0))
-        & ((word(pool, a, RIGHT) == 0) == (reference::right(tree, b) == 0))
-}
-
-fn pair(pairs: &[u32], at: usize) -> u32 {
-    if at < pairs.len() { pairs[at] } else { 0 }
-}
-
-fn set_pair(pairs: &mut [u32], at: usize, n: u32) {
-    if at < pairs.len() {
-        pairs[at] = n;
-    }
-}
-
-// Adds a pair of nodes to those still to be compared, unless there is no node; answers how many there are.
-fn push(pairs: &mut [u32], tail: u32, a: u32, b: u32) -> u32 {
-    if a == 0 {
-        return tail;
-    }
-    if 4096 < tail {
-        return tail;
-    }
-    set_pair(pairs, tail as usize * 2, a);
-    set_pair(pairs, tail as usize * 2 + 1, b);
-    tail + 1
-}
-
-// Walks both trees together, level by level. Answers how many nodes were the same, and 1,025 if any differed.
-pub fn same_nodes(pool: &[u32], root: u32, tree: &[u32]) -> u32 {
-    let mut pairs = [0u32; PAIRS];
-    let mut tail = push(&mut pairs, 0, root, reference::root(tree));
-    let mut head: u32 = 0;
-    while head < 1024 {
-        if head == tail {
-            return head;
+        if let Some(place) = self.pairs.get_mut(self.many) {
+            *place = (a, b);
+            self.many += 1;
         }
-        let a = pair(&pairs, head as usize * 2);
-        let b = pair(&pairs, head as usize * 2 + 1);
-        if !(same_node(pool, a, tree, b) & same_shape(pool, a, tree, b)) {
-            return 1025;
-        }
-        tail = push(
-            &mut pairs,
-            tail,
-            word(pool, a, LEFT),
-            reference::left(tree, b),
-        );
-        tail = push(
-            &mut pairs,
-            tail,
-            word(pool, a, RIGHT),
-            reference::right(tree, b),
-        );
-        head += 1;
     }
-    head
+}
+
+// Walks both trees together, level by level. Answers how many nodes were the same, none if any differed.
+pub fn same_nodes(pool: &[u32], root: u32, tree: &Tree) -> Option<u32> {
+    let mut queue = Pairs {
+        pairs: [(NIL, NIL); PAIRS],
+        many: 0,
+    };
+    queue.push(root, tree.root());
+    for head in 0..PAIRS {
+        if head == queue.many {
+            return Some(head as u32);
+        }
+        let (a, b) = queue.pairs[head];
+        let node = Node::at(pool, a);
+        if !node.same_as(tree, b) {
+            return None;
+        }
+        queue.push(node.left, tree.left(b));
+        queue.push(node.right, tree.right(b));
+    }
+    Some(PAIRS as u32)
 }
 
 // Notes as many nodes of the free queue as there is room for, from this one on; 0 past its end.
 pub fn note_queue(pool: &[u32], first: u32, queue: &mut [u32]) {
     let mut n = first;
-    let mut i: usize = 0;
-    while i < queue.len() {
-        queue[i] = n;
-        n = word(pool, n, NEXT);
-        i += 1;
+    for place in queue {
+        *place = n;
+        n = Node::at(pool, n).next;
     }
-}
-
-// a node just taken and made apart, with this key and record
-fn is_taken(pool: &[u32], n: u32, k: u32, v: u64) -> bool {
-    let filled = (word(pool, n, KEY) == k) & (record(pool, n) == v);
-    let apart = (word(pool, n, STANDING) == APART) & (word(pool, n, HOLDERS) == 0);
-    filled & apart & (word(pool, n, NEXT) == 0)
-}
-
-// place i of the queue has a node just taken, with the key and record of place i
-fn place_taken(pool: &[u32], queue: &[u32], keys: &[u32], records: &[u64], i: usize) -> bool {
-    if i < queue.len() {
-        if i < keys.len() {
-            if i < records.len() {
-                return is_taken(pool, queue[i], keys[i], records[i]);
-            }
-        }
-    }
-    false
 }
 
 // Answers how many places of the keys have a node just taken, of the same place in the queue, with their key and record.
 pub fn taken_nodes(pool: &[u32], queue: &[u32], keys: &[u32], records: &[u64]) -> u32 {
-    let mut count: u32 = 0;
-    let mut i: usize = 0;
-    while i < keys.len() {
-        if place_taken(pool, queue, keys, records, i) {
-            count = count % 4096 + 1;
-        }
-        i += 1;
-    }
-    count
+    let places = queue.iter().zip(keys.iter().zip(records));
+    let taken = places.filter(|(n, (k, v))| Node::at(pool, **n).is_taken(**k, **v));
+    u32::try_from(taken.count()).unwrap_or(u32::MAX)
 }

@@ -1,5 +1,5 @@
 use Rattle.std.proofs.Common.{◌+◌, ◌-◌, sym, ◌∙◌, arith}
-use Rattle.fixups.specs.Levels.{above, paint_insert_fixup-level}
+use Rattle.fixups.specs.Levels.{above, paint_insert_fixup_level}
 use Rattle.fixups.proofs.paint_insert_fixup.Goals as goal
 
 pub loop-preserved : goal.loop-preserved
@@ -8,4 +8,4 @@ loop-preserved c =
     let a = c.args in
     let h = c.loop-test.true in
     rw (above l.rest.now 2, c.paint_level.ensures, c.child-aunt.ensures, c.other.ensures, c.side_of.ensures, c.owner.ensures, c.owner-in-loop.ensures, c.owner-in-loop-2.ensures)
-    (sym (paint_insert_fixup-level (a.levels - l.counter) (a.levels - (l.counter + 1)) l.rest.now l.pool (omega arith) c.in-len2-up.len_at_least) ∙ l.invariant)
+    (sym (paint_insert_fixup_level (a.levels - l.counter) (a.levels - (l.counter + 1)) l.rest.now l.pool (omega arith) c.in-len2-up.len_at_least) ∙ l.invariant)

@@ -1,15 +1,15 @@
+use Rattle.std.proofs.Common.{◌≡◌, ◌∙◌, sym, refl, true, false}
 use Rattle.spec.specs.Calls.{set_up}
 use Rattle.spec.specs.Register.{fresh}
 use Rattle.spec.specs.Pool.{length_right}
 use Rattle.laws.specs.Tests.{right-length, whole_length}
-use mathlib.Core.Bool.{true, false}
-use mathlib.Core.Path.{◌≡◌, refl, sym, ◌∙◌}
 use Rattle.index.proofs.set_up.Goals as goal
 
 pub returns-then-not-length_right : goal.returns-then-not-length_right
-unfolding set_up fresh
-returns-then-not-length_right c = let e : length_right c.args.pool.now ≡ false = sym c.length_right.ensures ∙ c.if-not-length_right.true in
-    rw (e, c.refused.ensures.1) record { answer_value = c.refused.ensures.0; register_after = refl }
+unfolding set_up
+returns-then-not-length_right c =
+    let e : length_right c.args.pool.now ≡ false = sym c.length_right.ensures ∙ c.if-not-length_right.true in
+    rw e record { answer_value = refl; register_after = refl }
 
 pub nodes-requires : goal.nodes-requires
 nodes-requires c = right-length c.args.pool.now (sym c.length_right.ensures ∙ c.if-not-length_right.false)
@@ -23,7 +23,4 @@ pub returns : goal.returns
 unfolding set_up fresh
 returns c =
     let e : length_right c.args.pool.now ≡ true = sym c.length_right.ensures ∙ c.if-not-length_right.false in
-    rw (e, c.accepted.ensures.1) record {
-      answer_value = c.accepted.ensures.0;
-      register_after = rw (c.fresh_register-register.ensures, c.fresh_pool.ensures, c.nodes.ensures);
-    }
+    rw e record { answer_value = refl; register_after = rw (c.fresh_register-register.ensures, c.fresh_pool.ensures, c.nodes.ensures) }

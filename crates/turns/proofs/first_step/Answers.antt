@@ -1,4 +1,4 @@
-use Rattle.spec.specs.Register.{with_write}
+use Rattle.spec.specs.Register.{store_of, with_write}
 use Rattle.turns.proofs.first_step.Goals as goal
 
 pub returns-in-Insert : goal.returns-in-Insert
@@ -23,4 +23,4 @@ returns-in-Adopt c = rw c.in-Adopt.is (rw c.head_of-h.ensures at (c.adopt.ensure
 
 pub returns-in-LinkAll : goal.returns-in-LinkAll
 unfolding with_write
-returns-in-LinkAll c = rw c.in-LinkAll.is (rw c.head_of-h.ensures at (c.link_all.ensures _ c.args.reg.now))
+returns-in-LinkAll c = rw c.in-LinkAll.is (rw c.head_of-h.ensures at (c.link_all.ensures (store_of c.args.reg.now 0).link c.args.reg.now))
