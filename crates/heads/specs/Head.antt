@@ -60,6 +60,15 @@ Tries l x p h p' t = (q : Register) → Tells (at p h q) l x p' t q
 abbrev pub TriesReading : ℕ → Link → Step → List ℕ → Head → List ℕ → Option Stored → Type 0
 TriesReading m l x p h p' t = (q : Register) → reading_slots q ≡ m → Tells (at p h q) l x p' t q
 
+-- The answer of a step that misses a node, and of one that finds all.
+module _ (p : List ℕ) (h : Head) (l : Link) (x : Step) (q : Register) where
+  pub tells-missed : step_finds (at p h q) l x ≡ false → Tells (at p h q) l x p None q
+  tells-missed e = (e, refl)
+
+  pub tells-made : (p' : List ℕ) (t : Stored) → step_finds (at p h q) l x ≡ true → left p' t q ≡ step_made (at p h q) l x
+      → Tells (at p h q) l x p' (Some t) q
+  tells-made p' t e m = (e, m)
+
 -- whether some slot is awaited
 pub some-awaited : (a : ℕ) → not (eqb a 0) ≡ true → a ≡ 0 → ⊥
 some-awaited a e z = absurd (false≢true (rw z at e))

@@ -1,5 +1,5 @@
 -- A write in hand filled store by store, and how many stores a fix-up's ending plans.
-use Rattle.std.specs.Prelude.{◌≡◌, refl, List, [], ◌∷◌, ◌++◌, length, set, take, replicate, eqb, map, get_or, ℕ, ◌+◌, ◌-◌, ◌<◌, ◌≤◌}
+use Rattle.std.specs.Prelude.{◌≡◌, refl, List, [], ◌∷◌, ◌++◌, cond, length, set, take, replicate, eqb, map, get_or, ℕ, ◌+◌, ◌-◌, ◌<◌, ◌≤◌}
 use Rattle.std.proofs.Common.{sym, ap, ◌∙◌, append-nil, append_assoc, length-append, arith}
 use Rattle.std.proofs.Math.Seq.{take-set-lt, set-append_seam}
 use Rattle.std.proofs.lemmas.List.{take-append-le, take_more, length-map, length-take-le, map-append}
@@ -11,15 +11,15 @@ use Rattle.datatypes.specs.declared.Step.{Step}
 use Rattle.datatypes.specs.declared.Store.{Store}
 use Rattle.datatypes.specs.declared.Write.{Write}
 use Rattle.datatypes.specs.declared.Fixup.{Fixup}
-use Rattle.datatypes.specs.declared.Purpose.TheVariants.{RedSibling}
+use Rattle.datatypes.specs.declared.Purpose.TheVariants.{ForInsert, RedSibling}
 use Rattle.datatypes.specs.declared.Ending.{Ending}
 use Rattle.datatypes.specs.declared.Rotation.{Rotation}
-use Rattle.datatypes.specs.Side.{other, link_at, owner, side_of}
+use Rattle.datatypes.specs.Side.{other, same_side, link_at, owner, side_of}
 use Rattle.base.specs.Walk.{cond_both}
 use Rattle.spec.specs.Numbers.{most_stores}
 use Rattle.spec.specs.Pool.{child, is_red}
 use Rattle.spec.specs.Register.{no_write, vacant, write_of}
-use Rattle.spec.specs.Plan.{store, rotation_stores, turn_stores, ending_stores, rotation}
+use Rattle.spec.specs.Plan.{store, rotation_stores, turn_stores, ending_stores, rotation, insert_fixup}
 use Rattle.spec.specs.Plan.{red_child, black_sibling as black_sibling_of, red_sibling, delete_fixup, fixup_after_removal}
 
 -- a write of no store; how many stores a write of a list has
@@ -80,6 +80,18 @@ Few n e = length (ending_stores e) ≤ n
 abbrev pub Short : ℕ → Fixup → Type 0
 Short n c = Few n c.ending
 
+pub insert_fixup-short : (p : List ℕ) (m : ℕ) (path : List Link) → Short 3 (insert_fixup p m path)
+unfolding insert_fixup
+insert_fixup-short p m [] = omega arith
+insert_fixup-short p m (x ∷ []) = omega arith
+insert_fixup-short p m (x ∷ y ∷ []) = cond_both (Few 3) (is_red p (owner x)) (omega arith) (omega arith)
+insert_fixup-short p m (x ∷ y ∷ z ∷ up) =
+    let s = side_of y in
+    let form = cond (same_side (side_of x) s) Diag Zig in
+    cond_both (Short 3) (is_red p (owner x))
+    (cond_both (Short 3) (is_red p (child p (other s) (owner y))) (insert_fixup-short p (m + 1) (z ∷ up)) (rotation-short (rotation z form s ForInsert)))
+    (omega arith)
+
 -- a black sibling's three at most, after a red sibling's two
 sibling-short : (p : List ℕ) (l : Link) (z : Side) (w : ℕ) → Few 5 (red_sibling p l z w)
 unfolding red_sibling
@@ -112,3 +124,6 @@ delete_fixup-short p m x (l ∷ above ∷ up) =
 pub removal_short : (p : List ℕ) (n x : ℕ) (path : List Link) → Short 5 (fixup_after_removal p n x path)
 unfolding fixup_after_removal
 removal_short p n x path = cond_both (Short 5) (is_red p n) (omega arith) (delete_fixup-short p 0 x path)
+
+pub removal-short : (p : List ℕ) (n x : ℕ) (path : List Link) → Short 5 (fixup_after_removal p n x path)
+removal-short = removal_short

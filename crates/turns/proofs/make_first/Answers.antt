@@ -1,6 +1,6 @@
 use Rattle.spec.specs.Register.{state}
 use Rattle.laws.specs.Tests.{lent-whole}
-use Rattle.turns.specs.Made.{turn-missed, turn-made}
+use Rattle.turns.specs.Made.{turn-missed, turn-stored}
 use mathlib.Core.Path.{◌∙◌}
 use Rattle.turns.proofs.make_first.Goals as goal
 
@@ -15,5 +15,5 @@ returns-in_default c =
 pub returns : goal.returns
 returns c =
     let t = c.first_step.new.pool in
-    let r = turn-made _ t _ c.requires.0 c.requires.1 c.requires.2 _ _ _ _ c.in-Some.ensures (c.moved_by.ensures ∙ rw c.node_at-b.ensures) (c.stored.ensures t) in
+    let r = turn-stored _ t _ c.requires.0 c.requires.1 c.requires.2 _ _ _ _ c.in-Some.ensures (c.moved_by.ensures ∙ rw c.node_at-b.ensures) (c.stored.ensures t) in
     record { answer_value = r.0; register_after = r.1 }

@@ -1,0 +1,45 @@
+-- The insert fix-up along any path, one level at a time.
+use Rattle.std.specs.Prelude.{◌≡◌, List, [], ◌∷◌, true, false, cond, drop, get_or, length, ℕ, suc, ◌+◌, ◌≤◌}
+use Rattle.std.proofs.Common.{arith}
+use Rattle.datatypes.specs.declared.Link.{Link}
+use Rattle.datatypes.specs.declared.Link.TheVariants.{Root}
+use Rattle.datatypes.specs.declared.Form.TheVariants.{Diag, Zig}
+use Rattle.datatypes.specs.declared.Purpose.TheVariants.{ForInsert}
+use Rattle.datatypes.specs.declared.Ending.TheVariants.{Rotate}
+use Rattle.datatypes.specs.Side.{other, same_side, owner, side_of}
+use Rattle.spec.specs.Pool.{child, is_red, paint, black_colour, red_colour}
+use Rattle.spec.specs.Plan.{fixup_result, rotation, insert_fixup, paint_insert_fixup}
+use Rattle.fixups.specs.Levels.{insert_fixup_on, paint_insert_fixup_level}
+
+-- the i-th link of a path, the nearest first
+abbrev pub link_in : List Link → ℕ → Link
+link_in path i = get_or path i Root
+
+module _ (p : List ℕ) (m : ℕ) (path : List Link) where
+  pub insert_fixup-turn : 3 ≤ length path → is_red p (owner (link_in path 0)) ≡ true
+      → is_red p (child p (other (side_of (link_in path 1))) (owner (link_in path 1))) ≡ false
+      → insert_fixup p m path
+      ≡ fixup_result m (Rotate (rotation (link_in path 2) (cond (same_side (side_of (link_in path 0)) (side_of (link_in path 1))) Diag Zig) (side_of (link_in path 1)) ForInsert))
+  unfolding insert_fixup
+  insert_fixup-turn h e f = go path h e f
+    where
+      go : (path : List Link) → 3 ≤ length path → is_red p (owner (link_in path 0)) ≡ true
+          → is_red p (child p (other (side_of (link_in path 1))) (owner (link_in path 1))) ≡ false
+          → insert_fixup p m path
+          ≡ fixup_result m (Rotate (rotation (link_in path 2) (cond (same_side (side_of (link_in path 0)) (side_of (link_in path 1))) Diag Zig) (side_of (link_in path 1)) ForInsert))
+      go [] h e f = absurd (let z : ⊥ = omega arith in z)
+      go (x ∷ []) h e f = absurd (let z : ⊥ = omega arith in z)
+      go (x ∷ y ∷ []) h e f = absurd (let z : ⊥ = omega arith in z)
+      go (x ∷ y ∷ z ∷ up) h e f = rw (e, f)
+
+  pub insert_fixup-on : 3 ≤ length path → is_red p (owner (link_in path 0)) ≡ true
+      → is_red p (child p (other (side_of (link_in path 1))) (owner (link_in path 1))) ≡ true
+      → insert_fixup p m path ≡ insert_fixup p (m + 1) (drop 2 path)
+  insert_fixup-on = insert_fixup_on p m path
+
+-- the colours of one level
+pub paint-insert_fixup-level : (m n : ℕ) (p : List ℕ) (path : List Link) → m ≡ suc n → 2 ≤ length path
+    → paint_insert_fixup m path p
+    ≡ (let aunt = child p (other (side_of (link_in path 1))) (owner (link_in path 1)) in
+    paint_insert_fixup n (drop 2 path) (paint (paint (paint p (owner (link_in path 0)) black_colour) aunt black_colour) (owner (link_in path 1)) red_colour))
+paint-insert_fixup-level m n p path = paint_insert_fixup_level m n path p

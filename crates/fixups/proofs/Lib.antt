@@ -1,0 +1,2 @@
+pub mod InsertFixups
+pub mod DeleteFixups
