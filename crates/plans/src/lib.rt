@@ -131,12 +131,15 @@ fn successor_plan(pool: &[u32], root: u32, l: Link, b: u32, path: &Path) -> Opti
     let n = pool::node_at(pool, root, path.nearest());
     let x = pool::child(pool, Side::R, n);
     let fix = delete_fixups::fixup_after_removal(pool, n, x, path);
-    let right = pool::child(pool, Side::R, b);
-    if pool::child(pool, Side::L, right) == 0 {
-        return plan(l, &[Step::Adopt, Step::Promote], fix.ending);
-    }
-    let key = pool::word(pool, b, pool::KEY);
-    plan(l, &[Step::Publish(n), Step::Detach(key)], fix.ending)
+    let steps = if pool::child(pool, Side::L, pool::child(pool, Side::R, b)) == 0 {
+        [Step::Adopt, Step::Promote]
+    } else {
+        [
+            Step::Publish(n),
+            Step::Detach(pool::word(pool, b, pool::KEY)),
+        ]
+    };
+    plan(l, &steps, fix.ending)
 }
 
 // Plans the delete of node b, which the link l holds. Of the register only the root is read.
