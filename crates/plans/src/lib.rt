@@ -61,6 +61,7 @@ fn push_ending(w: &mut Write, e: Ending)
 }
 
 // Plans these steps at the link l, and then the stores of a fix-up's ending.
+#[tactic(auto, using(crate::specs::Pushed::no_stores, crate::specs::Pushed::steps_one))]
 fn plan(l: Link, steps: &[Step], e: Ending) -> Option<Write>
     requires { length steps.now + length (ending_stores e) ≤ most_stores }
     ensures { result ≡ planned (plan (map (store l) steps.now) e) }
@@ -102,6 +103,7 @@ pub fn insert_plan(pool: &[u32], root: u32, k: u32, v: u64, l: Link) -> Option<W
 }
 
 // Plans the insert of a held key, whose node the link l holds, with its record v: one store.
+#[tactic(auto, using(crate::specs::Pushed::one_store))]
 pub fn replace_plan(v: u64, l: Link) -> Write
     ensures { result ≡ write_of (replace_plan v l).stores }
 {
