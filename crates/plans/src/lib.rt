@@ -90,7 +90,7 @@ fn fixup_after_insert(pool: &[u32], root: u32, k: u32, l: Link) -> Fixup
     }
     let mut path = Path::new();
     paths::path_to(pool, root, k, l, &mut path);
-    fixups::insert_fixup(pool, &path)
+    fixups::insert_fixup(pool, &path, 0)
 }
 
 // Plans the insert of the key k with its record v at the empty link l. Of the register only the root is read.

@@ -72,7 +72,7 @@ fn insert_under_red(pool: &mut [u32], h: Head, l: Link, k: u32, v: u64) -> Optio
 {
     let mut path = Path::new();
     paths::path_to(pool, h.root, k, l, &mut path);
-    let fix = fixups::insert_fixup(pool, &path);
+    let fix = fixups::insert_fixup(pool, &path, 0);
     if !fixups::nodes_found(fix) {
         return None;
     }
