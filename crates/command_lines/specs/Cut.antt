@@ -9,7 +9,7 @@ use Rattle.base.specs.Walk.{cond_both}
 use Rattle.command_fields.specs.declared.Command.{Command}
 use Rattle.command_fields.specs.declared.Field.{Field}
 use Rattle.command_lines.specs.declared.Reading.{Reading}
-use Rattle.command_lines.specs.declared.Reading.TheVariants.{Fresh, One, Two, Ill}
+use Rattle.command_lines.specs.declared.Reading.TheVariants.{Fresh, One, Two}
 use Rattle.command_lines.specs.declared.Piece.TheVariants.{Whole, Part}
 use Rattle.command_lines.specs.declared.Scanned.{Scanned}
 use Rattle.texts.specs.Ascii.{tab, newline}
@@ -86,12 +86,6 @@ module _ (l : List ℕ) (i : ℕ) where
       → cut_from l i r ≡ cut_from l (i + 1) (byte_taken r (get_or l i 0))
   unfolding cut_from cut taken
   cut-byte r h d e = rw (drop-cons l i 0 h, ne_eqb _ _ d, ne_eqb _ _ e, add-one i)
-
-  pub cut-ill : i < length l → (get_or l i 0 ≡ newline → ⊥) → cut_from l i Ill ≡ cut_from l (i + 1) Ill
-  unfolding cut_from cut taken
-  cut-ill h d =
-      rw (drop-cons l i 0 h, ne_eqb _ _ d, add-one i)
-      (cond_both (λ r. cut r (suc i) (drop (suc i) l) ≡ cut Ill (suc i) (drop (suc i) l)) (eqb (get_or l i 0) tab) refl refl)
 
   pub cut-after : (r : Reading) → i < length l → i < (cut_from l i r).next
   unfolding cut_from cut

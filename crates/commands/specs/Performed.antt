@@ -28,7 +28,7 @@ use Rattle.lent_words.specs.Lent.{tried_words}
 unfoldable pub shown : State → Outcome
 shown st = unless (wrong_length st gives 1 ∷ out_of_range st gives 2 ∷ []) st (outcome ok st)
 
--- a command's call on the pool lent; an ill-formed line has none, and its case is never used
+-- a command's call on the pool lent
 abbrev pub called : State → Command → Outcome
 called st (command.SetUp n) = set_up st
 called st (command.Insert k v) = insert st k v
@@ -40,7 +40,6 @@ called st (command.Turn s) = reader_turn st s
 called st (command.GiveUp s) = give_up st s
 called st command.Show = shown st
 called st command.Page = shown st
-called st command.Ill = shown st
 
 -- a command on the words, of which the first `lent` are the pool
 unfoldable pub performed : List ℕ → ℕ → Register → Command → Outcome

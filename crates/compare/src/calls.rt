@@ -1,7 +1,7 @@
 // The index's calls: the register goes from one to the next, and all else of an answer is an answer of comparisons.
 use checks::draws::{Call, Kind};
 use comparisons::answers::Answer;
-use datatypes::{Reader, Register, Reply, Step, Tally};
+use datatypes::{Acceptance, Reader, Register, Reply, Step, Tally};
 use lists::drawn::List;
 
 // A call made: the register after it, its answer, the count in the reply of a reader's turn, and the tally of the camera that made the call.
@@ -21,7 +21,7 @@ pub const NO_TALLY: Tally = Tally {
 };
 
 // a call that is accepted or refused
-fn asked(reply: Reply, tally: Tally) -> Made {
+fn asked(reply: Reply<Acceptance>, tally: Tally) -> Made {
     Made {
         register: reply.register,
         answer: Answer::from(reply.answer),

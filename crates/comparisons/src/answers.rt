@@ -1,11 +1,11 @@
 // What a call answered, without its register.
-use datatypes::{Acceptance, ReaderAnswer, WriterAnswer};
+use datatypes::{Acceptance, ReaderAnswer, Refusal, WriterAnswer};
 
-// Found has the record, next the key and the record, a refusal its number.
+// Found has the record, next the key and the record, a refusal why.
 #[derive(Clone, Copy, PartialEq, Eq)]
 pub enum Answer {
     Accepted,
-    Refused(u32),
+    Refused(Refusal),
     More,
     Done,
     Wait,
@@ -25,8 +25,8 @@ impl Answer {
 impl From<Acceptance> for Answer {
     fn from(a: Acceptance) -> Answer {
         match a {
-            Acceptance::Accepted => Answer::Accepted,
-            Acceptance::Refused(n) => Answer::Refused(n),
+            Ok(()) => Answer::Accepted,
+            Err(refusal) => Answer::Refused(refusal),
         }
     }
 }
@@ -37,7 +37,7 @@ impl From<WriterAnswer> for Answer {
             WriterAnswer::More(_, _) => Answer::More,
             WriterAnswer::Done(_, _) => Answer::Done,
             WriterAnswer::Wait => Answer::Wait,
-            WriterAnswer::Refused(n) => Answer::Refused(n),
+            WriterAnswer::Refused(refusal) => Answer::Refused(refusal),
         }
     }
 }
@@ -49,7 +49,7 @@ impl From<ReaderAnswer> for Answer {
             ReaderAnswer::Found(v) => Answer::Found(v),
             ReaderAnswer::Next(k, v) => Answer::Next(k, v),
             ReaderAnswer::Absent => Answer::Absent,
-            ReaderAnswer::Refused(n) => Answer::Refused(n),
+            ReaderAnswer::Refused(refusal) => Answer::Refused(refusal),
         }
     }
 }

@@ -61,8 +61,8 @@ impl Beside {
 
     // Compares an answer with the one foretold.
     pub fn answered(&mut self, answer: Answer, foretold: Answer) {
-        if let Answer::Refused(n) = answer {
-            self.counts.one(rows::REFUSALS + n as usize);
+        if let Answer::Refused(refusal) = answer {
+            self.counts.one(rows::REFUSALS + refusal as usize);
         }
         self.counts.same(answer == foretold);
         self.counts.one(rows::ANSWERS);

@@ -3,13 +3,14 @@ use crate::answers::Answer;
 use crate::{Beside, Said};
 use checks::draws::{Call, Reading};
 use checks::{draws, rows};
+use datatypes::Refusal;
 
 impl Beside {
     fn begin_foretold(&self, s: u32) -> Answer {
         if numbers::SLOT_LIMIT <= s {
-            Answer::Refused(numbers::SLOT_TOO_HIGH)
+            Answer::Refused(Refusal::SlotTooHigh)
         } else if self.model.reading(s) {
-            Answer::Refused(numbers::SLOT_READING)
+            Answer::Refused(Refusal::SlotReading)
         } else {
             Answer::Accepted
         }
@@ -18,11 +19,11 @@ impl Beside {
     // of a reader's turn and of a give up
     fn slot_foretold(&self, s: u32) -> Answer {
         if numbers::SLOT_LIMIT <= s {
-            Answer::Refused(numbers::SLOT_TOO_HIGH)
+            Answer::Refused(Refusal::SlotTooHigh)
         } else if self.model.reading(s) {
             Answer::Accepted
         } else {
-            Answer::Refused(numbers::SLOT_NOT_READING)
+            Answer::Refused(Refusal::SlotNotReading)
         }
     }
 

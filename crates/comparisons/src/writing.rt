@@ -6,7 +6,7 @@ use crate::{Beside, Said};
 use checks::draws::Call;
 use checks::model::Write;
 use checks::{model, rows};
-use datatypes::{Purpose, Side, Step};
+use datatypes::{Purpose, Refusal, Side, Step};
 use reference::DeleteForm;
 
 // the row of a rotation's step in the counts: six a step, by purpose and side
@@ -60,11 +60,11 @@ impl Beside {
 
     fn insert_foretold(&self, write: Write, full: bool, free: u32) -> Answer {
         if self.model.write_in_hand().is_some() {
-            Answer::Refused(numbers::WRITE_IN_HAND)
+            Answer::Refused(Refusal::WriteInHand)
         } else if full & (write == Write::Insert) {
-            Answer::Refused(numbers::INDEX_FULL)
+            Answer::Refused(Refusal::IndexFull)
         } else if free < 3 {
-            Answer::Refused(numbers::TOO_FEW_FREE)
+            Answer::Refused(Refusal::TooFewFree)
         } else {
             Answer::Accepted
         }
@@ -87,7 +87,7 @@ impl Beside {
 
     // counts the answer to an insert of a held key, by what is special about it; `full`: one of a new key would be refused by 10
     fn count_replacement(&mut self, call: Call, full: bool, answer: Answer) {
-        let few = answer == Answer::Refused(numbers::TOO_FEW_FREE);
+        let few = answer == Answer::Refused(Refusal::TooFewFree);
         self.counts.one_if(rows::REPLACED_FEW, few);
         if answer != Answer::Accepted {
             return;
@@ -119,11 +119,11 @@ impl Beside {
 
     fn delete_foretold(&mut self, key: u32, free: u32) -> Answer {
         if self.model.write_in_hand().is_some() {
-            Answer::Refused(numbers::WRITE_IN_HAND)
+            Answer::Refused(Refusal::WriteInHand)
         } else if self.tree.find(key).is_none() {
-            Answer::Refused(numbers::KEY_NOT_HELD)
+            Answer::Refused(Refusal::KeyNotHeld)
         } else if free < 4 {
-            Answer::Refused(numbers::TOO_FEW_FREE)
+            Answer::Refused(Refusal::TooFewFree)
         } else {
             Answer::Accepted
         }
@@ -148,7 +148,7 @@ impl Beside {
 
     fn turn_foretold(&self) -> Answer {
         if self.model.write_in_hand().is_none() {
-            Answer::Refused(numbers::NO_WRITE_IN_HAND)
+            Answer::Refused(Refusal::NoWriteInHand)
         } else if self.model.awaited() != 0 {
             Answer::Wait
         } else if self.model.last_is_next() {

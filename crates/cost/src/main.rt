@@ -320,8 +320,7 @@ fn walk(pool: &mut [u32], reg: Register, call: u8, keys: u32, s: u32) -> Registe
 {
     let mut r = reg;
     let mut seed: u32 = 1;
-    let mut i: u32 = 0;
-    while i < MOST_STEPS {
+    for _ in 0..MOST_STEPS {
         let act = way_call(pool, r, call, keys, s, seed);
         if act == NONE {
             return r;
@@ -330,7 +329,6 @@ fn walk(pool: &mut [u32], reg: Register, call: u8, keys: u32, s: u32) -> Registe
         let after = once(pool, r, act, k, s);
         r = passed(r, after, call);
         seed = seed % 65536 * 25189 + 13849;
-        i += 1;
     }
     fresh::fresh_register(8)
 }
@@ -342,15 +340,13 @@ fn start(pool: &mut [u32], call: u8, keys: u32) -> Register {
         return fresh::fresh_register(0);
     }
     let colour = if grows(call) { pool::RED } else { pool::BLACK };
-    let mut n: u32 = 1;
-    while n <= 65 {
+    for n in 1..66 {
         pool::set_word(pool, n, pool::KEY, 200 - 2 * n);
         pool::set_word(pool, n, pool::LEFT, n + 1);
         pool::set_word(pool, n, pool::RIGHT, 65);
         pool::set_word(pool, n, pool::COLOUR, colour);
         pool::set_word(pool, n, pool::STANDING, pool::LINKED);
         pool::set_word(pool, n + 64, pool::NEXT, (n + 65) % 129);
-        n += 1;
     }
     pool::set_word(pool, 1, pool::KEY, 2);
     pool::set_word(pool, 1, pool::LEFT, 65);
@@ -365,16 +361,6 @@ fn start(pool: &mut [u32], call: u8, keys: u32) -> Register {
     r.free = 63;
     r.held = DEEP;
     r
-}
-
-fn copy(from: &[u32], to: &mut [u32])
-    requires { length from.now ≡ length to.old }
-{
-    let mut i: usize = 0;
-    while i < to.len() {
-        to[i] = from[i];
-        i += 1;
-    }
 }
 
 // the page: how many bytes it has
@@ -451,12 +437,10 @@ fn repeat(
     requires { (1 ≤ keys) × (length kept.now ≡ length pool.old) }
 {
     let mut sum: u32 = 1;
-    let mut i: u32 = 0;
-    while i < REPEATS {
-        copy(kept, pool);
+    for i in 0..REPEATS {
+        pool.copy_from_slice(kept);
         let k = call_key(call, keys, i);
-        sum = std::num::wrapping_add_u32(sum ^ k, counted(pool, out, reg, act, k, s));
-        i += 1;
+        sum = (sum ^ k).wrapping_add(counted(pool, out, reg, act, k, s));
     }
     sum
 }
@@ -477,7 +461,7 @@ fn run(
     if r.held == 0 {
         return 0;
     }
-    copy(pool, kept);
+    kept.copy_from_slice(pool);
     repeat(pool, kept, out, r, call, act_of(call, mode), keys, s)
 }
 
@@ -526,6 +510,6 @@ fn main(rt: HostRuntime) -> io::Result<()> {
         mode,
         (slot % 2) as u32,
     );
-    let told = std::num::wrapping_add_u32(sum, seen(&out, sum as usize));
+    let told = sum.wrapping_add(seen(&out, sum as usize));
     print!(rt; "{told}")
 }

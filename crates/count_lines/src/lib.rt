@@ -204,7 +204,7 @@ fn refusals(rt: &impl Print, counts: &Counts) -> io::Result<()> {
     Ok(())
 }
 
-// Prints so many counts in a line, from a row on; both numbers are below rows::ROWS.
+// Prints so many counts in a line, from a row on.
 fn row(rt: &impl Print, label: &str, counts: &Counts, first: usize, many: usize) -> io::Result<()> {
     print!(rt; "{label}")?;
     for n in (first..rows::ROWS).take(many) {

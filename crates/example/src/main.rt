@@ -2,7 +2,7 @@
 // searches for the next ticket, deletes, and handles a refusal.
 #![tactic(auto)]
 
-use datatypes::{Acceptance, ReaderAnswer, Register, Reply, WriterAnswer};
+use datatypes::{Acceptance, ReaderAnswer, Refusal, Register, Reply, WriterAnswer};
 use std::io;
 
 // The words of a pool of 16 nodes.
@@ -16,18 +16,18 @@ fn say(rt: &impl Print, text: &str, n: u64) -> io::Result<()> {
     println!(rt; "{text}{n}")
 }
 
-// Writes the number of a refusal, and answers false. A refused call has changed neither pool nor
+// Writes a refusal, by its number, and answers false. A refused call has changed neither pool nor
 // register.
-fn refused(rt: &impl Print, number: u32) -> io::Result<bool> {
-    say(rt, "  refused by ", number as u64)?;
+fn refused(rt: &impl Print, refusal: Refusal) -> io::Result<bool> {
+    println!(rt; "  refused by {refusal}")?;
     Ok(false)
 }
 
 // Answers whether set up, insert, delete, begin or give up was accepted.
 fn accepted(rt: &impl Print, answer: Acceptance) -> io::Result<bool> {
     match answer {
-        Acceptance::Accepted => Ok(true),
-        Acceptance::Refused(number) => refused(rt, number),
+        Ok(()) => Ok(true),
+        Err(refusal) => refused(rt, refusal),
     }
 }
 
@@ -41,7 +41,7 @@ fn writes_on(rt: &impl Print, answer: WriterAnswer) -> io::Result<bool> {
             Ok(false)
         }
         WriterAnswer::Wait => Ok(false),
-        WriterAnswer::Refused(number) => refused(rt, number),
+        WriterAnswer::Refused(refusal) => refused(rt, refusal),
     }
 }
 
@@ -62,27 +62,25 @@ fn reads_on(rt: &impl Print, answer: ReaderAnswer) -> io::Result<bool> {
             println!(rt; "  absent")?;
             Ok(false)
         }
-        ReaderAnswer::Refused(number) => refused(rt, number),
+        ReaderAnswer::Refused(refusal) => refused(rt, refusal),
     }
 }
 
 // Makes the writer's turns of an insert or a delete until it is done. Calls of readers may come
 // between any two of them.
-fn carry_out(rt: &impl Print, pool: &mut [u32], asked: Reply) -> io::Result<Register> {
+fn carry_out(rt: &impl Print, pool: &mut [u32], asked: Reply<Acceptance>) -> io::Result<Register> {
     let mut reg = asked.register;
     let answer = asked.answer;
     if !accepted(rt, answer)? {
         return Ok(reg);
     }
-    let mut turns: u32 = 0;
-    while turns < MOST_TURNS {
+    for _ in 0..MOST_TURNS {
         let reply = index::writer_turn(pool, reg);
         reg = reply.register;
         let answer = reply.answer;
         if !writes_on(rt, answer)? {
             return Ok(reg);
         }
-        turns += 1;
     }
     Ok(reg)
 }
@@ -109,21 +107,24 @@ fn delete(rt: &impl Print, pool: &mut [u32], reg: Register, key: u32) -> io::Res
 
 // Makes the turns of a search begun in a slot until it answers. The writer's turns may come
 // between any two of them.
-fn search(rt: &impl Print, pool: &mut [u32], asked: Reply, slot: u32) -> io::Result<Register> {
+fn search(
+    rt: &impl Print,
+    pool: &mut [u32],
+    asked: Reply<Acceptance>,
+    slot: u32,
+) -> io::Result<Register> {
     let mut reg = asked.register;
     let answer = asked.answer;
     if !accepted(rt, answer)? {
         return Ok(reg);
     }
-    let mut turns: u32 = 0;
-    while turns < MOST_TURNS {
+    for _ in 0..MOST_TURNS {
         let reply = index::reader_turn(pool, reg, slot);
         reg = reply.register;
         let answer = reply.answer;
         if !reads_on(rt, answer)? {
             return Ok(reg);
         }
-        turns += 1;
     }
     Ok(reg)
 }

@@ -9,6 +9,7 @@ use checks::rows::Counts;
 use checks::{draws, rows};
 use comparisons::Beside;
 use comparisons::answers::Answer;
+use datatypes::Refusal;
 use drawn::List;
 
 // What a list is compared by beside the pool: the free nodes before and after it, and its answer.
@@ -22,15 +23,15 @@ pub struct Said {
 fn foretold(nodes: u32, model: &Model, list: &List, free: u32) -> Answer {
     let keys = list.keys().len() as u32;
     if model.write_in_hand().is_some() {
-        Answer::Refused(numbers::WRITE_IN_HAND)
+        Answer::Refused(Refusal::WriteInHand)
     } else if list.fault.is_some() {
-        Answer::Refused(numbers::LIST_WRONG)
+        Answer::Refused(Refusal::ListWrong)
     } else if model.held() != 0 {
-        Answer::Refused(numbers::INDEX_NOT_EMPTY)
+        Answer::Refused(Refusal::IndexNotEmpty)
     } else if nodes < keys + 4 {
-        Answer::Refused(numbers::INDEX_FULL)
+        Answer::Refused(Refusal::IndexFull)
     } else if free < keys {
-        Answer::Refused(numbers::TOO_FEW_FREE)
+        Answer::Refused(Refusal::TooFewFree)
     } else {
         Answer::Accepted
     }
@@ -39,10 +40,10 @@ fn foretold(nodes: u32, model: &Model, list: &List, free: u32) -> Answer {
 // counts a refused list by its answer, and a wrong one by its fault
 fn count_refused(counts: &mut Counts, list: &List, answer: Answer) {
     let row = match answer {
-        Answer::Refused(numbers::WRITE_IN_HAND) => rows::LISTS_REFUSED,
-        Answer::Refused(numbers::INDEX_FULL) => rows::LISTS_REFUSED + 1,
-        Answer::Refused(numbers::TOO_FEW_FREE) => rows::LISTS_REFUSED + 2,
-        Answer::Refused(numbers::LIST_WRONG) => {
+        Answer::Refused(Refusal::WriteInHand) => rows::LISTS_REFUSED,
+        Answer::Refused(Refusal::IndexFull) => rows::LISTS_REFUSED + 1,
+        Answer::Refused(Refusal::TooFewFree) => rows::LISTS_REFUSED + 2,
+        Answer::Refused(Refusal::ListWrong) => {
             rows::LISTS_WRONG + list.fault.map_or(0, |fault| fault as usize)
         }
         _ => return,

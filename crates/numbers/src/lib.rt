@@ -35,31 +35,3 @@ pub const RESERVE: u64 = 4;
 pub const FREE_FOR_INSERT: u32 = 3;
 
 pub const FREE_FOR_DELETE: u32 = 4;
-
-// refusal numbers (document 01, 'When a call is turned down'; 18 and 19: document 02, C-24); 8 is given no more (C-13)
-pub const WRONG_LENGTH: u32 = 1;
-
-pub const OUT_OF_RANGE: u32 = 2;
-
-pub const SLOT_TOO_HIGH: u32 = 3;
-
-pub const SLOT_READING: u32 = 4;
-
-pub const SLOT_NOT_READING: u32 = 5;
-
-pub const WRITE_IN_HAND: u32 = 6;
-
-pub const NO_WRITE_IN_HAND: u32 = 7;
-
-pub const KEY_NOT_HELD: u32 = 9;
-
-pub const INDEX_FULL: u32 = 10;
-
-pub const TOO_FEW_FREE: u32 = 11;
-
-// a path of over 64 nodes, a step that names a node where there is none, or a node taken from an empty queue
-pub const NODE_MISSING: u32 = 12;
-
-pub const LIST_WRONG: u32 = 18;
-
-pub const INDEX_NOT_EMPTY: u32 = 19;

@@ -238,16 +238,6 @@ page-room p h =
     let b = sheets-most p h in
     rw (page-sheets p (omega arith)) (omega arith)
 
--- the number of sheets by that of the lines
-module _ (p : List ℕ) {lines : ℕ} (e : lines ≡ length (listed p)) where
-  pub sheets-one : lines ≡ 0 → 1 ≡ sheets p
-  unfolding sheets
-  sheets-one h = rw (sym e, h)
-
-  pub sheets-more : lines ≢ 0 → (lines - 1) / sheet_lines + 1 ≡ sheets p
-  unfolding sheets
-  sheets-more h = rw (sym e) (omega arith)
-
 -- the last rank by its place
 pub last_none : (d : ℕ) (xs : List ℕ) → length xs ≡ 0 → d ≡ last_or d xs
 last_none d [] h = refl

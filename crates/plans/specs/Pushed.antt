@@ -19,7 +19,8 @@ use Rattle.base.specs.Walk.{cond_both}
 use Rattle.spec.specs.Numbers.{most_stores}
 use Rattle.spec.specs.Pool.{child, is_red}
 use Rattle.spec.specs.Register.{no_write, vacant, write_of}
-use Rattle.spec.specs.Plan.{store, rotation_stores, turn_stores, ending_stores, rotation, red_child, black_sibling as black_sibling_of, red_sibling, delete_fixup, fixup_after_removal}
+use Rattle.spec.specs.Plan.{store, rotation_stores, turn_stores, ending_stores, rotation}
+use Rattle.spec.specs.Plan.{red_child, black_sibling as black_sibling_of, red_sibling, delete_fixup, fixup_after_removal}
 
 -- a write of no store; how many stores a write of a list has
 pub no_stores : write_of [] ≡ no_write

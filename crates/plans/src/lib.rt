@@ -1,7 +1,7 @@
 // The stores that a write plans.
 #![tactic(auto)]
 
-ghost use Rattle.std.specs.Prelude.{◌≡◌, map, ◌++◌, ◌<◌, ◌≤◌, ◌+◌, length};
+ghost use Rattle.std.specs.Prelude.{◌≡◌, map, ◌<◌, ◌≤◌, ◌+◌, length};
 ghost use Rattle.datatypes.specs.declared.Register.{Register};
 ghost use Rattle.spec.specs.Numbers.{most_stores};
 ghost use Rattle.spec.specs.Register.{state, write_of};
@@ -60,20 +60,7 @@ fn push_ending(w: &mut Write, e: Ending)
     }
 }
 
-// Makes the write of the stores of these steps at the link l, and then of those of a fix-up's ending.
-fn filled(l: Link, steps: &[Step], e: Ending) -> Write
-    requires { length steps.now + length (ending_stores e) ≤ most_stores }
-    ensures { result ≡ write_of (map (store l) steps.now ++ ending_stores e) }
-{
-    let mut write = register::no_write();
-    for step in steps {
-        push(&mut write, l, *step);
-    }
-    push_ending(&mut write, e);
-    write
-}
-
-// The same, where each step finds its nodes.
+// Plans these steps at the link l, and then the stores of a fix-up's ending.
 fn plan(l: Link, steps: &[Step], e: Ending) -> Option<Write>
     requires { length steps.now + length (ending_stores e) ≤ most_stores }
     ensures { result ≡ planned (plan (map (store l) steps.now) e) }
@@ -81,7 +68,12 @@ fn plan(l: Link, steps: &[Step], e: Ending) -> Option<Write>
     if let Ending::Missing = e {
         return None;
     }
-    Some(filled(l, steps, e))
+    let mut write = register::no_write();
+    for step in steps {
+        push(&mut write, l, *step);
+    }
+    push_ending(&mut write, e);
+    Some(write)
 }
 
 // Finds where the fix-up after an insert of the key k at the link l ends.
@@ -97,7 +89,7 @@ fn fixup_after_insert(pool: &[u32], root: u32, k: u32, l: Link) -> Fixup
     }
     let mut path = Path::new();
     paths::path_to(pool, root, k, l, &mut path);
-    fixups::insert_fixup(pool, &path)
+    fixups::insert_fixup(pool, &path, 0)
 }
 
 // Plans the insert of the key k with its record v at the empty link l. Of the register only the root is read.
@@ -109,11 +101,13 @@ pub fn insert_plan(pool: &[u32], root: u32, k: u32, v: u64, l: Link) -> Option<W
     plan(l, &[Step::Insert(k, v)], fix.ending)
 }
 
-// Plans the insert of a held key, whose node the link l holds, with its record v. Why by `filled`: docs/DECISIONS.md, 87.
+// Plans the insert of a held key, whose node the link l holds, with its record v: one store.
 pub fn replace_plan(v: u64, l: Link) -> Write
     ensures { result ≡ write_of (replace_plan v l).stores }
 {
-    filled(l, &[Step::Replace(v)], Ending::Balanced)
+    let mut write = register::no_write();
+    push(&mut write, l, Step::Replace(v));
+    write
 }
 
 // Plans the delete of node b, which has at most one child, at the end of a path.

@@ -60,6 +60,6 @@ refused-run = refl
 none-added :
     map (λ (c : Command). added pool c ok)
     (command.SetUp 8 ∷ command.Insert 1 2 ∷ command.Delete 1 ∷ command.Write ∷ command.Begin 0 1 ∷ command.BeginNext 0 1 ∷ command.Turn 0 ∷ command.GiveUp 0
-    ∷ command.Ill ∷ [])
-    ≡ replicate 9 []
+    ∷ [])
+    ≡ replicate 8 []
 none-added = refl

@@ -1,5 +1,5 @@
 -- Laws of a run of trace: each step puts what is due, and less work is left.
-use Rattle.std.specs.Prelude.{ℕ, suc, ◌+◌, ◌-◌, ◌*◌, ◌≤◌, ◌<◌, ◌≡◌, refl, Bool, true, false, cond, List, [], ◌∷◌, ◌++◌, ◌⊎◌, eqb, length, take}
+use Rattle.std.specs.Prelude.{ℕ, suc, ◌+◌, ◌-◌, ◌*◌, ◌≤◌, ◌<◌, ◌≡◌, refl, Bool, true, false, cond, List, [], ◌∷◌, ◌++◌, ◌⊎◌, Option, None, Some, eqb, length, take}
 use Rattle.std.proofs.Common.{sym, ap, ◌∙◌, append-nil, append_assoc, inl, inr, ⊎_elim, arith, drop-drop, length-take-le}
 use Rattle.std.proofs.lemmas.Bool.{false≢true}
 use Rattle.std.proofs.Math.ListN.{drop}
@@ -11,7 +11,6 @@ use Rattle.texts.specs.Ascii.{newline}
 use Rattle.texts.specs.Line.{room}
 use Rattle.texts.specs.Put.{Put, PutPart, part_none, part-put, part-both, part-before}
 use Rattle.command_fields.specs.declared.Command.{Command}
-use Rattle.command_fields.specs.declared.Command.TheVariants as command
 use Rattle.command_fields.specs.Commands.{is_ill}
 use Rattle.command_lines.specs.declared.Reading.{Reading}
 use Rattle.command_lines.specs.declared.Reading.TheVariants.{Fresh}
@@ -56,47 +55,12 @@ node-part p k n q h g e =
     let d : nodes p + 1 - (k - 1) ≡ suc n = omega arith in
     rw (d, sym e, shown-next p n k h) (part-put (shown_from p (suc n) (k - 1)) q)
 
--- with no piece: the work of a run that has ended, and of one that goes on
-pub left_ended : (s : Session) (input : ℕ) → pieces s.rest ≡ 0 → s.ended ≡ true → work_left s input ≡ 0
-left_ended s input h e = rw (e, h)
-
-pub left-bytes : (s : Session) (input : ℕ) → pieces s.rest ≡ 0 → s.ended ≡ false → work_left s input ≡ (input - s.from) * line_work
-left-bytes s input h e = rw (e, h) (omega arith)
-
 -- Of the work w₀ at position at₀ of the output some is done, or nothing yet.
 abbrev pub Done : (w₀ at₀ w at : ℕ) → Type 0
 Done w₀ at₀ w at = (w < w₀) ⊎ ((at ≡ at₀) × (w ≡ w₀))
 
 pub done_more : {w₀ at₀ w at : ℕ} (v to : ℕ) → v < w → Done w₀ at₀ w at → Done w₀ at₀ v to
 done_more v to h d = inl (⊎_elim (λ l. omega (arith, l, h)) (λ r. omega (arith, r.1, h)) d)
-
-pub done_full : {w₀ at₀ w at : ℕ} (out : ℕ) → at ≤ out → out - at < sheet_room → at₀ + sheet_room ≤ out → Done w₀ at₀ w at → w ≤ w₀ - 1
-done_full out a h g d = ⊎_elim (λ l. omega (arith, l)) (λ r. absurd (let z : ⊥ = omega (arith, r.0, a, h, g) in z)) d
-
--- Small facts on numbers that the loops over a run cite.
-pub at_least : (n : ℕ) → 0 ≤ n
-at_least n = omega arith
-
-pub at_most : {a m n : ℕ} → m ≡ n → a ≤ n → a ≤ m
-at_most e h = rw e h
-
-pub falls : {v w l : ℕ} → v ≤ w - 1 → l ≤ w → 0 < l → v < w
-falls a b c = omega (arith, a, b, c)
-
--- room for any piece, and so for a line
-pub piece-fits : {at n : ℕ} → at ≤ n → sheet_room ≤ n - at → at + sheet_room ≤ n
-piece-fits a b = omega (arith, a, b)
-
-pub line-fits : (at n : ℕ) → at + sheet_room ≤ n → at + room ≤ n
-line-fits at n a = omega (arith, a)
-
--- no piece is left to write: bytes are left to read
-pub bytes_left : (s : Session) (input : ℕ) → pieces s.rest ≤ 0 → 0 < work_left s input → (s.from < input) × (s.ended ≡ false)
-bytes_left s input a b = split s.ended refl
-  where
-    split : (t : Bool) → s.ended ≡ t → (s.from < input) × (s.ended ≡ false)
-    split true e = absurd (let h : 0 < 0 + pieces s.rest = rw e at b in let z : ⊥ = omega (arith, h, a) in z)
-    split false e = let h : 0 < (input - s.from) * line_work + pieces s.rest = rw e at b in (omega (arith, h, a), e)
 
 -- the array's words are those of 1,024 nodes, and a page has fewer sheets
 pieces-bound : (lent : ℕ) (r : Rest) → lent ≤ pool_limit → Fits lent r → pieces r < line_work
@@ -121,25 +85,26 @@ abbrev pub stopped : Session → (next at : ℕ) → Session
 stopped s next at =
     record { lent = s.lent; number = s.number; reading = s.reading; rest = s.rest; ended = true; from = next; at = at }
 
-pub line-over : (s : Session) (c : Command) (next : ℕ) {out : List ℕ} → is_ill c ≡ false → s.at + room ≤ length out
+pub line-over : (s : Session) (c : Option Command) (next : ℕ) {out : List ℕ} → is_ill c ≡ false → s.at + room ≤ length out
     → LineRead out s c next out (line_over s next)
 unfolding to_come
 line-over s c next {out} i h =
     let l : s.at ≤ length out = omega (arith, h) in
     record { lent = refl; rest = refl; from = refl; within = l; fits = λ z. h; puts = λ words register later. rw i (part_none out s.at _ l) }
 
-pub line-bad : (s : Session) (c : Command) (next : ℕ) {out out' : List ℕ} {at : ℕ} → is_ill c ≡ true → pieces s.rest ≤ 0
+pub line-bad : (s : Session) (c : Option Command) (next : ℕ) {out out' : List ℕ} {at : ℕ} → is_ill c ≡ true → pieces s.rest ≤ 0
     → Put out s.at (bad_line (next_number s.number)) out' at → LineRead out s c next out' (stopped s next at)
 unfolding to_come due line_output
-line-bad s c next i h p =
+line-bad s (Some c) next i h p = absurd (false≢true i)
+line-bad s None next i h p =
     let bad = bad_line (next_number s.number) in
     record {
       lent = refl;
       rest = refl;
       from = refl;
       within = p.within;
-      fits = λ z. absurd (false≢true (sym z ∙ i));
-      puts = λ words register later. rw (i, rest-none (take s.lent words) s.rest h) (rw (append-nil bad) at (part-put [] p));
+      fits = λ z. absurd (false≢true (sym z));
+      puts = λ words register later. rw (rest-none (take s.lent words) s.rest h) (rw (append-nil bad) at (part-put [] p));
     }
 
 -- what a line read prints is what the bytes up to its end print
@@ -184,7 +149,7 @@ module _ (input words : List ℕ) (s : Session) (z : Scanned) (sound : Sound s) 
   within-input : z.next ≤ length input
   within-input = rw e (cut-within input s.from s.reading (omega arith))
 
-  pub whole-step : (c : Command) {out out' : List ℕ} (t : Session) → z.piece ≡ Whole c → LineRead out s c z.next out' t
+  pub whole-step : (c : Option Command) {out out' : List ℕ} (t : Session) → z.piece ≡ Whole c → LineRead out s c z.next out' t
       → Stepped input words out s out' t c
   whole-step c t p w =
       let f = w.from in
@@ -201,7 +166,7 @@ module _ (input words : List ℕ) (s : Session) (z : Scanned) (sound : Sound s) 
       }
 
   pub part_step : (reading : Reading) {out : List ℕ} → z.piece ≡ Part reading → s.at ≤ length out
-      → Stepped input words out s out (part_read s reading z.next) command.Ill
+      → Stepped input words out s out (part_read s reading z.next) None
   unfolding to_come
   part_step reading {out} p w =
       let t = part_read s reading z.next in
@@ -221,7 +186,7 @@ module _ (input words : List ℕ) (s : Session) (z : Scanned) (sound : Sound s) 
 pub piece-step : (input words : List ℕ) (s : Session) (rest : Rest) {out out' : List ℕ} {at : ℕ} → Sound s → Fits s.lent rest
     → 0 < pieces s.rest → pieces rest ≡ pieces s.rest - 1 → s.from ≤ length input
     → PutPart out s.at (rest_of (take s.lent words) s.rest) out' at (rest_of (take s.lent words) rest)
-    → Stepped input words out s out' (with_rest s at rest) command.Ill
+    → Stepped input words out s out' (with_rest s at rest) None
 unfolding to_come due
 piece-step input words s rest sound f h e l p =
     record {
@@ -235,31 +200,31 @@ piece-step input words s rest sound f h e l p =
 
 -- a command's line and what is due after it
 pub answer-puts : (words : List ℕ) (register : Register) (s : Session) (c : Command) (words' : List ℕ) (register' : Register) (t : Session) {out out' : List ℕ}
-    → is_ill c ≡ false → Answered words out register s c words' out' register' t
-    → (later : List ℕ) → PutPart out s.at (line_after (kept_of words register s) c later) out' t.at (due words' register' t later)
+    → Answered words out register s c words' out' register' t
+    → (later : List ℕ) → PutPart out s.at (line_after (kept_of words register s) (Some c) later) out' t.at (due words' register' t later)
 unfolding due line_output call_output
-answer-puts words register s c words' register' t i a later =
+answer-puts words register s c words' register' t a later =
     let answer = answer_to (kept_of words register s) c in
     let head = line_of (next_number s.number) (letter_of c) answer in
     let more = added (take t.lent words') c answer in
     let rest = output_from (kept_of words' register' t) Fresh later in
-    rw (i, a.going, a.reading, a.adds, sym a.kept, append_assoc head more rest) (part-put (more ++ rest) a.line)
+    rw (a.going, a.reading, a.adds, sym a.kept, append_assoc head more rest) (part-put (more ++ rest) a.line)
 
 -- a step with no command to call, and one with its call
-pub step-prints : (input words : List ℕ) (register : Register) (s t : Session) (c : Command) {out out' : List ℕ}
+pub step-prints : (input words : List ℕ) (register : Register) (s t : Session) (c : Option Command) {out out' : List ℕ}
     → is_ill c ≡ true → Stepped input words out s out' t c → Prints input words out register s words out' register t
 unfolding to_come
 step-prints input words register s t c i w later = rw i at (w.puts register later)
 
 pub call-prints : (input words : List ℕ) (register : Register) (s t : Session) (c : Command) (words' : List ℕ) (register' : Register) (u : Session)
-    {out out' out'' : List ℕ} → is_ill c ≡ false → Stepped input words out s out' t c → Answered words out' register t c words' out'' register' u
+    {out out' out'' : List ℕ} → Stepped input words out s out' t (Some c) → Answered words out' register t c words' out'' register' u
     → u.from ≡ t.from → Prints input words out register s words' out'' register' u
 unfolding to_come
-call-prints input words register s t c words' register' u i w a f later =
+call-prints input words register s t c words' register' u w a f later =
     let rest = drop t.from input ++ later in
     let e : drop u.from input ++ later ≡ rest = ap (λ (n : ℕ). drop n input ++ later) f in
-    let p : PutPart _ s.at (due_on input words register s later) _ t.at (line_after (kept_of words register t) c rest) = rw i at (w.puts register later) in
-    rw e (part-both p (answer-puts words register t c words' register' u i a rest))
+    let p : PutPart _ s.at (due_on input words register s later) _ t.at (line_after (kept_of words register t) (Some c) rest) = w.puts register later in
+    rw e (part-both p (answer-puts words register t c words' register' u a rest))
 
 -- What `advance` keeps: from the session s it has come to t.
 pub record Running (input words out : List ℕ) (register : Register) (s : Session) (words' out' : List ℕ) (register' : Register) (t : Session) : Type 0 where
@@ -285,49 +250,36 @@ module _ (input words : List ℕ) (register : Register) (s : Session) {out : Lis
       }
 
   module _ (words' : List ℕ) (register' : Register) (t : Session) {out' : List ℕ} (r : Running input words out register s words' out' register' t)
-      (u : Session) (c : Command) {out'' : List ℕ} (w : Stepped input words' out' t out'' u c) where
-    pub run_step : is_ill c ≡ true → length out'' ≡ length out' → Running input words out register s words' out'' register' u
-    run_step i e =
+      (u : Session) {out'' : List ℕ} where
+    pub run_step : Stepped input words' out' t out'' u None → length out'' ≡ length out' → Running input words out register s words' out'' register' u
+    run_step w e =
         record {
           sound = w.sound;
           within = w.within;
           inside = w.inside;
           array = r.array;
           buffer = e ∙ r.buffer;
-          done = done_more _ _ (w.less i) r.done;
-          prints = λ later. part-both (r.prints later) (step-prints input words' register' t u c i w later);
+          done = done_more _ _ (w.less refl) r.done;
+          prints = λ later. part-both (r.prints later) (step-prints input words' register' t u None refl w later);
         }
 
-    pub call-less : is_ill c ≡ false → (v : Session) → Sound v → v.from ≡ u.from → work_left v (length input) < work_left t (length input)
-    call-less i v a f =
-        let l = w.line i in
-        let h = w.inside in line-less t v (length input) l.0 a (omega (arith, f, l.1)) (omega (arith, f, h))
+    module _ (c : Command) (w : Stepped input words' out' t out'' u (Some c)) where
+      pub call-less : (v : Session) → Sound v → v.from ≡ u.from → work_left v (length input) < work_left t (length input)
+      call-less v a f =
+          let l = w.line refl in
+          let h = w.inside in line-less t v (length input) l.0 a (omega (arith, f, l.1)) (omega (arith, f, h))
 
-    pub run_call : is_ill c ≡ false → (words'' : List ℕ) (register'' : Register) (v : Session) {out''' : List ℕ} → Sound v → v.from ≡ u.from
-        → Answered words' out'' register' u c words'' out''' register'' v → length words'' ≡ length words' → length out''' ≡ length out'
-        → Running input words out register s words'' out''' register'' v
-    run_call i words'' register'' v a f q e g =
-        let h = w.inside in
-        record {
-          sound = a;
-          within = q.line.within;
-          inside = omega (arith, f, h);
-          array = e ∙ r.array;
-          buffer = g ∙ r.buffer;
-          done = done_more _ _ (call-less i v a f) r.done;
-          prints = λ later. part-both (r.prints later) (call-prints input words' register' t u c words'' register'' v i w q f later);
-        }
-
--- a command other than Ill is not ill-formed
-pub not-ill : (c : Command) → (c ≡ command.Ill → ⊥) → is_ill c ≡ false
-not-ill (command.SetUp n) h = refl
-not-ill (command.Insert k v) h = refl
-not-ill (command.Delete k) h = refl
-not-ill command.Write h = refl
-not-ill (command.Begin s k) h = refl
-not-ill (command.BeginNext s k) h = refl
-not-ill (command.Turn s) h = refl
-not-ill (command.GiveUp s) h = refl
-not-ill command.Show h = refl
-not-ill command.Page h = refl
-not-ill command.Ill h = absurd (h refl)
+      pub run_call : (words'' : List ℕ) (register'' : Register) (v : Session) {out''' : List ℕ} → Sound v → v.from ≡ u.from
+          → Answered words' out'' register' u c words'' out''' register'' v → length words'' ≡ length words' → length out''' ≡ length out'
+          → Running input words out register s words'' out''' register'' v
+      run_call words'' register'' v a f q e g =
+          let h = w.inside in
+          record {
+            sound = a;
+            within = q.line.within;
+            inside = omega (arith, f, h);
+            array = e ∙ r.array;
+            buffer = g ∙ r.buffer;
+            done = done_more _ _ (call-less v a f) r.done;
+            prints = λ later. part-both (r.prints later) (call-prints input words' register' t u c words'' register'' v w q f later);
+          }

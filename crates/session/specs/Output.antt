@@ -1,5 +1,5 @@
 -- 01, 'Examples', and 02, C-11 and C-16: what the program trace prints of its input.
-use Rattle.std.specs.Prelude.{ℕ, ◌+◌, ◌≡◌, refl, Bool, true, false, cond, List, [], ◌∷◌, ◌++◌, eqb, ltb, take, drop}
+use Rattle.std.specs.Prelude.{ℕ, ◌+◌, ◌≡◌, refl, Bool, true, false, cond, List, [], ◌∷◌, ◌++◌, Option, None, Some, eqb, ltb, take, drop}
 use Rattle.std.proofs.Common.{◌∙◌}
 use Rattle.std.proofs.lemmas.Bool.{false≢true}
 use Rattle.datatypes.specs.declared.Register.{Register}
@@ -8,7 +8,7 @@ use Rattle.spec.specs.Calls.{Answer, ok, go, absent, wait, found, next, more, do
 use Rattle.texts.specs.Ascii.{newline}
 use Rattle.command_fields.specs.declared.Command.{Command}
 use Rattle.command_fields.specs.declared.Command.TheVariants as command
-use Rattle.command_fields.specs.Commands.{command_of, is_ill}
+use Rattle.command_fields.specs.Commands.{command_of}
 use Rattle.command_lines.specs.declared.Reading.{Reading}
 use Rattle.command_lines.specs.declared.Reading.TheVariants.{Fresh}
 use Rattle.command_lines.specs.Machine.{taken, finished, all_taken, reads}
@@ -74,7 +74,6 @@ listing p (command.Turn s) = []
 listing p (command.GiveUp s) = []
 listing p command.Show = nodes_shown p
 listing p command.Page = page p
-listing p command.Ill = []
 
 abbrev pub added : List ℕ → Command → Answer → List ℕ
 added p c a = cond (is_ok a) (listing p c) []
@@ -87,18 +86,24 @@ call_output k c =
 
 -- 'ill-formed: it prints `bad - -` after number and `-`, and ends the program.'
 -- What a line prints, with what the lines after it print:
-unfoldable pub line_output : Kept → Command → (later : List ℕ) → List ℕ
-line_output k c later = cond (is_ill c) (bad_line (next_number k.number)) (call_output k c ++ later)
+unfoldable pub line_output : Kept → Option Command → (later : List ℕ) → List ℕ
+line_output k None later = bad_line (next_number k.number)
+line_output k (Some c) later = call_output k c ++ later
+
+-- what a line leaves; an ill-formed one calls nothing
+abbrev pub after_line : Kept → Option Command → Kept
+after_line k None = k
+after_line k (Some c) = after_command k c
 
 -- what bytes print after what was read of their first line
 unfoldable pub output_from : Kept → Reading → List ℕ → List ℕ
 output_from k r [] = []
 output_from k r (b ∷ bs) =
-    cond (eqb b newline) (line_output k (finished r) (output_from (after_command k (finished r)) Fresh bs)) (output_from k (taken r b) bs)
+    cond (eqb b newline) (line_output k (finished r) (output_from (after_line k (finished r)) Fresh bs)) (output_from k (taken r b) bs)
 
 -- what a line prints and the bytes after it
-abbrev pub line_after : Kept → Command → (rest : List ℕ) → List ℕ
-line_after k c rest = line_output k c (output_from (after_command k c) Fresh rest)
+abbrev pub line_after : Kept → Option Command → (rest : List ℕ) → List ℕ
+line_after k c rest = line_output k c (output_from (after_line k c) Fresh rest)
 
 -- The command of a line is the one that document 01 makes of its bytes.
 line_taken : (k : Kept) (r : Reading) (line rest : List ℕ) → unbroken line ≡ true → output_from k r (line ++ rest) ≡ output_from k (all_taken r line) rest

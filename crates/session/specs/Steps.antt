@@ -1,5 +1,5 @@
 -- What holds of a run of trace from step to step: what it has still to print, and how much work is left.
-use Rattle.std.specs.Prelude.{ℕ, ◌+◌, ◌-◌, ◌*◌, ◌≤◌, ◌<◌, ◌≡◌, Bool, true, false, cond, List, [], ◌++◌, length, take, drop}
+use Rattle.std.specs.Prelude.{ℕ, ◌+◌, ◌-◌, ◌*◌, ◌≤◌, ◌<◌, ◌≡◌, Bool, true, false, cond, List, [], ◌++◌, Option, length, take, drop}
 use Rattle.datatypes.specs.declared.Register.{Register}
 use Rattle.spec.specs.Numbers.{node_words, pool_limit}
 use Rattle.spec.specs.Pool.{nodes}
@@ -86,11 +86,11 @@ part_read s reading next =
     record { lent = s.lent; number = s.number; reading = reading; rest = s.rest; ended = s.ended; from = next; at = s.at }
 
 -- What is still to come after a step: the session's own, or, if there is a command to call, that of its line and the bytes after it.
-unfoldable pub to_come : (words : List ℕ) → Register → Session → Command → (later : List ℕ) → List ℕ
+unfoldable pub to_come : (words : List ℕ) → Register → Session → Option Command → (later : List ℕ) → List ℕ
 to_come words register s c later = cond (is_ill c) (due words register s later) (line_after (kept_of words register s) c later)
 
 -- A whole line is read: an ill-formed one's is put and ends the run.
-pub record LineRead (out : List ℕ) (s : Session) (c : Command) (next : ℕ) (out' : List ℕ) (t : Session) : Type 0 where
+pub record LineRead (out : List ℕ) (s : Session) (c : Option Command) (next : ℕ) (out' : List ℕ) (t : Session) : Type 0 where
   pub lent : t.lent ≡ s.lent
   pub rest : t.rest ≡ s.rest
   pub from : t.from ≡ next
@@ -100,7 +100,7 @@ pub record LineRead (out : List ℕ) (s : Session) (c : Command) (next : ℕ) (o
       → PutPart out s.at (line_after (kept_of words register s) c later) out' t.at (to_come words register t c later)
 
 -- A step from s to t; with a command to call, a line was read and there is room for another.
-pub record Stepped (input words out : List ℕ) (s : Session) (out' : List ℕ) (t : Session) (c : Command) : Type 0 where
+pub record Stepped (input words out : List ℕ) (s : Session) (out' : List ℕ) (t : Session) (c : Option Command) : Type 0 where
   pub sound : Sound t
   pub within : t.at ≤ length out'
   pub inside : t.from ≤ length input

@@ -10,7 +10,7 @@ ghost use Rattle.answer_lines.specs.Text.{says};
 ghost use Rattle.page.specs.Sheets.{most_sheets, sheet_room};
 ghost use Rattle.session.specs.declared.Rest.TheVariants.{Nodes, Sheets};
 ghost use Rattle.session.specs.Output.{at_start, next_number, added, output_from};
-ghost use Rattle.session.specs.Steps.{begun, pieces, Fits, Sound, rest_of, due, with_rest, part_read, LineRead, Stepped, Answered, work_left, Onward, Prints};
+ghost use Rattle.session.specs.Steps.{begun, pieces, Fits, Sound, rest_of, due, LineRead, Stepped, Answered, work_left, Onward, Prints};
 
 use answer_lines::Said;
 use command_fields::Command;
@@ -57,33 +57,32 @@ fn pieces(rest: Rest) -> usize
 }
 
 // Starts a run: no words lent, no call made, no byte read.
+#[tactic(auto, unfolding(crate::specs::Steps::due))]
 pub fn start() -> Run
     ensures sound { Sound result.session × (result.session.from ≡ 0) × (result.session.at ≡ 0) }
     ensures by_index { (words later : List ℕ) → due words result.register result.session later ≡ output_from (at_start words) Fresh later }
 {
-    let register = fresh::fresh_register(0);
-    let reading = command_lines::start();
     let session = Session {
         lent: 0,
         number: 0,
-        reading,
+        reading: command_lines::start(),
         rest: Rest::Nothing,
         ended: false,
         from: 0,
         at: 0,
     };
-    Run { register, session }
+    Run {
+        register: fresh::fresh_register(0),
+        session,
+    }
 }
 
 // the number of the call after so many
+#[tactic(auto, unfolding(crate::specs::Output::next_number))]
 fn next_number(number: u64) -> u64
     ensures { result ≡ next_number number }
 {
-    if number < u64::MAX {
-        number + 1
-    } else {
-        number
-    }
+    number.saturating_add(1)
 }
 
 // what is to be written after a command's answer
@@ -92,15 +91,11 @@ fn to_write(words: &[u32], lent: usize, c: Command, said: Said) -> Rest
     ensures fits { Fits lent result }
     ensures result_value { rest_of (take lent words.now) result ≡ added (take lent words.now) c (says said) }
 {
-    if let Said::Ok = said {
-        if let Command::Show = c {
-            return Rest::Nodes(lent / numbers::NODE_WORDS);
-        }
-        if let Command::Page = c {
-            return Rest::Sheets(page::sheets(&words[..lent]), 0);
-        }
+    match (said, c) {
+        (Said::Ok, Command::Show) => Rest::Nodes(lent / numbers::NODE_WORDS),
+        (Said::Ok, Command::Page) => Rest::Sheets(page::sheets(&words[..lent]), 0),
+        _ => Rest::Nothing,
     }
-    Rest::Nothing
 }
 
 // A piece written: the position after it, and what is still to be written.
@@ -119,8 +114,10 @@ fn put_node(words: &[u32], out: &mut [u8], at: usize, lent: usize, nodes: usize)
 {
     let node = lent / numbers::NODE_WORDS - nodes + 1;
     let next = node_lines::write_node(out, at, &words[..lent], node as u32);
-    let rest = Rest::Nodes(nodes - 1);
-    Written { next, rest }
+    Written {
+        next,
+        rest: Rest::Nodes(nodes - 1),
+    }
 }
 
 // the next sheet of L's page
@@ -138,10 +135,9 @@ fn put_sheet(
     ensures put_part { PutPart out.old at (rest_of (take lent words.now) (Sheets sheets last)) out.new result.next (rest_of (take lent words.now) result.rest) }
 {
     let sheet = page::put_sheet(out, at, &words[..lent], last);
-    let rest = Rest::Sheets(sheets - 1, sheet.last);
     Written {
         next: sheet.next,
-        rest,
+        rest: Rest::Sheets(sheets - 1, sheet.last),
     }
 }
 
@@ -159,56 +155,23 @@ fn put_piece(words: &[u32], out: &mut [u8], at: usize, lent: usize, rest: Rest) 
     }
 }
 
-// a session after a piece
-fn with_rest(s: Session, at: usize, rest: Rest) -> Session
-    ensures { result ≡ with_rest s at rest }
-{
-    let reading = s.reading;
-    Session {
-        lent: s.lent,
-        number: s.number,
-        reading,
-        rest,
-        ended: s.ended,
-        from: s.from,
-        at,
-    }
-}
-
-// a session after bytes that end no line
-fn part_line(s: Session, reading: Reading, next: usize) -> Session
-    ensures { result ≡ part_read s reading next }
-{
-    let rest = s.rest;
-    Session {
-        lent: s.lent,
-        number: s.number,
-        reading,
-        rest,
-        ended: s.ended,
-        from: next,
-        at: s.at,
-    }
-}
-
-// A step's session, and the command that is to be called next: Ill for none.
+// A step's session, and the command that is to be called next, if there is one.
 #[derive(Clone, Copy)]
 struct Moved {
     session: Session,
-    call: Command,
+    call: Option<Command>,
 }
 
 // a whole line; an ill-formed one ends the run
-fn whole_line(out: &mut [u8], s: Session, c: Command, next: usize) -> Moved
+fn whole_line(out: &mut [u8], s: Session, c: Option<Command>, next: usize) -> Moved
     requires { (s.at + room ≤ length out.old) × (pieces s.rest ≤ 0) }
     ensures { (result.call ≡ c) × LineRead out.old s c next out.new result.session }
 {
     let mut session = s;
     session.from = next;
-    if let Command::Ill = c {
+    if let None = c {
         session.at = answer_lines::write_bad(out, s.at, next_number(s.number));
         session.ended = true;
-        return Moved { session, call: c };
     }
     Moved { session, call: c }
 }
@@ -219,18 +182,17 @@ fn read_line(out: &mut [u8], s: Session, input: &[u8]) -> Moved
     requires rest_bound { (pieces s.rest ≤ 0) × (s.ended ≡ false) }
     ensures { (words : List ℕ) → Stepped input.now words out.old s out.new result.session result.call }
 {
-    let reading = s.reading;
-    let scanned = command_lines::scan(input, s.from, reading);
-    let piece = scanned.piece;
-    match piece {
+    let scanned = command_lines::scan(input, s.from, s.reading);
+    match scanned.piece {
         Piece::Whole(c) => whole_line(out, s, c, scanned.next),
-        Piece::Part(so_far) => {
-            let session = part_line(s, so_far, scanned.next);
-            Moved {
-                session,
-                call: Command::Ill,
-            }
-        }
+        Piece::Part(reading) => Moved {
+            session: Session {
+                reading,
+                from: scanned.next,
+                ..s
+            },
+            call: None,
+        },
     }
 }
 
@@ -240,14 +202,15 @@ fn step(words: &[u32], out: &mut [u8], s: Session, input: &[u8]) -> Moved
     requires from_in_bounds { (s.from ≤ length input.now) × (0 < work_left s (length input.now)) }
     ensures { Stepped input.now words.now out.old s out.new result.session result.call }
 {
-    let rest = s.rest;
-    if 0 < pieces(rest) {
-        let written = put_piece(words, out, s.at, s.lent, rest);
-        let later = written.rest;
-        let session = with_rest(s, written.next, later);
+    if 0 < pieces(s.rest) {
+        let written = put_piece(words, out, s.at, s.lent, s.rest);
         return Moved {
-            session,
-            call: Command::Ill,
+            session: Session {
+                rest: written.rest,
+                at: written.next,
+                ..s
+            },
+            call: None,
         };
     }
     read_line(out, s, input)
@@ -261,23 +224,18 @@ fn answer(words: &mut [u32], out: &mut [u8], register: Register, s: Session, c: 
 {
     let number = next_number(s.number);
     let done = commands::perform(words, s.lent, register, c);
-    let said = done.said;
-    let at = answer_lines::write_line(out, s.at, number, answer_lines::letter_of(c), said);
-    let lent = done.lent;
-    let rest = to_write(words, lent, c, said);
-    let reading = command_lines::start();
+    let at = answer_lines::write_line(out, s.at, number, answer_lines::letter_of(c), done.said);
     let session = Session {
-        lent,
+        lent: done.lent,
         number,
-        reading,
-        rest,
+        reading: command_lines::start(),
+        rest: to_write(words, done.lent, c, done.said),
         ended: false,
-        from: s.from,
         at,
+        ..s
     };
-    let left = done.register;
     Run {
-        register: left,
+        register: done.register,
         session,
     }
 }
@@ -288,8 +246,7 @@ pub fn left(s: Session, input: &[u8]) -> usize
     ensures upper_bound { result ≤ work_left s (length input.now) }
     ensures input_value { result ≡ 0 → work_left s (length input.now) ≡ 0 }
 {
-    let rest = s.rest;
-    let count = pieces(rest);
+    let count = pieces(s.rest);
     if count != 0 {
         return count;
     }
@@ -307,38 +264,23 @@ pub fn advance(words: &mut [u32], out: &mut [u8], r: Run, input: &[u8]) -> Run
     ensures onward { Onward (length input.now) (length out.old) r.session result.session }
     ensures prints { Prints input.now words.old out.old r.register r.session words.new out.new result.register result.session }
 {
-    let mut register = r.register;
-    let mut session = r.session;
-    while 0 < left(session, input) {
-        if out.len() - session.at < page::SHEET_ROOM {
-            return Run { register, session };
+    let mut run = r;
+    while 0 < left(run.session, input) {
+        if out.len() - run.session.at < page::SHEET_ROOM {
+            break;
         }
-        let after = step(words, out, session, input);
-        let read = after.session;
-        session = read;
-        let c = after.call;
-        if let Command::Ill = c {
-            continue;
+        let moved = step(words, out, run.session, input);
+        run.session = moved.session;
+        if let Some(c) = moved.call {
+            run = answer(words, out, run.register, moved.session, c);
         }
-        let answered = answer(words, out, register, read, c);
-        let left = answered.register;
-        register = left;
-        let kept = answered.session;
-        session = kept;
     }
-    Run { register, session }
+    run
 }
 
 // Answers whether a line has begun that the input does not end.
 pub fn unfinished(s: Session) -> bool
     ensures { result ≡ cond s.ended false (begun s.reading) }
 {
-    if s.ended {
-        return false;
-    }
-    let reading = s.reading;
-    if let Reading::Fresh = reading {
-        return false;
-    }
-    true
+    !s.ended && !matches!(s.reading, Reading::Fresh)
 }

@@ -1,10 +1,10 @@
 -- Text at the right end of a column; a number put there over blanks, its last digit first.
-use Rattle.std.specs.Prelude.{ℕ, ◌+◌, ◌-◌, ◌<◌, ◌≤◌, ◌≡◌, refl, List, [], ◌++◌, length, take, drop, set, replicate}
-use Rattle.std.proofs.Common.{sym, ◌∙◌, append_assoc, append-nil, arith, length-append, take_at, take-take, length-take-le}
+use Rattle.std.specs.Prelude.{ℕ, ◌+◌, ◌-◌, ◌≤◌, ◌≡◌, List, ◌++◌, length, take, drop, replicate}
+use Rattle.std.proofs.Common.{sym, ◌∙◌, append_assoc, arith, length-append, take_at, take-take, length-take-le}
 use Rattle.std.proofs.lemmas.List.{length-replicate, replicate-append-replicate}
 use Rattle.texts.specs.Ascii.{blank}
 use Rattle.texts.specs.Decimal.{decimal}
-use Rattle.texts.specs.Put.{Put, put_as, put_both, put_byte}
+use Rattle.texts.specs.Put.{Put}
 
 -- a text right-aligned in a width; of a longer one, its end
 unfoldable pub right_in : (width : ℕ) → List ℕ → List ℕ
@@ -23,25 +23,6 @@ pub record Digits (before : List ℕ) (at width n i v : ℕ) (after : List ℕ) 
   pub long : length after ≡ length before
   pub bytes : take (at + width) after ≡ take at before ++ (replicate (i - at) blank ++ put)
   pub whole : right_in (i - at) (decimal v) ++ put ≡ right_in width (decimal n)
-
-pub digits-start : (l : List ℕ) (at width n : ℕ) → at + width ≤ length l → Blanks l at width → Digits l at width n (at + width) n l
-digits-start l at width n h b =
-    let e : at + width - at ≡ width = omega arith in
-    record {
-      put = [];
-      low = omega arith;
-      high = omega arith;
-      room = h;
-      long = refl;
-      bytes = rw (e, append-nil (replicate width blank)) b;
-      whole = rw e (append-nil (right_in width (decimal n)));
-    }
-
--- one blank more
-pub put-blank : (a : List ℕ) (i k : ℕ) (b : List ℕ) → i + k < length b → Put a i (replicate k blank) b (i + k) → Put a i (replicate (k + 1) blank) (set b (i + k) blank) (i + (k + 1))
-put-blank a i k b h p =
-    let e : i + (k + 1) ≡ i + k + 1 = omega arith in
-    rw e (put_as (replicate-append-replicate k 1 blank) (put_both p (put_byte b (i + k) blank h)))
 
 -- Blanks put for a gap and a column are the gap, and a column of blanks.
 pub put-gap : {a b : List ℕ} {i k : ℕ} (gap width : ℕ) → Put a i (replicate (gap + width) blank) b k → Put a i (replicate gap blank) b (i + gap) × Blanks b (i + gap) width

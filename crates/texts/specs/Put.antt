@@ -1,6 +1,6 @@
 -- Text put into a buffer.
-use Rattle.std.specs.Prelude.{ℕ, ◌+◌, ◌<◌, ◌≤◌, ◌≡◌, refl, List, [], ◌∷◌, ◌++◌, length, take, get_or, set}
-use Rattle.std.proofs.Common.{sym, ◌∙◌, append_assoc, append-nil, add-one, arith, length-append, length-set, take-suc, take-suc-set, take_all}
+use Rattle.std.specs.Prelude.{ℕ, ◌+◌, ◌<◌, ◌≤◌, ◌≡◌, refl, List, [], ◌∷◌, ◌++◌, length, take, set}
+use Rattle.std.proofs.Common.{sym, ◌∙◌, append_assoc, append-nil, add-one, arith, length-append, length-set, take-suc-set}
 use Rattle.texts.specs.Ascii.{tab}
 
 -- The buffer `after` has the bytes of `before` up to `at`, and from there up to `next` the bytes `written`.
@@ -53,17 +53,6 @@ part-before {e = e} t p =
 
 pub part-all : {a b d : List ℕ} {i j : ℕ} → PutPart a i d b j [] → Put a i d b j
 part-all p = put_as (sym (append-nil p.written) ∙ p.whole) p.put
-
--- a text put a byte at a time: one more, all
-module _ (a : List ℕ) (i : ℕ) (s b : List ℕ) (k : ℕ) where
-  pub put_next : k < length s → i + k < length b → Put a i (take k s) b (i + k)
-      → Put a i (take (k + 1) s) (set b (i + k) (get_or s k 0)) (i + (k + 1))
-  put_next g h p =
-      let e : i + (k + 1) ≡ i + k + 1 = omega arith in
-      rw (e, add-one k, take-suc s k 0 g) (put_both p (put_byte b (i + k) (get_or s k 0) h))
-
-  pub put_all : length s ≤ k → Put a i (take k s) b (i + k) → Put a i s b (i + k)
-  put_all h p = put_as (take_all k s h) p
 
 -- a field with its tab, and what stands after it
 pub put-field : (f : List ℕ) {a b c t : List ℕ} {i j k : ℕ} → Put a i (f ++ (tab ∷ [])) b j → Put b j t c k → Put a i (f ++ (tab ∷ t)) c k

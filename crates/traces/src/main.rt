@@ -14,7 +14,17 @@ const NEWLINE: u8 = b'\n';
 // The most bytes of an input or of an output.
 const BUFFER_BYTES: usize = 65536;
 
+// The array lent as the pool, and the bytes of a stored run: its input, the output that is wanted, and the output that comes.
+#[derive(Drop)]
+struct Room {
+    words: [u32; numbers::POOL_WORDS],
+    input: [u8; BUFFER_BYTES],
+    want: [u8; BUFFER_BYTES],
+    out: [u8; BUFFER_BYTES],
+}
+
 // Reads until the buffer is full or the input ends, and answers how many bytes it has put there.
+// kept: std's read_exact answers an error where the input ends first, and its other readers need a heap.
 fn read_full<R: Read>(from: &mut R, buf: &mut [u8]) -> io::Result<usize>
     ensures { ReadsAtMost result buf.new }
 {
@@ -42,112 +52,71 @@ fn output(words: &mut [u32], out: &mut [u8], input: &[u8]) -> usize
     requires { length words.old ≡ pool_limit }
     ensures { result ≤ length out.new }
 {
-    let r = session::advance(words, out, session::start(), input);
-    let s = r.session;
-    if session::unfinished(s) {
-        let mut last = r;
-        last.session.from = 0;
-        let q = session::advance(words, out, last, b"\n");
-        return q.session.at;
+    let mut run = session::advance(words, out, session::start(), input);
+    if session::unfinished(run.session) {
+        run.session.from = 0;
+        run = session::advance(words, out, run, b"\n");
     }
-    r.session.at
+    run.session.at
 }
 
-// the number of the line after a byte
-fn next_line(line: u64, b: u8) -> u64 {
-    if b != NEWLINE {
-        return line;
+// the number of the first line in which two texts differ
+fn difference(a: &[u8], b: &[u8]) -> Option<u64> {
+    if a == b {
+        return None;
     }
-    if line < u64::MAX { line + 1 } else { line }
-}
-
-// the number of the first line in which two texts differ, or 0
-fn difference(a: &[u8], b: &[u8]) -> u64 {
-    let mut line: u64 = 1;
-    let mut i: usize = 0;
-    while i < a.len() {
-        if b.len() <= i {
-            return line;
-        }
-        if a[i] != b[i] {
-            return line;
-        }
-        line = next_line(line, a[i]);
-        i += 1;
-    }
-    if i < b.len() { line } else { 0 }
+    let same = a.iter().zip(b).take_while(|(x, y)| x == y);
+    let lines = same.filter(|(x, _)| **x == NEWLINE).count();
+    Some((lines as u64).saturating_add(1))
 }
 
 // a run's line: its input's name, and `same` or the first line that differs
-fn report<H: Print>(rt: &H, name: &str, line: u64) -> io::Result<()> {
-    if line == 0 {
-        return println!(rt; "{name}\tsame");
+fn report<H: Print>(rt: &H, name: &str, difference: Option<u64>) -> io::Result<()> {
+    match difference {
+        None => println!(rt; "{name}\tsame"),
+        Some(line) => println!(rt; "{name}\tdiffers in line\t{line}"),
     }
-    println!(rt; "{name}\tdiffers in line\t{line}")
 }
 
-// one stored run, of an input and the output that is wanted; 1 if it is the same
+// one stored run, of an input and the output that is wanted: whether it is the same
 fn compare<H: Files + Print>(
     rt: &H,
-    words: &mut [u32],
-    input: &mut [u8],
-    want: &mut [u8],
-    out: &mut [u8],
+    room: &mut Room,
     name: &str,
     wanted: &str,
-) -> io::Result<u64>
-    requires { length words.old ≡ pool_limit }
-    ensures { IfOk result (λ n. n ≤ 1) }
-{
-    let n = load(rt, name, input)?;
-    let end = output(words, out, &input[..n]);
-    let m = load(rt, wanted, want)?;
-    let line = part_difference(out, end, &want[..m]);
+) -> io::Result<bool> {
+    let n = load(rt, name, &mut room.input)?;
+    let end = output(&mut room.words, &mut room.out, &room.input[..n]);
+    let m = load(rt, wanted, &mut room.want)?;
+    let line = difference(&room.out[..end], &room.want[..m]);
     report(rt, name, line)?;
-    Ok(if line == 0 { 1 } else { 0 })
-}
-
-fn part_difference(out: &[u8], end: usize, want: &[u8]) -> u64
-    requires { end ≤ length out.now }
-{
-    difference(&out[..end], want)
+    Ok(line.is_none())
 }
 
 // the total's line
-fn total<H: Print>(rt: &H, runs: u64, same: u64) -> io::Result<()> {
+fn total<H: Print>(rt: &H, runs: usize, same: usize) -> io::Result<()> {
     println!(rt; "{runs}\truns\t{same}\tsame")
 }
 
-// all runs that the arguments name; the program's own name is the first of them
-fn compare_all<H: Files + Print>(
-    rt: &H,
-    words: &mut [u32],
-    input: &mut [u8],
-    want: &mut [u8],
-    out: &mut [u8],
-    names: &[String],
-) -> io::Result<()>
-    requires { length words.old ≡ pool_limit }
-{
-    let mut left = names.len();
-    let mut runs: u64 = 0;
-    let mut same: u64 = 0;
-    while 2 < left {
-        let at = names.len() - left + 1;
-        let name = names[at].as_str();
-        let wanted = names[at + 1].as_str();
-        same += compare(rt, words, input, want, out, name, wanted)?;
-        runs += 1;
-        left -= 2;
+// all runs that the arguments name, two by two
+fn compare_all<H: Files + Print>(rt: &H, room: &mut Room, names: &[String]) -> io::Result<()> {
+    let mut same = 0;
+    for pair in names.chunks_exact(2) {
+        if compare(rt, room, pair[0].as_str(), pair[1].as_str())? {
+            same += 1;
+        }
     }
-    total(rt, runs, same)
+    total(rt, names.len() / 2, same)
 }
 
+// The program's own name is the first of the arguments.
 fn main(rt: HostRuntime) -> io::Result<()> {
-    let names: Vec<String> = env::args(&rt)?.collect(rt.alloc())?;
-    let mut words = [0u32; numbers::POOL_WORDS];
-    let mut input = [0u8; BUFFER_BYTES];
-    let mut want = [0u8; BUFFER_BYTES];
-    let mut out = [0u8; BUFFER_BYTES];
-    compare_all(&rt, &mut words, &mut input, &mut want, &mut out, &names)
+    let names: Vec<String> = env::args(&rt)?.skip(1).collect(rt.alloc())?;
+    let mut room = Room {
+        words: [0; numbers::POOL_WORDS],
+        input: [0; BUFFER_BYTES],
+        want: [0; BUFFER_BYTES],
+        out: [0; BUFFER_BYTES],
+    };
+    compare_all(&rt, &mut room, &names)
 }

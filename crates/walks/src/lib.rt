@@ -25,7 +25,8 @@ fn colour_word(c: Colour) -> u32 {
     }
 }
 
-// A node of a pool. Its colour and its standing are words: a damaged pool may have any number there.
+// A node of a pool.
+// kept: its colour and its standing are words: (d) a damaged pool may have any number there, and to read each as an Option is no plainer.
 #[derive(Clone, Copy)]
 struct Node {
     key: u32,

@@ -1,13 +1,7 @@
-use mathlib.Core.Path.{refl, sym}
-use native.Mathlib.Omega.{arith}
-use lib.ListN.{take}
+use Rattle.std.proofs.Common.{arith, take}
 use Rattle.page.specs.Sheets.{sheet-room, sheet-part}
 use Rattle.session.specs.Laws.{lent_length}
 use Rattle.session.proofs.put_sheet.Goals as goal
-
-pub slice_bounds-put_sheet-end : goal.slice_bounds-put_sheet-end
-slice_bounds-put_sheet-end c =
-    let a = c.args in sym (lent_length a.words.now a.lent c.requires.lent_le_pool_limit.0 c.requires.words_len.0)
 
 pub put_sheet-sheet-requires : goal.put_sheet-sheet-requires
 put_sheet-sheet-requires c =
@@ -15,11 +9,8 @@ put_sheet-sheet-requires c =
     let h = lent_length a.words.now a.lent c.requires.lent_le_pool_limit.0 c.requires.words_len.0 in
     (omega (arith, h, c.requires), omega (arith, sheet-room (take a.lent a.words.now) a.last, c.requires))
 
-pub returns : goal.returns
-returns c =
+pub returns-clause-put_part : goal.returns-clause-put_part
+returns-clause-put_part c =
     let a = c.args in
     let s = c.put_sheet-sheet.ensures in
-    record {
-      fits = (omega (arith, c.requires), refl);
-      put_part = rw s.last_value (sheet-part (take a.lent a.words.now) a.sheets a.last c.requires.lent_le_pool_limit.2 s.put);
-    }
+    rw s.last_value (sheet-part (take a.lent a.words.now) a.sheets a.last c.requires.lent_le_pool_limit.2 s.put)

@@ -1,4 +1,4 @@
-use native.Mathlib.Omega.{arith}
+use Rattle.std.proofs.Common.{arith}
 use Rattle.session.specs.Laws.{whole-step, part_step}
 use Rattle.session.proofs.read_line.Goals as goal
 
@@ -16,5 +16,4 @@ returns-in-Part c =
     let a = c.args in
     let p = c.requires in
     let n = c.scan-scanned in
-    rw c.part_line-session.ensures
-    (λ words. part_step a.input.now words a.s n.result p.sound.0 n.ensures p.rest_bound.0 p.rest_bound.1 p.sound.2 c.in-Part.so_far c.in-Part.is (omega (arith, p.sound.1)))
+    λ words. part_step a.input.now words a.s n.result p.sound.0 n.ensures p.rest_bound.0 p.rest_bound.1 p.sound.2 c.in-Part.reading c.in-Part.is (omega (arith, p.sound.1))

@@ -1,9 +1,9 @@
-use Rattle.std.proofs.Common.{◌≡◌, sym, ◌∙◌, length, map, take, arith, rules}
+use Rattle.std.proofs.Common.{◌≡◌, false, Some, ap, sym, ◌∙◌, length, map, take, arith, rules}
 use Rattle.std.proofs.lemmas.List.{length-map, take_all}
 use Rattle.spec.specs.Register.{write_of}
-use Rattle.spec.specs.Plan.{store, ending_stores}
+use Rattle.spec.specs.Plan.{store, ending_stores, missing}
 use Rattle.plans.specs.Pushed.{no_stores, written_count, push-write, steps-one}
-use Rattle.plans.proofs.filled.Goals as goal
+use Rattle.plans.proofs.plan.Goals as goal
 
 pub loop-step-init : goal.loop-step-init
 loop-step-init c = c.no_write-write.ensures ∙ sym no_stores
@@ -39,4 +39,5 @@ returns c =
     let h = c.loop-step-test.false in
     let e : take l.step-index a.steps.now ≡ a.steps.now = take_all l.step-index a.steps.now (omega arith) in
     let w : l.write ≡ write_of (map (store a.l) a.steps.now) = l.invariant ∙ rw e in
-    rw (c.push_ending.ensures, w) (push-write (map (store a.l) a.steps.now) (ending_stores a.e) (rw length-map c.requires))
+    let m : missing a.e ≡ false = search rules in
+    rw (c.push_ending.ensures, w, m) (ap Some (push-write (map (store a.l) a.steps.now) (ending_stores a.e) (rw length-map c.requires)))
