@@ -1,14 +1,13 @@
-// The register's head: taken out of a register, put into it, made a register of with the rest; the store of a link, which is the root's or a
-// word of the pool; the awaited slots.
+// The register's head: taken out of a register, put into it; the store of a link, which is the root's or a word of the pool; the awaited slots.
 // kept: a step takes `pool: &mut [u32]` and `h: Head` apart and gives the head back. The register goes by value (document 01, 'Pool and
 // register'), and a head is its numbers: a struct that held both would lend the one and own the other.
 #![tactic(auto)]
 
 ghost use Rattle.std.specs.Prelude.{◌≡◌, not, eqb};
 ghost use Rattle.spec.specs.Register.{set_link};
-ghost use Rattle.heads.specs.Head.{head_of, with_head, register_of, awaiting, Follows};
+ghost use Rattle.heads.specs.Head.{head_of, with_head, awaiting, Follows};
 
-use datatypes::{Head, Link, Reader, Register, Write};
+use datatypes::{Head, Link, Register};
 
 // Takes the head out of a register.
 pub fn head_of(reg: &Register) -> Head
@@ -24,21 +23,7 @@ pub fn head_of(reg: &Register) -> Head
     }
 }
 
-// Puts a head into a register.
-pub fn with_head(reg: Register, h: Head) -> Register
-    ensures { result ≡ with_head reg h }
-{
-    let mut r = reg;
-    r.root = h.root;
-    r.first = h.first;
-    r.last = h.last;
-    r.free = h.free;
-    r.held = h.held;
-    r.awaited = h.awaited;
-    r
-}
-
-// The same in a register that is lent.
+// Puts a head into a register that is lent.
 pub fn put_head(reg: &mut Register, h: Head)
     ensures { reg.new ≡ with_head reg.old h }
 {
@@ -50,32 +35,12 @@ pub fn put_head(reg: &mut Register, h: Head)
     reg.awaited = h.awaited;
 }
 
-// Makes a register of a head and the rest. The parts go by themselves: a register that is copied and then changed is copied once more.
-pub fn register_of(h: Head, readers: [Reader; numbers::SLOTS], write: Write) -> Register
-    ensures { result ≡ register_of h readers write }
-{
-    Register {
-        root: h.root,
-        first: h.first,
-        last: h.last,
-        free: h.free,
-        held: h.held,
-        readers,
-        awaited: h.awaited,
-        write,
-    }
-}
-
 // Stores node v in the link l: the root's in the head, any other in the pool.
 pub fn set_link(pool: &mut [u32], h: Head, l: Link, v: u32) -> Head
     ensures { Follows (λ st. set_link st l v) pool.old h pool.new result }
 {
     match l {
-        Link::Root => {
-            let mut r = h;
-            r.root = v;
-            r
-        }
+        Link::Root => Head { root: v, ..h },
         Link::Left(n) => {
             pool::set_word(pool, n, pool::LEFT, v);
             h
@@ -91,10 +56,11 @@ pub fn set_link(pool: &mut [u32], h: Head, l: Link, v: u32) -> Head
 pub fn await_readers(h: Head, reading: u32) -> Head
     ensures { result ≡ awaiting h reading }
 {
-    let mut r = h;
-    r.held = counts::count_down(h.held);
-    r.awaited = reading;
-    r
+    Head {
+        held: counts::count_down(h.held),
+        awaited: reading,
+        ..h
+    }
 }
 
 // Tests whether some slot is awaited; a turn then waits.

@@ -3,7 +3,7 @@
 
 ghost use Rattle.std.specs.Prelude.{◌≡◌, cond, ◌&&◌};
 ghost use Rattle.spec.specs.Numbers.{slots, most_stores};
-ghost use Rattle.spec.specs.Register.{no_reader, begun_reader, moved_reader, remembering, counting, vacant, no_write, with_write};
+ghost use Rattle.spec.specs.Register.{no_reader, begun_reader, moved_reader, remembering, counting, vacant, no_write};
 ghost use Rattle.spec.specs.Register.{reading_slots, node_number, link_in_range, step_in_range, is_root, is_vacant, store_in_range, reader_in_range, register_in_range};
 ghost use Rattle.base.specs.Walk.{all_in};
 
@@ -93,14 +93,6 @@ pub fn no_write() -> Write
         stores: [none; numbers::MOST_STORES],
         count: 0,
     }
-}
-
-// Puts a write in hand into a register.
-#[tactic(auto, unfolding(spec::specs::Register::with_write))]
-pub fn with_write(reg: Register, w: Write) -> Register
-    ensures { result ≡ with_write reg w }
-{
-    Register { write: w, ..reg }
 }
 
 // Answers the mask of all reading slots, from the last slot's bit to the first's.
