@@ -26,6 +26,7 @@ where
 }
 
 // the answer of T and L
+#[tactic(auto, unfolding(crate::specs::Performed::shown))]
 fn show(pool: &[u32], reg: Register) -> Reply<Said>
     ensures said_value { says result.answer ≡ (shown (state pool.now reg)).answer }
     ensures register_value { state pool.now result.register ≡ (shown (state pool.now reg)).after }

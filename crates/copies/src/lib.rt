@@ -48,7 +48,7 @@ fn moved_link(b: u32, n: u32, l: Link) -> Link
 {
     match l {
         Link::Root | Link::Left(_) => l,
-        Link::Right(m) => Link::Right(counts::choose(m == b, n, m)),
+        Link::Right(m) => Link::Right(if m == b { n } else { m }),
     }
 }
 

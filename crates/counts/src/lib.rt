@@ -1,15 +1,8 @@
-// Counts that stay in their ranges, and one of two numbers.
+// Counts that stay in their ranges.
 #![tactic(auto)]
 
-ghost use Rattle.std.specs.Prelude.{◌≡◌, cond};
+ghost use Rattle.std.specs.Prelude.{◌≡◌};
 ghost use Rattle.spec.specs.Register.{count_up, count_down};
-
-// Answers x if the test holds, else y.
-pub fn choose(test: bool, x: u32, y: u32) -> u32
-    ensures { result ≡ cond test x y }
-{
-    if test { x } else { y }
-}
 
 // Answers one more, or n itself at the end of its range.
 pub fn count_up(most: u32, n: u32) -> u32

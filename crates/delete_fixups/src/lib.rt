@@ -39,7 +39,7 @@ pub fn fixup_after_removal(pool: &[u32], n: u32, x: u32, path: &Path) -> Fixup
             ending: Ending::Balanced,
         };
     }
-    fixups::delete_fixup(pool, path, x)
+    fixups::delete_fixup(pool, path, 0, x)
 }
 
 // the node that a fix-up of so many levels ended at

@@ -1,11 +1,12 @@
 // The insert fix-up and the delete fix-up along a path, and the colours of the levels that they pass.
 #![tactic(auto)]
 
-ghost use Rattle.std.specs.Prelude.{◌≡◌};
+ghost use Rattle.std.specs.Prelude.{◌≡◌, ◌+◌, ◌<◌, ◌^◌};
 ghost use Rattle.datatypes.specs.declared.Form.TheVariants.{Diag};
 ghost use Rattle.spec.specs.Pool.{paint, black_colour, red_colour};
 ghost use Rattle.spec.specs.Plan.{insert_fixup, paint_insert_fixup, red_child, black_sibling as black_sibling_of, red_sibling, delete_fixup, paint_delete_levels};
 ghost use Rattle.spec.specs.Turn.{nodes_found};
+ghost use Rattle.paths.specs.Paths.{most_links};
 
 use datatypes::{Ending, Fixup, Form, Link, Purpose, Rotation, Side};
 use paths::Path;
@@ -17,12 +18,12 @@ pub fn nodes_found(fix: Fixup) -> bool
     !matches!(fix.ending, Ending::Missing)
 }
 
-// Goes up a path and finds where the insert fix-up ends.
+// Goes up a path, with so many levels passed before, and finds where the insert fix-up ends.
 #[tactic(auto, unfolding(spec::specs::Plan::insert_fixup))]
-pub fn insert_fixup(pool: &[u32], path: &Path) -> Fixup
-    ensures { result ≡ insert_fixup pool.now 0 path.now }
+pub fn insert_fixup(pool: &[u32], path: &Path, mut levels: u32) -> Fixup
+    requires { levels + most_links < 2 ^ 32 }
+    ensures { result ≡ insert_fixup pool.now levels path.now }
 {
-    let mut levels = 0;
     let mut rest = path.links();
     while let [x, y, up @ ..] = rest {
         if !pool::is_red(pool, links::owner(*x)) {
@@ -131,12 +132,12 @@ fn red_sibling(pool: &[u32], l: Link, z: Side, w: u32) -> Ending
     Ending::Rotate(first)
 }
 
-// Goes up a path, where x came, and finds where the delete fix-up ends.
+// Goes up a path, where x came, with so many levels passed before, and finds where the delete fix-up ends.
 #[tactic(auto, using(crate::specs::Levels::delete_fixup_red), unfolding(spec::specs::Plan::delete_fixup))]
-pub fn delete_fixup(pool: &[u32], path: &Path, x: u32) -> Fixup
-    ensures { result ≡ delete_fixup pool.now 0 x path.now }
+pub fn delete_fixup(pool: &[u32], path: &Path, mut levels: u32, x: u32) -> Fixup
+    requires { levels + most_links < 2 ^ 32 }
+    ensures { result ≡ delete_fixup pool.now levels x path.now }
 {
-    let mut levels = 0;
     let mut node = x;
     let mut rest = path.links();
     loop {

@@ -22,14 +22,10 @@ use Rattle.spec.specs.Register.{no_write, vacant, write_of}
 use Rattle.spec.specs.Plan.{store, rotation_stores, turn_stores, ending_stores, rotation, insert_fixup}
 use Rattle.spec.specs.Plan.{red_child, black_sibling as black_sibling_of, red_sibling, delete_fixup, fixup_after_removal}
 
--- a write of no store; how many stores a write of a list has
+-- a write of no store
 pub no_stores : write_of [] ≡ no_write
 unfolding write_of
 no_stores = refl
-
-pub written_count : (l : List Store) → (write_of l).count ≡ length l
-unfolding write_of
-written_count l = refl
 
 abbrev pub pushed : Write → Store → Write
 pushed w x = record { stores = set w.stores w.count x; count = w.count + 1 }
@@ -52,16 +48,20 @@ push-one a x h =
     let n : length a + 1 ≡ length (a ++ x ∷ []) = sym (length-append a (x ∷ [])) in
     λ i. record { stores = e i; count = n i }
 
-pub push-write : (a b : List Store) → length a + length b ≤ most_stores → push_all (write_of a) b ≡ write_of (a ++ b)
-push-write a [] h = ap write_of (sym (append-nil a))
-push-write a (x ∷ b) h =
+pub push_write : (a b : List Store) → length a + length b ≤ most_stores → push_all (write_of a) b ≡ write_of (a ++ b)
+push_write a [] h = ap write_of (sym (append-nil a))
+push_write a (x ∷ b) h =
     ap (λ (w : Write). push_all w b) (push-one a x (omega arith))
-    ∙ (push-write (a ++ x ∷ []) b (rw length-append (omega arith)) ∙ ap write_of (append_assoc a (x ∷ []) b))
+    ∙ (push_write (a ++ x ∷ []) b (rw length-append (omega arith)) ∙ ap write_of (append_assoc a (x ∷ []) b))
+
+-- a write of one store
+pub one_store : (x : Store) → pushed no_write x ≡ write_of (x ∷ [])
+one_store x = ap (λ (w : Write). pushed w x) (sym no_stores) ∙ push-one [] x (omega arith)
 
 -- the stores of the first steps at a link, and of one step more
-pub steps-one : (l : Link) (steps : List Step) (i : ℕ) (d : Step) → i < length steps → i < most_stores
+pub steps_one : (l : Link) (steps : List Step) (i : ℕ) (d : Step) → i < length steps → i < most_stores
     → pushed (write_of (map (store l) (take i steps))) (store l (get_or steps i d)) ≡ write_of (map (store l) (take (i + 1) steps))
-steps-one l steps i d h b =
+steps_one l steps i d h b =
     let n : length (map (store l) (take i steps)) ≡ i = length-map (take i steps) (store l) ∙ length-take-le i steps (omega arith) in
     push-one (map (store l) (take i steps)) (store l (get_or steps i d)) (omega arith)
     ∙ ap write_of (sym (map-append (store l) (take i steps) (get_or steps i d ∷ [])) ∙ ap (map (store l)) (sym (take_more steps i d h)))

@@ -61,6 +61,7 @@ fn push_ending(w: &mut Write, e: Ending)
 }
 
 // Plans these steps at the link l, and then the stores of a fix-up's ending.
+#[tactic(auto, using(crate::specs::Pushed::no_stores, crate::specs::Pushed::steps_one))]
 fn plan(l: Link, steps: &[Step], e: Ending) -> Option<Write>
     requires { length steps.now + length (ending_stores e) ≤ most_stores }
     ensures { result ≡ planned (plan (map (store l) steps.now) e) }
@@ -89,7 +90,7 @@ fn fixup_after_insert(pool: &[u32], root: u32, k: u32, l: Link) -> Fixup
     }
     let mut path = Path::new();
     paths::path_to(pool, root, k, l, &mut path);
-    fixups::insert_fixup(pool, &path)
+    fixups::insert_fixup(pool, &path, 0)
 }
 
 // Plans the insert of the key k with its record v at the empty link l. Of the register only the root is read.
@@ -102,6 +103,7 @@ pub fn insert_plan(pool: &[u32], root: u32, k: u32, v: u64, l: Link) -> Option<W
 }
 
 // Plans the insert of a held key, whose node the link l holds, with its record v: one store.
+#[tactic(auto, using(crate::specs::Pushed::one_store))]
 pub fn replace_plan(v: u64, l: Link) -> Write
     ensures { result ≡ write_of (replace_plan v l).stores }
 {
@@ -131,12 +133,15 @@ fn successor_plan(pool: &[u32], root: u32, l: Link, b: u32, path: &Path) -> Opti
     let n = pool::node_at(pool, root, path.nearest());
     let x = pool::child(pool, Side::R, n);
     let fix = delete_fixups::fixup_after_removal(pool, n, x, path);
-    let right = pool::child(pool, Side::R, b);
-    if pool::child(pool, Side::L, right) == 0 {
-        return plan(l, &[Step::Adopt, Step::Promote], fix.ending);
-    }
-    let key = pool::word(pool, b, pool::KEY);
-    plan(l, &[Step::Publish(n), Step::Detach(key)], fix.ending)
+    let steps = if pool::child(pool, Side::L, pool::child(pool, Side::R, b)) == 0 {
+        [Step::Adopt, Step::Promote]
+    } else {
+        [
+            Step::Publish(n),
+            Step::Detach(pool::word(pool, b, pool::KEY)),
+        ]
+    };
+    plan(l, &steps, fix.ending)
 }
 
 // Plans the delete of node b, which the link l holds. Of the register only the root is read.

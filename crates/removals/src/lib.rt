@@ -38,9 +38,11 @@ fn colour_and_retire(
 fn store_one_less(pool: &mut [u32], h: Head, l: Link, v: u32) -> Head
     ensures { Follows (λ st. one_less (set_link st l v)) pool.old h pool.new result }
 {
-    let mut r = heads::set_link(pool, h, l, v);
-    r.held = counts::count_down(r.held);
-    r
+    let stored = heads::set_link(pool, h, l, v);
+    Head {
+        held: counts::count_down(stored.held),
+        ..stored
+    }
 }
 
 // Delete of B, at most one child: stores that child x, or 0, in B's link from above; makes the colour work and retires B. This is the
@@ -77,9 +79,9 @@ pub fn unlink(pool: &mut [u32], h: Head, reading: u32, l: Link) -> Option<Stored
 fn store_successor(pool: &mut [u32], h: Head, l: Link, n: u32, colour: u32) -> Head
     ensures { Follows (λ st. painted (one_less (set_link st l n)) n colour) pool.old h pool.new result }
 {
-    let r = store_one_less(pool, h, l, n);
+    let stored = store_one_less(pool, h, l, n);
     pool::set_word(pool, n, pool::COLOUR, colour);
-    r
+    stored
 }
 
 // Delete of B, right child C without left child, last store: stores C in B's link from above, gives C B's colour, makes the colour work and

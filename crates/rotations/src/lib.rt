@@ -111,6 +111,7 @@ pub fn zig_lower_a(pool: &mut [u32], h: Head, l: Link, s: Side, purpose: Purpose
 //      A'  y           A'  C'
 //     / \             / \  / \
 //    a   x           a  x y   r
+// kept: it ends as diag_lower does. One function for that end takes a contract longer than its text.
 #[tactic(auto, unfolding(spec::specs::Turn::step_finds, spec::specs::Turn::step_made, spec::specs::Turn::zig_lower_c))]
 pub fn zig_lower_c(pool: &mut [u32], h: Head, l: Link, s: Side, purpose: Purpose) -> Option<Stored>
     requires { Whole pool.old }

@@ -21,7 +21,7 @@ use Rattle.command_lines.specs.Machine.{taken}
 use Rattle.command_lines.specs.Cut.{cut, cut_from, cut-after, cut-within}
 use Rattle.answer_lines.specs.Text.{letter_of, line_of, bad_line}
 use Rattle.node_lines.specs.Shown.{node_shown, shown_from, nodes_shown}
-use Rattle.page.specs.Sheets.{sheet_room, sheets_after}
+use Rattle.page.specs.Sheets.{sheets_after}
 use Rattle.session.specs.declared.Rest.{Rest}
 use Rattle.session.specs.declared.Rest.TheVariants.{Nothing, Nodes, Sheets}
 use Rattle.session.specs.declared.Session.{Session}

@@ -1,7 +1,7 @@
 // A run of the program trace: lines read from bytes, their commands run on the lent words, and what they print written to a buffer.
 #![tactic(auto)]
 
-ghost use Rattle.std.specs.Prelude.{◌≡◌, false, cond, List, ℕ, ◌≤◌, ◌<◌, ◌+◌, ◌-◌, ◌*◌, length, take};
+ghost use Rattle.std.specs.Prelude.{◌≡◌, false, cond, List, ℕ, ◌≤◌, ◌<◌, ◌+◌, ◌-◌, ◌*◌, length};
 ghost use Rattle.spec.specs.Numbers.{node_words, pool_limit};
 ghost use Rattle.texts.specs.Line.{room};
 ghost use Rattle.texts.specs.Put.{PutPart};
@@ -86,14 +86,14 @@ fn next_number(number: u64) -> u64
 }
 
 // what is to be written after a command's answer
-fn to_write(words: &[u32], lent: usize, c: Command, said: Said) -> Rest
-    requires { (lent ≤ pool_limit) × (length words.now ≡ pool_limit) }
-    ensures fits { Fits lent result }
-    ensures result_value { rest_of (take lent words.now) result ≡ added (take lent words.now) c (says said) }
+fn to_write(pool: &[u32], c: Command, said: Said) -> Rest
+    requires { length pool.now ≤ pool_limit }
+    ensures fits { Fits (length pool.now) result }
+    ensures result_value { rest_of pool.now result ≡ added pool.now c (says said) }
 {
     match (said, c) {
-        (Said::Ok, Command::Show) => Rest::Nodes(lent / numbers::NODE_WORDS),
-        (Said::Ok, Command::Page) => Rest::Sheets(page::sheets(&words[..lent]), 0),
+        (Said::Ok, Command::Show) => Rest::Nodes(pool.len() / numbers::NODE_WORDS),
+        (Said::Ok, Command::Page) => Rest::Sheets(page::sheets(pool), 0),
         _ => Rest::Nothing,
     }
 }
@@ -106,35 +106,27 @@ struct Written {
 }
 
 // the line of the next node that T has to show
-fn put_node(words: &[u32], out: &mut [u8], at: usize, lent: usize, nodes: usize) -> Written
-    requires lent_le_pool_limit { (lent ≤ pool_limit) × (nodes * node_words ≤ lent) × (0 < nodes) }
-    requires words_len { (length words.now ≡ pool_limit) × (at + sheet_room ≤ length out.old) }
-    ensures fits { Fits lent result.rest × (pieces result.rest ≡ nodes - 1) }
-    ensures put_part { PutPart out.old at (rest_of (take lent words.now) (Nodes nodes)) out.new result.next (rest_of (take lent words.now) result.rest) }
+fn put_node(pool: &[u32], out: &mut [u8], at: usize, nodes: usize) -> Written
+    requires pool_len { (length pool.now ≤ pool_limit) × (nodes * node_words ≤ length pool.now) × (0 < nodes) }
+    requires room { at + sheet_room ≤ length out.old }
+    ensures fits { Fits (length pool.now) result.rest × (pieces result.rest ≡ nodes - 1) }
+    ensures put_part { PutPart out.old at (rest_of pool.now (Nodes nodes)) out.new result.next (rest_of pool.now result.rest) }
 {
-    let node = lent / numbers::NODE_WORDS - nodes + 1;
-    let next = node_lines::write_node(out, at, &words[..lent], node as u32);
+    let node = pool.len() / numbers::NODE_WORDS - nodes + 1;
     Written {
-        next,
+        next: node_lines::write_node(out, at, pool, node as u32),
         rest: Rest::Nodes(nodes - 1),
     }
 }
 
 // the next sheet of L's page
-fn put_sheet(
-    words: &[u32],
-    out: &mut [u8],
-    at: usize,
-    lent: usize,
-    sheets: usize,
-    last: u64,
-) -> Written
-    requires lent_le_pool_limit { (lent ≤ pool_limit) × (sheets ≤ most_sheets) × (0 < sheets) }
-    requires words_len { (length words.now ≡ pool_limit) × (at + sheet_room ≤ length out.old) }
-    ensures fits { Fits lent result.rest × (pieces result.rest ≡ sheets - 1) }
-    ensures put_part { PutPart out.old at (rest_of (take lent words.now) (Sheets sheets last)) out.new result.next (rest_of (take lent words.now) result.rest) }
+fn put_sheet(pool: &[u32], out: &mut [u8], at: usize, sheets: usize, last: u64) -> Written
+    requires pool_len { (length pool.now ≤ pool_limit) × (sheets ≤ most_sheets) × (0 < sheets) }
+    requires room { at + sheet_room ≤ length out.old }
+    ensures fits { Fits (length pool.now) result.rest × (pieces result.rest ≡ sheets - 1) }
+    ensures put_part { PutPart out.old at (rest_of pool.now (Sheets sheets last)) out.new result.next (rest_of pool.now result.rest) }
 {
-    let sheet = page::put_sheet(out, at, &words[..lent], last);
+    let sheet = page::put_sheet(out, at, pool, last);
     Written {
         next: sheet.next,
         rest: Rest::Sheets(sheets - 1, sheet.last),
@@ -142,16 +134,16 @@ fn put_sheet(
 }
 
 // the next piece
-fn put_piece(words: &[u32], out: &mut [u8], at: usize, lent: usize, rest: Rest) -> Written
-    requires lent_le_pool_limit { (lent ≤ pool_limit) × Fits lent rest × (0 < pieces rest) }
-    requires words_len { (length words.now ≡ pool_limit) × (at + sheet_room ≤ length out.old) }
-    ensures fits { Fits lent result.rest × (pieces result.rest ≡ pieces rest - 1) }
-    ensures put_part { PutPart out.old at (rest_of (take lent words.now) rest) out.new result.next (rest_of (take lent words.now) result.rest) }
+fn put_piece(pool: &[u32], out: &mut [u8], at: usize, rest: Rest) -> Written
+    requires pool_len { (length pool.now ≤ pool_limit) × Fits (length pool.now) rest × (0 < pieces rest) }
+    requires room { at + sheet_room ≤ length out.old }
+    ensures fits { Fits (length pool.now) result.rest × (pieces result.rest ≡ pieces rest - 1) }
+    ensures put_part { PutPart out.old at (rest_of pool.now rest) out.new result.next (rest_of pool.now result.rest) }
 {
     match rest {
         Rest::Nothing => Written { next: at, rest },
-        Rest::Nodes(k) => put_node(words, out, at, lent, k),
-        Rest::Sheets(k, last) => put_sheet(words, out, at, lent, k, last),
+        Rest::Nodes(k) => put_node(pool, out, at, k),
+        Rest::Sheets(k, last) => put_sheet(pool, out, at, k, last),
     }
 }
 
@@ -203,7 +195,7 @@ fn step(words: &[u32], out: &mut [u8], s: Session, input: &[u8]) -> Moved
     ensures { Stepped input.now words.now out.old s out.new result.session result.call }
 {
     if 0 < pieces(s.rest) {
-        let written = put_piece(words, out, s.at, s.lent, s.rest);
+        let written = put_piece(&words[..s.lent], out, s.at, s.rest);
         return Moved {
             session: Session {
                 rest: written.rest,
@@ -229,7 +221,7 @@ fn answer(words: &mut [u32], out: &mut [u8], register: Register, s: Session, c: 
         lent: done.lent,
         number,
         reading: command_lines::start(),
-        rest: to_write(words, done.lent, c, done.said),
+        rest: to_write(&words[..done.lent], c, done.said),
         ended: false,
         at,
         ..s

@@ -26,10 +26,11 @@ fn link_new(pool: &mut [u32], h: Head, l: Link, k: u32, v: u64) -> Head
 {
     let first = h.first;
     let taken = queue::take_as(pool, h, k, v, Side::L, 0, 0, pool::RED, pool::LINKED);
-    let mut r = heads::set_link(pool, taken, l, first);
-    let capacity = pool::nodes(pool);
-    r.held = counts::count_up(capacity, r.held);
-    r
+    let linked = heads::set_link(pool, taken, l, first);
+    Head {
+        held: counts::count_up(pool::nodes(pool), linked.held),
+        ..linked
+    }
 }
 
 // Turns the root black if no rotation is to come.
@@ -71,7 +72,7 @@ fn insert_under_red(pool: &mut [u32], h: Head, l: Link, k: u32, v: u64) -> Optio
 {
     let mut path = Path::new();
     paths::path_to(pool, h.root, k, l, &mut path);
-    let fix = fixups::insert_fixup(pool, &path);
+    let fix = fixups::insert_fixup(pool, &path, 0);
     if !fixups::nodes_found(fix) {
         return None;
     }

@@ -1,10 +1,8 @@
 // Runs the commands of standard input on the ticket index and prints a line for each call.
 #![tactic(auto)]
 
-ghost use Rattle.std.specs.Prelude.{◌≤◌, ◌<◌, ◌≡◌, length, IfOk};
+ghost use Rattle.std.specs.Prelude.{IfOk};
 ghost use Rattle.session.specs.Steps.{Sound};
-ghost use Rattle.page.specs.Sheets.{sheet_room};
-ghost use Rattle.spec.specs.Numbers.{pool_limit};
 
 use session::Run;
 use std::io;

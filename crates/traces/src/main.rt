@@ -1,7 +1,7 @@
 // Runs stored inputs of trace and compares what comes out with the stored outputs. The arguments are pairs of files: an input, its output.
 #![tactic(auto)]
 
-ghost use Rattle.std.specs.Prelude.{◌≤◌, ◌<◌, ◌≡◌, length, IfOk};
+ghost use Rattle.std.specs.Prelude.{◌≤◌, ◌≡◌, length};
 ghost use Rattle.std.specs.Io.{ReadsAtMost};
 ghost use Rattle.spec.specs.Numbers.{pool_limit};
 
