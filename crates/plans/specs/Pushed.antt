@@ -54,6 +54,9 @@ push_write a (x ∷ b) h =
     ap (λ (w : Write). push_all w b) (push-one a x (omega arith))
     ∙ (push_write (a ++ x ∷ []) b (rw length-append (omega arith)) ∙ ap write_of (append_assoc a (x ∷ []) b))
 
+pub push-write : (a b : List Store) → length a + length b ≤ most_stores → push_all (write_of a) b ≡ write_of (a ++ b)
+push-write = push_write
+
 -- a write of one store
 pub one_store : (x : Store) → pushed no_write x ≡ write_of (x ∷ [])
 one_store x = ap (λ (w : Write). pushed w x) (sym no_stores) ∙ push-one [] x (omega arith)

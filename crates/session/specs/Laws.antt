@@ -283,3 +283,8 @@ module _ (input words : List ℕ) (register : Register) (s : Session) {out : Lis
             done = done_more _ _ (call-less v a f) r.done;
             prints = λ later. part-both (r.prints later) (call-prints input words' register' t u c words'' register'' v w q f later);
           }
+
+-- a command is not ill-formed
+pub not-ill : (c : Option Command) → (c ≡ None → ⊥) → is_ill c ≡ false
+not-ill None h = absurd (h refl)
+not-ill (Some c) h = refl
