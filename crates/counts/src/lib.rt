@@ -5,6 +5,7 @@ ghost use Rattle.std.specs.Prelude.{◌≡◌, cond};
 ghost use Rattle.spec.specs.Register.{count_up, count_down};
 
 // Answers x if the test holds, else y.
+// kept: an `if` in each caller is no shorter, and cuts its proof in two.
 pub fn choose(test: bool, x: u32, y: u32) -> u32
     ensures { result ≡ cond test x y }
 {
@@ -12,6 +13,7 @@ pub fn choose(test: bool, x: u32, y: u32) -> u32
 }
 
 // Answers one more, or n itself at the end of its range.
+// kept: `saturating_add(1).min(most)` answers most where n is above it.
 pub fn count_up(most: u32, n: u32) -> u32
     ensures { result ≡ count_up most n }
 {
