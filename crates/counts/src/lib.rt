@@ -5,6 +5,7 @@ ghost use Rattle.std.specs.Prelude.{◌≡◌};
 ghost use Rattle.spec.specs.Register.{count_up, count_down};
 
 // Answers one more, or n itself at the end of its range.
+// kept: `saturating_add(1).min(most)` answers most where n is above it.
 pub fn count_up(most: u32, n: u32) -> u32
     ensures { result ≡ count_up most n }
 {

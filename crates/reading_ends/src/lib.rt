@@ -33,6 +33,7 @@ fn standings<const WIDTH: usize>(pool: &[u32], n: usize) -> u32
 }
 
 // Passes over nodes of which none is retired, so many by one test; answers where it stopped.
+// kept: a `step_by` range has no place to answer once it is past its end.
 fn scan_blocks<const WIDTH: usize>(pool: &[u32], from: usize, capacity: usize) -> usize
     requires { Span pool.now from capacity × (1 ≤ WIDTH) × (WIDTH ≤ word_bits) }
     ensures { Past pool.now from capacity result }
@@ -99,6 +100,7 @@ fn release(pool: &mut [u32], h: Head, s: u32, n: u32) -> Head
 }
 
 // Ends the reading of slot s: its bit leaves the awaited slots, and every retired node, in rising number, is released.
+// kept: each place is looked for in the pool as the release before it left it, so no range has them.
 pub fn end_reading(pool: &mut [u32], h: Head, s: u32) -> Head
     requires { (length pool.old < pool_limit) × (s < slots) }
     ensures { (q : Register) → at pool.new result (with_reader q s no_reader) ≡ end_reading (at pool.old h q) s }
