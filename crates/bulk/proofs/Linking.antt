@@ -1,4 +1,4 @@
--- 02, C-24: a node made apart is linked, by its place in the pool.
+-- 02, C-24: a node made apart is linked, by its place in the pool. Nothing cites it; it says which word changes.
 use Rattle.std.specs.Prelude.{ℕ, ◌≤◌, ◌≡◌, List, get_or, set}
 use Rattle.std.proofs.Common.{◌∙◌, eq-eqb}
 use Rattle.spec.specs.Pool.{place, word, standing_word, standing_linked, standing_apart}

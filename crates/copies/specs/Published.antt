@@ -25,7 +25,7 @@ rest-reading : (b n : ℕ) (q : Register) → reading_slots (moved_rest b n q) �
 unfolding with_write reading_slots
 rest-reading b n q = refl
 
--- p₁ and h₁ with the copy hung, p₂ and h₂ after B is retired
+-- p₁ and h₁ with the copy hung, p₂ and h₂ after B is retired. Nothing cites it; it says in which order the parts come.
 pub published : (p p₁ p₂ : List ℕ) (h h₁ h₂ : Head) (l : Link) (m c b x y colour : ℕ) → b ≡ node_at p h.root l → x ≡ child p L b
     → y ≡ child p R b → ((q : Register) → colour ≡ colour_of (at p h q) b)
     → Follows (λ st. set_link (copy_node st c L x y colour) l h.first) p h p₁ h₁

@@ -1,4 +1,4 @@
--- The delete fix-up along any path, one level at a time.
+-- The delete fix-up along any path, one level at a time. Nothing cites it; it says what a level does.
 use Rattle.std.specs.Prelude.{◌≡◌, List, [], ◌∷◌, true, false, drop, length, ℕ, suc, ◌+◌, ◌≤◌}
 use Rattle.std.proofs.Common.{ne_eqb, arith}
 use Rattle.datatypes.specs.declared.Link.{Link}

@@ -1,4 +1,4 @@
--- The insert fix-up along any path, one level at a time.
+-- The insert fix-up along any path, one level at a time. Nothing cites it but DeleteFixups; it says what a level does.
 use Rattle.std.specs.Prelude.{◌≡◌, List, [], ◌∷◌, true, false, cond, drop, get_or, length, ℕ, suc, ◌+◌, ◌≤◌}
 use Rattle.std.proofs.Common.{arith}
 use Rattle.datatypes.specs.declared.Link.{Link}
@@ -19,14 +19,16 @@ module _ (p : List ℕ) (m : ℕ) (path : List Link) where
   pub insert_fixup-turn : 3 ≤ length path → is_red p (owner (link_in path 0)) ≡ true
       → is_red p (child p (other (side_of (link_in path 1))) (owner (link_in path 1))) ≡ false
       → insert_fixup p m path
-      ≡ fixup_result m (Rotate (rotation (link_in path 2) (cond (same_side (side_of (link_in path 0)) (side_of (link_in path 1))) Diag Zig) (side_of (link_in path 1)) ForInsert))
+      ≡ fixup_result m (Rotate (rotation (link_in path 2) (cond (same_side (side_of (link_in path 0)) (side_of (link_in path 1))) Diag Zig)
+      (side_of (link_in path 1)) ForInsert))
   unfolding insert_fixup
   insert_fixup-turn h e f = go path h e f
     where
       go : (path : List Link) → 3 ≤ length path → is_red p (owner (link_in path 0)) ≡ true
           → is_red p (child p (other (side_of (link_in path 1))) (owner (link_in path 1))) ≡ false
           → insert_fixup p m path
-          ≡ fixup_result m (Rotate (rotation (link_in path 2) (cond (same_side (side_of (link_in path 0)) (side_of (link_in path 1))) Diag Zig) (side_of (link_in path 1)) ForInsert))
+          ≡ fixup_result m (Rotate (rotation (link_in path 2) (cond (same_side (side_of (link_in path 0)) (side_of (link_in path 1))) Diag Zig)
+          (side_of (link_in path 1)) ForInsert))
       go [] h e f = absurd (let z : ⊥ = omega arith in z)
       go (x ∷ []) h e f = absurd (let z : ⊥ = omega arith in z)
       go (x ∷ y ∷ []) h e f = absurd (let z : ⊥ = omega arith in z)

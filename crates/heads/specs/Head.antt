@@ -60,7 +60,7 @@ Tries l x p h p' t = (q : Register) → Tells (at p h q) l x p' t q
 abbrev pub TriesReading : ℕ → Link → Step → List ℕ → Head → List ℕ → Option Stored → Type 0
 TriesReading m l x p h p' t = (q : Register) → reading_slots q ≡ m → Tells (at p h q) l x p' t q
 
--- The answer of a step that misses a node, and of one that finds all.
+-- The answer of a step that misses a node, and of one that finds all. Nothing cites it; it says what `Tells` asks of each.
 module _ (p : List ℕ) (h : Head) (l : Link) (x : Step) (q : Register) where
   pub tells-missed : step_finds (at p h q) l x ≡ false → Tells (at p h q) l x p None q
   tells-missed e = (e, refl)

@@ -1,4 +1,4 @@
--- A path that goes on below its node.
+-- A path that goes on below its node. Nothing cites it; it says that the next key's node is the leftmost below the right link.
 use Rattle.std.specs.Prelude.{◌≡◌, List, [], ◌∷◌, length, ℕ, ◌+◌, ◌-◌, ◌≤◌}
 use Rattle.std.proofs.Common.{arith}
 use Rattle.datatypes.specs.declared.Link.{Link}

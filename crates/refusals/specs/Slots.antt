@@ -36,7 +36,7 @@ slot_number lent s cause number = cond (eqb lent 0) (cond (slot_too_high s) 3 (c
 pub index_of : (s i : ℕ) → i ≡ slot_index s → s < slots → i ≡ s
 index_of s i e l = e ∙ rw (lt-ltb s slots l)
 
--- the cause is f of whether the slot reads
+-- The cause is f of whether the slot reads. Nothing cites it; it says that tests 1 to 3 and the slot's own record are all that a begin or a give up tests.
 pub slot-tests : (st : State) (s i : ℕ) (f : Bool → Bool) (number : ℕ) → i ≡ slot_index s
     → slot_number (lent_number st) s (f (reader_of st.register i).reading) number
     ≡ first_of (wrong_length st gives 1 ∷ out_of_range st gives 2 ∷ slot_too_high s gives 3 ∷ f (reading st s) gives number ∷ [])
@@ -70,7 +70,8 @@ turn-first false true false d false h = refl
 pub turn-tests : (st : State) (s i : ℕ) → i ≡ slot_index s
     → turn_number st.pool (tested_number Register st) s (reader_of st.register i) ≡ first_of (reader_tests st s)
 turn-tests st s i e = elim (dec_lt s slots) [
-  | yes l ↦ rw (index_of s i e l, lt-leb slots s l) (turn-first (wrong_length st) (register_in_range (nodes st.pool) st.register) false (not (reading st s)) _ (λ z. absurd (false≢true z)))
+  | yes l ↦ rw (index_of s i e l, lt-leb slots s l)
+      (turn-first (wrong_length st) (register_in_range (nodes st.pool) st.register) false (not (reading st s)) _ (λ z. absurd (false≢true z)))
   | no l ↦ rw (le-leb slots s (omega arith), none-fits st.pool (nodes st.pool))
       (turn-first (wrong_length st) (register_in_range (nodes st.pool) st.register) true (not (reading st s)) true (λ z. refl))
 ]

@@ -1,4 +1,4 @@
--- The last store of a rotation, from the states that its parts leave.
+-- The last store of a rotation, from the states that its parts leave. Nothing cites it; it says in which order the parts come.
 use Rattle.std.specs.Prelude.{◌≡◌, refl, List, Bool, true, false, cond, ℕ}
 use Rattle.std.proofs.Common.{sym, ◌∙◌}
 use Rattle.std.proofs.Math.Path.{ap}

@@ -284,7 +284,7 @@ module _ (input words : List ℕ) (register : Register) (s : Session) {out : Lis
             prints = λ later. part-both (r.prints later) (call-prints input words' register' t u c words'' register'' v w q f later);
           }
 
--- a command is not ill-formed
+-- A command is not ill-formed. Nothing cites it; it says that `None` alone is.
 pub not-ill : (c : Option Command) → (c ≡ None → ⊥) → is_ill c ≡ false
 not-ill None h = absurd (h refl)
 not-ill (Some c) h = refl

@@ -1,4 +1,4 @@
--- An insert that finds the free queue empty.
+-- An insert that finds the free queue empty. Nothing cites it; it says that such a step is missed.
 use Rattle.std.specs.Prelude.{◌≡◌, false, not, ℕ}
 use Rattle.datatypes.specs.declared.Link.{Link}
 use Rattle.datatypes.specs.declared.Step.TheVariants.{Insert}

@@ -1,4 +1,4 @@
--- Seven stores moved up by one.
+-- Seven stores moved up by one. Nothing cites it; it says that a copy place by place is what `less_first` makes.
 use Rattle.std.specs.Prelude.{◌≡◌, refl, List, [], ◌∷◌, ◌++◌, length, get_or, set, drop, ℕ}
 use Rattle.std.proofs.Common.{arith}
 use Rattle.datatypes.specs.declared.Store.{Store}

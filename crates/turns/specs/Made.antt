@@ -21,7 +21,7 @@ moved_by x b n w = cond (profile x).renames (moved_write b n w) w
 abbrev pub moved_rest : Step → ℕ → ℕ → Register → Register
 moved_rest x b n q = with_write q (moved_by x b n q.write)
 
--- the steps that retire a node, or await, and so ask which slots are reading
+-- the steps that retire a node, or await, and so ask which slots are reading. Nothing cites it; `first_step` asks in these arms
 abbrev pub asks_reading : Step → Bool
 asks_reading Vacant = false
 asks_reading (Insert k v) = false
@@ -66,5 +66,6 @@ module _ (p p' : List ℕ) (reg : Register) (lent : lent_number (state p reg) �
       → (says ≡ (writer_turn (state p reg)).answer) × (after ≡ (writer_turn (state p reg)).after)
   turn-stored t w says after f ew s =
       let x = store_of reg 0 in
-      let e : stored (left p' t (moved_rest x.step (node_at p reg.root x.link) reg.first reg)) ≡ writer_turn (state p reg) = ap stored f.1 ∙ sym (writer-stores (state p reg) lent hand ready f.0) in
+      let e : stored (left p' t (moved_rest x.step (node_at p reg.root x.link) reg.first reg)) ≡ writer_turn (state p reg) =
+      ap stored f.1 ∙ sym (writer-stores (state p reg) lent hand ready f.0) in
       turn-made p' t reg x.step (node_at p reg.root x.link) reg.first w says after (writer_turn (state p reg)) e ew s
