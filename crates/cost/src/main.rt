@@ -6,9 +6,10 @@
 // Q the page, put into a buffer: no call, and without tests 1 and 2.
 // A small letter is a writer's turn, by its store: i insert under a black parent, j with colours above alone, k with a rotation to come; r replace;
 // d e diag lower, raise; x y z zig lower A, lower C, raise; u unlink, a adopt, m promote, p publish, t detach.
-// SIZE: s m l: N 8, 128, 1,023, with about N / 2 − 1 keys; v: N 128, a damaged tree with a path of 64 nodes.
-// MODE: 1,000 times, 0: the pool is put back, 1: and the call is made. SLOT: the slot of a reader's call, 0 or 1; in a writer's turn 1: slot 1
-// reads, so that a node let go is retired, 0: none does.
+// Another letter, or none, is a writer's turn with no write in hand, or, if small, one that never comes (Call::from_letter).
+// SIZE: s m l: N 8, 128, 1,023, with about N / 2 − 1 keys; v: N 128, a damaged tree with a path of 64 nodes. Another, or none, is m.
+// MODE: 1,000 times, 0: the pool is put back, 1: and the call is made. Another, or none, is 0.
+// SLOT: the slot of a reader's call, 0 or 1; in a writer's turn 1: slot 1 reads, so that a node let go is retired, 0: none does.
 // Writes a sum over the free counts after the calls (in mode 0, before them), or 0 where no write came to the wanted turn. 1 may be added
 // by a page: a byte of the buffer is looked at, so that the compiler can't leave out what is written there.
 #![tactic(auto)]
@@ -31,12 +32,11 @@ const BUFFER: usize = 65_536;
 
 // the first byte of an argument, 0 where there is none
 fn argument(rt: &(impl Env + AllocGlobal), i: usize) -> io::Result<u8> {
-    for (place, text) in env::args(rt)?.enumerate() {
-        if place == i {
-            return Ok(text.as_bytes().first().copied().unwrap_or(0));
-        }
-    }
-    Ok(0)
+    let text = env::args(rt)?.nth(i);
+    Ok(
+        text.and_then(|t| t.as_bytes().first().copied())
+            .unwrap_or(0),
+    )
 }
 
 // the page: how many bytes it has
@@ -56,7 +56,7 @@ fn printed(pool: &[u32], out: &mut [u8]) -> u32 {
 fn counted(
     pool: &mut [u32],
     out: &mut [u8],
-    reg: &Register,
+    reg: Register,
     act: Option<Act>,
     k: u32,
     s: u32,
@@ -65,14 +65,14 @@ fn counted(
         return reg.free;
     };
     match act {
-        Act::SetUp => index::set_up(pool, *reg).register.free,
-        Act::Insert => index::insert(pool, *reg, k, k as u64).register.free,
-        Act::Delete => index::delete(pool, *reg, k).register.free,
-        Act::Begin => index::begin(pool, *reg, s, k).register.free,
-        Act::BeginNext => index::begin_next(pool, *reg, s, k).register.free,
-        Act::ReaderTurn => index::reader_turn(pool, *reg, s).register.free,
-        Act::GiveUp => index::give_up(pool, *reg, s).register.free,
-        Act::WriterTurn => index::writer_turn(pool, *reg).register.free,
+        Act::SetUp => index::set_up(pool, reg).register.free,
+        Act::Insert => index::insert(pool, reg, k, k as u64).register.free,
+        Act::Delete => index::delete(pool, reg, k).register.free,
+        Act::Begin => index::begin(pool, reg, s, k).register.free,
+        Act::BeginNext => index::begin_next(pool, reg, s, k).register.free,
+        Act::ReaderTurn => index::reader_turn(pool, reg, s).register.free,
+        Act::GiveUp => index::give_up(pool, reg, s).register.free,
+        Act::WriterTurn => index::writer_turn(pool, reg).register.free,
         Act::Page => printed(pool, out),
     }
 }
@@ -119,7 +119,7 @@ impl Bench {
         for i in 0..REPEATS {
             pool.copy_from_slice(kept);
             let k = asked.key(i);
-            sum = (sum ^ k).wrapping_add(counted(pool, out, register, act, k, asked.slot()));
+            sum = (sum ^ k).wrapping_add(counted(pool, out, *register, act, k, asked.slot()));
         }
         sum
     }
