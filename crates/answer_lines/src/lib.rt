@@ -83,7 +83,7 @@ pub fn letter_of(c: Command) -> u8
 }
 
 // Each writer below puts its text into out from position at on and answers the next position, as those of texts do.
-// kept: a buffer with a position beside it, since README names put_page and put_sheet in this form.
+// kept: a buffer with a position beside it: the one that page::put_sheet fills, whose form README names.
 
 // a node's link, its side as `.L` or `.R`
 #[tactic(auto, using(texts::proofs::Fields::fields))]

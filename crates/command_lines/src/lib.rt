@@ -67,6 +67,7 @@ struct Passed {
 }
 
 // a field's bytes, up to a tab, a newline or the input's end
+// kept: an input with a place in it; the definitions (Cut) and the theorems go by that place.
 #[tactic(auto, using(crate::proofs::Cuts::onward))]
 fn field_on(input: &[u8], from: usize, f: Field) -> Passed
     requires { from ≤ length input.now }

@@ -66,6 +66,7 @@ fn reads_on(rt: &impl Print, answer: ReaderAnswer) -> io::Result<bool> {
     }
 }
 
+// kept: writer and search each with a loop of its own, and a function for each call: a client is read more easily so.
 // Makes the writer's turns of an insert or a delete until it is done. Calls of readers may come
 // between any two of them.
 fn carry_out(rt: &impl Print, pool: &mut [u32], asked: Reply<Acceptance>) -> io::Result<Register> {

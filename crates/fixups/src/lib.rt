@@ -25,6 +25,7 @@ pub fn insert_fixup(pool: &[u32], path: &Path, mut levels: u32) -> Fixup
     ensures { result ≡ insert_fixup pool.now levels path.now }
 {
     let mut rest = path.links();
+    // kept: goes on until nothing is left; it counts nothing.
     while let [x, y, up @ ..] = rest {
         if !pool::is_red(pool, links::owner(*x)) {
             return Fixup {
@@ -140,6 +141,7 @@ pub fn delete_fixup(pool: &[u32], path: &Path, mut levels: u32, x: u32) -> Fixup
 {
     let mut node = x;
     let mut rest = path.links();
+    // kept: goes on until a level ends it; it counts nothing by which it goes.
     loop {
         if pool::is_red(pool, node) {
             return Fixup {

@@ -10,6 +10,7 @@ ghost use Rattle.heads.specs.Head.{head_of, with_head, awaiting, Follows};
 use datatypes::{Head, Link, Register};
 
 // Takes the head out of a register.
+// kept: field by field; the register's fields are document 01's, and the theorems name them, so it has no head as a field.
 pub fn head_of(reg: &Register) -> Head
     ensures { result ≡ head_of reg.now }
 {

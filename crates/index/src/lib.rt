@@ -20,7 +20,7 @@ use refusals::Tested;
 
 // Set up: makes the lent words a fresh pool, every node free, and answers its register.
 // Needs: nothing of the words but their number. The register that goes in is not read; fresh::fresh_register(0) makes one.
-// Answers: Accepted.
+// Answers: Ok(()).
 // Refuses: 1, the length is not 9 × N words with N from 8 to 1,023.
 // Leaves: every word written and a fresh register, whatever stood there before; refused, both as they were.
 pub fn set_up(pool: &mut [u32], reg: Register) -> Reply<Acceptance>
@@ -44,7 +44,7 @@ pub fn set_up(pool: &mut [u32], reg: Register) -> Reply<Acceptance>
 // Insert: takes the key k with its record v in hand as a write, with its stores planned. The writer's turns make the stores. If the key is held, its
 // record is replaced, in one store.
 // Needs: nothing; the key is any 32-bit number, the record any 64-bit one (document 02, C-18).
-// Answers: Accepted. Then writer_turn is to be called until it answers Done.
+// Answers: Ok(()). Then writer_turn is to be called until it answers Done.
 // Refuses, tested in this order: 1 length; 2 a word or field out of range; 6 a write is in hand; 12 a path of over 64 nodes; 10 the key is not
 // held and keys held are N − 4 or more; 11 fewer than 3 free nodes; 12 a step names a node where there is none.
 // Leaves: the pool as it was, and in the register the write in hand; refused, both as they were.
@@ -61,7 +61,7 @@ pub fn insert(pool: &[u32], mut reg: Register, k: u32, v: u64) -> Reply<Acceptan
 
 // Delete: takes the delete of the key k in hand as a write, with its stores planned. The writer's turns make the stores.
 // Needs: nothing.
-// Answers: Accepted. Then writer_turn is to be called until it answers Done.
+// Answers: Ok(()). Then writer_turn is to be called until it answers Done.
 // Refuses, tested in this order: 1 length; 2 a word or field out of range; 6 a write is in hand; 12 a path of over 64 nodes; 9 the key is
 // not held; 11 fewer than 4 free nodes; 12 a step names a node where there is none, or the successor's path is over 64 nodes.
 // Leaves: the pool as it was, and in the register the write in hand; refused, both as they were.
@@ -78,7 +78,7 @@ pub fn delete(pool: &[u32], mut reg: Register, k: u32) -> Reply<Acceptance>
 
 // Insert a list (document 02, C-24): a list of keys with their records, on an empty index, becomes one tree, in hand as a write of one store.
 // Needs: nothing; keys and records are lent, the i-th record is the i-th key's.
-// Answers: Accepted. Then writer_turn answers Done with the root and the tree's top; readers see none of the list before it and all of it after.
+// Answers: Ok(()). Then writer_turn answers Done with the root and the tree's top; readers see none of the list before it and all of it after.
 // Refuses, tested in this order: 1 length; 2 a word or field out of range; 6 a write is in hand; 18 the list is empty, its keys don't rise strictly or
 // there are not as many records; 19 the root isn't 0; 10 more keys than N − 4; 11 fewer free nodes than keys; 12 a node would be taken from an
 // empty queue.
@@ -136,7 +136,7 @@ pub fn writer_turn(pool: &mut [u32], reg: Register) -> Reply<WriterAnswer>
 
 // Begin: starts a lookup of the key k in the slot s. It loads no node yet.
 // Needs: one caller for each slot. Nothing tests this.
-// Answers: Accepted. Then reader_turn is to be called until it answers Found or Absent; give_up ends the lookup before.
+// Answers: Ok(()). Then reader_turn is to be called until it answers Found or Absent; give_up ends the lookup before.
 // Refuses, tested in this order: 1 length; 2 a word or field out of range; 3 the slot is above 31; 4 the slot is reading.
 // Leaves: the pool as it was, and in the register the slot's reader record; refused, both as they were.
 pub fn begin(pool: &[u32], mut reg: Register, s: u32, k: u32) -> Reply<Acceptance>
@@ -153,7 +153,7 @@ pub fn begin(pool: &[u32], mut reg: Register, s: u32, k: u32) -> Reply<Acceptanc
 // Begin a search for the next ticket: starts, in the slot s, a search for the ticket with the smallest key greater than k. It loads no node
 // yet.
 // Needs: one caller for each slot. Nothing tests this.
-// Answers: Accepted. Then reader_turn is to be called until it answers Next or Absent; give_up ends the search before.
+// Answers: Ok(()). Then reader_turn is to be called until it answers Next or Absent; give_up ends the search before.
 // Refuses and leaves: as begin.
 pub fn begin_next(pool: &[u32], mut reg: Register, s: u32, k: u32) -> Reply<Acceptance>
     ensures answer_value { accepts result.answer ≡ (begin kind.Next (state pool.now reg) s k).answer }
@@ -214,13 +214,13 @@ fn given_up(pool: &mut [u32], reg: &mut Register, s: u32) -> Acceptance
     let i = refusals::give_up_refusal(pool, reg, s)?;
     let head = reading_ends::end_reading(pool, heads::head_of(reg), s);
     heads::put_head(reg, head);
-    reg.readers[i] = register::no_reader();
+    reg.readers[i] = register::NO_READER;
     Ok(())
 }
 
 // Give up: ends the lookup, or the search for the next ticket, of the slot s without an answer.
 // Needs: nothing; a slot that isn't reading is refused.
-// Answers: Accepted.
+// Answers: Ok(()).
 // Refuses, tested in this order: 1 length; 2 a word or field out of range; 3 the slot is above 31; 5 the slot is not reading.
 // Leaves: the slot no longer reading, awaited or a holder of a retired node; a retired node without a holder is freed; refused, both as they
 // were.

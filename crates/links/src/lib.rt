@@ -51,7 +51,7 @@ pub fn side_of(l: Link) -> Side
 pub fn form_of(x: Side, y: Side) -> Form
     ensures { result ≡ cond (same_side x y) Diag Zig }
 {
-    form_if(matches!((x, y), (Side::L, Side::L) | (Side::R, Side::R)))
+    form_if(x == y)
 }
 
 // Answers a diag where the outer child is red, a zig otherwise.

@@ -35,7 +35,7 @@ fn ended(answer: ReaderAnswer, compared: u32) -> Looked
 {
     Looked {
         answer,
-        reader: register::no_reader(),
+        reader: register::NO_READER,
         compared,
     }
 }

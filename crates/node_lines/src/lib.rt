@@ -9,6 +9,7 @@ ghost use Rattle.texts.specs.Line.{room};
 ghost use Rattle.node_lines.specs.Shown.{node_shown};
 
 // three numbers, each with the byte that ends its field
+// kept: a buffer with a position beside it: the one that page::put_sheet fills, whose form README names.
 #[tactic(auto, using(texts::proofs::Fields::fields))]
 fn put_three(out: &mut [u8], at: usize, a: u32, b: u32, c: u64, end: u8) -> usize
     requires { at + 43 ≤ length out.old }

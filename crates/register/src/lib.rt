@@ -3,7 +3,7 @@
 
 ghost use Rattle.std.specs.Prelude.{◌≡◌, cond, ◌&&◌};
 ghost use Rattle.spec.specs.Numbers.{slots, most_stores};
-ghost use Rattle.spec.specs.Register.{no_reader, begun_reader, moved_reader, remembering, counting, vacant, no_write};
+ghost use Rattle.spec.specs.Register.{begun_reader, moved_reader, remembering, counting, vacant, no_write};
 ghost use Rattle.spec.specs.Register.{reading_slots, node_number, link_in_range, step_in_range, is_root, is_vacant, store_in_range, reader_in_range, register_in_range};
 ghost use Rattle.base.specs.Walk.{all_in};
 
@@ -20,13 +20,6 @@ pub const NO_READER: Reader = Reader {
     value: 0,
     compared: 0,
 };
-
-// Makes that record.
-pub fn no_reader() -> Reader
-    ensures { result ≡ no_reader }
-{
-    NO_READER
-}
 
 // Makes the record of a slot that begins a search of this kind with the key k.
 pub fn begun_reader(kind: Kind, k: u32) -> Reader
@@ -96,6 +89,7 @@ pub fn no_write() -> Write
 }
 
 // Answers the mask of all reading slots, from the last slot's bit to the first's.
+// kept: slots by number; the proof is by the slot's number, as the mask's bits are.
 pub fn reading_slots(reg: &Register) -> u32
     ensures { result ≡ reading_slots reg.now }
 {

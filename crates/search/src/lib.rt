@@ -26,7 +26,7 @@ pub fn child_towards(pool: &[u32], k: u32, n: u32) -> u32
 }
 
 // Searches for a key from node n, which the link l holds, with so many nodes still allowed.
-// kept: the paper names this form, one loop that is left with the place it found.
+// kept: document 02 names this form, one loop that is left with the place it found; a `for` would test for no node twice.
 pub fn seek(pool: &[u32], k: u32, l: Link, n: u32, allowed: u32) -> Place
     ensures { result ≡ seek pool.now k allowed l n }
 {

@@ -51,8 +51,7 @@ fn pieces(rest: Rest) -> usize
 {
     match rest {
         Rest::Nothing => 0,
-        Rest::Nodes(k) => k,
-        Rest::Sheets(k, _) => k,
+        Rest::Nodes(k) | Rest::Sheets(k, _) => k,
     }
 }
 
@@ -161,7 +160,7 @@ fn whole_line(out: &mut [u8], s: Session, c: Option<Command>, next: usize) -> Mo
 {
     let mut session = s;
     session.from = next;
-    if let None = c {
+    if c.is_none() {
         session.at = answer_lines::write_bad(out, s.at, next_number(s.number));
         session.ended = true;
     }
@@ -257,6 +256,7 @@ pub fn advance(words: &mut [u32], out: &mut [u8], r: Run, input: &[u8]) -> Run
     ensures prints { Prints input.now words.old out.old r.register r.session words.new out.new result.register result.session }
 {
     let mut run = r;
+    // kept: goes on until nothing is left; it counts nothing.
     while 0 < left(run.session, input) {
         if out.len() - run.session.at < page::SHEET_ROOM {
             break;

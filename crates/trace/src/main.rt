@@ -25,6 +25,7 @@ fn run<W: Write>(to: &mut W, room: &mut Room, r: Run, input: &[u8]) -> io::Resul
 {
     let mut run = r;
     run.session.from = 0;
+    // kept: goes on until nothing is left; it counts nothing.
     while 0 < session::left(run.session, input) {
         run.session.at = 0;
         run = session::advance(&mut room.words, &mut room.out, run, input);
