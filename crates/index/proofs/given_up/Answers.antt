@@ -25,5 +25,5 @@ unfolding with_reader
 returns c =
     let a = c.args in
     let n = sym (ap found_number c.in_ok-i.was) ∙ c.give_up_refusal.ensures.tests in
-    rw (c.put_head.ensures, c.no_reader.ensures, c.in_ok-i.ensures.place)
+    rw (c.put_head.ensures, c.in_ok-i.ensures.place)
     (ap (outcome ok) (rw c.head_of.ensures at (c.end_reading-head.ensures a.reg.now)) ∙ sym (give_up-done (state a.pool.now a.reg.now) a.s n))
