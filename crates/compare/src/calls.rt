@@ -21,7 +21,7 @@ pub const NO_TALLY: Tally = Tally {
 };
 
 // a call with this reply, but for a reader's turn
-fn made<A>(reply: Reply<A>, tally: Tally) -> Made
+fn made_with<A>(reply: Reply<A>, tally: Tally) -> Made
 where
     Answer: From<A>,
 {
@@ -45,7 +45,7 @@ pub fn before_any() -> Made {
 
 // Sets up the index.
 pub fn set_up(pool: &mut [u32]) -> Made {
-    made(index::set_up(pool, fresh::fresh_register(0)), NO_TALLY)
+    made_with(index::set_up(pool, fresh::fresh_register(0)), NO_TALLY)
 }
 
 fn reader_turn(pool: &mut [u32], reg: Register, s: u32, tally: Tally) -> Made {
@@ -61,14 +61,14 @@ fn reader_turn(pool: &mut [u32], reg: Register, s: u32, tally: Tally) -> Made {
 // Makes a drawn call by a camera with this tally, one of a list with this one.
 pub fn call_index(pool: &mut [u32], reg: Register, call: Call, list: &List, tally: Tally) -> Made {
     match call.kind {
-        Kind::Insert => made(index::insert(pool, reg, call.key, call.record), tally),
-        Kind::Delete => made(index::delete(pool, reg, call.key), tally),
-        Kind::WriterTurn => made(index::writer_turn(pool, reg), tally),
-        Kind::Begin => made(index::begin(pool, reg, call.slot, call.key), tally),
-        Kind::BeginNext => made(index::begin_next(pool, reg, call.slot, call.key), tally),
+        Kind::Insert => made_with(index::insert(pool, reg, call.key, call.record), tally),
+        Kind::Delete => made_with(index::delete(pool, reg, call.key), tally),
+        Kind::WriterTurn => made_with(index::writer_turn(pool, reg), tally),
+        Kind::Begin => made_with(index::begin(pool, reg, call.slot, call.key), tally),
+        Kind::BeginNext => made_with(index::begin_next(pool, reg, call.slot, call.key), tally),
         Kind::ReaderTurn => reader_turn(pool, reg, call.slot, tally),
-        Kind::GiveUp => made(index::give_up(pool, reg, call.slot), tally),
-        Kind::List => made(
+        Kind::GiveUp => made_with(index::give_up(pool, reg, call.slot), tally),
+        Kind::List => made_with(
             index::insert_list(pool, reg, list.keys(), list.records()),
             tally,
         ),
