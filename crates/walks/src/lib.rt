@@ -20,8 +20,7 @@ pub enum Standing {
 }
 
 // A node of a pool.
-// kept: its colour and its standing are words, for a damaged pool may have any number there. Tried as Option: counting the nodes with a standing then
-// took 0.58 to 0.66 s in place of 0.09 s in Rattle's own build.
+// kept: colour and standing are words, as a damaged pool may have any. Tried as Option: counting free nodes took 0.58 to 0.66 s for 0.09 s in Rattle's own build.
 #[derive(Clone, Copy)]
 struct Node {
     key: u32,
