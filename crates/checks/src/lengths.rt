@@ -35,6 +35,7 @@ struct Tally {
     longest: u32,
 }
 
+// kept: written here as in the program compare, since checks uses nothing of the index.
 const NO_TALLY: Tally = Tally {
     answered: 0,
     compared: 0,

@@ -39,7 +39,7 @@ const NO_CHANGE: Change = Change {
     record: 0,
 };
 
-// The records that a lookup saw. kept: an array with its length beside it: (a) no heap, and slots are copied.
+// The records that a lookup saw. kept: an array with its length beside it, since slots are Copy, and an ArrayVec is not.
 #[derive(Clone, Copy)]
 struct Seen {
     records: [u64; MEMORY],
@@ -113,12 +113,12 @@ const IDLE: Slot = Slot {
     awaited: false,
 };
 
-// A write: an insert, of a held key or not, a delete by its form, or a list by the number of its tickets.
+// A write: an insert of a ticket with a record, its key held or not, a delete by its form and ticket, or a list by the number of its tickets.
 #[derive(Clone, Copy, PartialEq, Eq)]
 pub enum Write {
-    Insert,
-    Replace,
-    Delete(DeleteForm),
+    Insert(u32, u64),
+    Replace(u32, u64),
+    Delete(DeleteForm, u32),
     List(u32),
 }
 
@@ -129,28 +129,25 @@ impl Write {
     {
         match self {
             Write::List(_) => 0,
-            Write::Insert => 1,
-            Write::Delete(_) => 2,
-            Write::Replace => 3,
+            Write::Insert(_, _) => 1,
+            Write::Delete(_, _) => 2,
+            Write::Replace(_, _) => 3,
         }
     }
 
     // the store at which the list changes
     fn list_store(self) -> u32 {
-        if self == Write::Delete(DeleteForm::NextIsChild) {
-            2
-        } else {
-            1
+        match self {
+            Write::Delete(DeleteForm::NextIsChild, _) => 2,
+            _ => 1,
         }
     }
 }
 
-// The write in hand with its ticket and record, its stores in all and those made.
+// The write in hand, its stores in all and those made.
 #[derive(Clone, Copy)]
 struct InHand {
     write: Write,
-    ticket: u32,
-    record: u64,
     stores: u32,
     made: u32,
 }
@@ -461,11 +458,9 @@ impl Model {
     }
 
     // Takes a write in hand, which takes so many stores.
-    pub fn take_in_hand(&mut self, write: Write, ticket: u32, record: u64, stores: u32) {
+    pub fn take_in_hand(&mut self, write: Write, stores: u32) {
         self.hand = Some(InHand {
             write,
-            ticket,
-            record,
             stores,
             made: 0,
         });
@@ -477,11 +472,11 @@ impl Model {
             .is_some_and(|hand| hand.made.saturating_add(1) == hand.stores)
     }
 
-    fn change_list(&mut self, hand: InHand) {
-        match hand.write {
+    fn change_list(&mut self, write: Write) {
+        match write {
             Write::List(_) => self.put_in_list(),
-            Write::Delete(_) => self.take_out(hand.ticket),
-            Write::Insert | Write::Replace => self.put_in(hand.ticket, hand.record),
+            Write::Delete(_, t) => self.take_out(t),
+            Write::Insert(t, v) | Write::Replace(t, v) => self.put_in(t, v),
         }
     }
 
@@ -494,9 +489,9 @@ impl Model {
         hand.made = hand.made.saturating_add(1);
         self.hand = Some(hand);
         if hand.made == hand.write.list_store() {
-            self.change_list(hand);
+            self.change_list(hand.write);
         }
-        if (hand.made == 1) & (hand.write == Write::Delete(DeleteForm::Other)) {
+        if (hand.made == 1) & matches!(hand.write, Write::Delete(DeleteForm::Other, _)) {
             self.await_readers();
         }
     }

@@ -1,6 +1,6 @@
 // The counts of all runs, by row; a row past the end counts nothing.
 
-// kept: rows are constants: (d) places in one table; from many of them on rows go by a kind, a form or a slot (ACCEPTED + write.place()).
+// kept: rows are constants: they are places in one table, and from many of them on rows go by a kind, a form or a slot (ACCEPTED + write.place()).
 pub const ROWS: usize = 224;
 
 // Set up, and then the other calls by the numbers of their kinds; refusals by their numbers; finished deletes by their form, finished and

@@ -1,7 +1,7 @@
 // The index's calls: the register goes from one to the next, and all else of an answer is an answer of comparisons.
 use checks::draws::{Call, Kind};
 use comparisons::answers::Answer;
-use datatypes::{Acceptance, Reader, Register, Reply, Step, Tally};
+use datatypes::{Reader, Register, Reply, Step, Tally};
 use lists::drawn::List;
 
 // A call made: the register after it, its answer, the count in the reply of a reader's turn, and the tally of the camera that made the call.
@@ -20,8 +20,11 @@ pub const NO_TALLY: Tally = Tally {
     longest: 0,
 };
 
-// a call that is accepted or refused
-fn asked(reply: Reply<Acceptance>, tally: Tally) -> Made {
+// a call with this reply, but for a reader's turn
+fn made_with<A>(reply: Reply<A>, tally: Tally) -> Made
+where
+    Answer: From<A>,
+{
     Made {
         register: reply.register,
         answer: Answer::from(reply.answer),
@@ -42,17 +45,7 @@ pub fn before_any() -> Made {
 
 // Sets up the index.
 pub fn set_up(pool: &mut [u32]) -> Made {
-    asked(index::set_up(pool, fresh::fresh_register(0)), NO_TALLY)
-}
-
-fn writer_turn(pool: &mut [u32], reg: Register, tally: Tally) -> Made {
-    let reply = index::writer_turn(pool, reg);
-    Made {
-        register: reply.register,
-        answer: Answer::from(reply.answer),
-        compared: 0,
-        tally,
-    }
+    made_with(index::set_up(pool, fresh::fresh_register(0)), NO_TALLY)
 }
 
 fn reader_turn(pool: &mut [u32], reg: Register, s: u32, tally: Tally) -> Made {
@@ -68,14 +61,14 @@ fn reader_turn(pool: &mut [u32], reg: Register, s: u32, tally: Tally) -> Made {
 // Makes a drawn call by a camera with this tally, one of a list with this one.
 pub fn call_index(pool: &mut [u32], reg: Register, call: Call, list: &List, tally: Tally) -> Made {
     match call.kind {
-        Kind::Insert => asked(index::insert(pool, reg, call.key, call.record), tally),
-        Kind::Delete => asked(index::delete(pool, reg, call.key), tally),
-        Kind::WriterTurn => writer_turn(pool, reg, tally),
-        Kind::Begin => asked(index::begin(pool, reg, call.slot, call.key), tally),
-        Kind::BeginNext => asked(index::begin_next(pool, reg, call.slot, call.key), tally),
+        Kind::Insert => made_with(index::insert(pool, reg, call.key, call.record), tally),
+        Kind::Delete => made_with(index::delete(pool, reg, call.key), tally),
+        Kind::WriterTurn => made_with(index::writer_turn(pool, reg), tally),
+        Kind::Begin => made_with(index::begin(pool, reg, call.slot, call.key), tally),
+        Kind::BeginNext => made_with(index::begin_next(pool, reg, call.slot, call.key), tally),
         Kind::ReaderTurn => reader_turn(pool, reg, call.slot, tally),
-        Kind::GiveUp => asked(index::give_up(pool, reg, call.slot), tally),
-        Kind::List => asked(
+        Kind::GiveUp => made_with(index::give_up(pool, reg, call.slot), tally),
+        Kind::List => made_with(
             index::insert_list(pool, reg, list.keys(), list.records()),
             tally,
         ),

@@ -14,6 +14,7 @@ use checks::rows::Counts;
 use checks::{lengths, rows};
 use datatypes::{Step, Tally};
 use reference::Tree;
+use walks::Standing;
 
 // What a call said and left: its answer; the free nodes before it, the step of the store in hand and the node of its slot; the count and the tally of
 // a reader's turn, the slot's count after it, and the register's numbers after it.
@@ -93,7 +94,7 @@ impl Beside {
     fn compare_state(&mut self, pool: &[u32], said: Said) {
         let room = self.model.observe();
         let held = said.held == self.model.held();
-        let free = said.free == walks::free_nodes(pool);
+        let free = said.free == walks::nodes_with(pool, Standing::Free);
         let awaited = said.awaited == self.model.awaited();
         self.counts.same(room & held & free & awaited);
         self.counts.one(rows::STATES);
@@ -103,7 +104,7 @@ impl Beside {
     // with a list in hand: just its nodes stand made apart, the root is 0 and no key is held
     fn compare_list_in_hand(&mut self, pool: &[u32], said: Said) {
         if let Some(m) = self.model.list_in_hand() {
-            let apart = walks::apart_nodes(pool) == m;
+            let apart = walks::nodes_with(pool, Standing::Apart) == m;
             self.counts
                 .same(apart & (said.root == 0) & (said.held == 0));
             self.counts.one(rows::LIST_STATES);

@@ -8,6 +8,7 @@ use checks::model::Write;
 use checks::{model, rows};
 use datatypes::{Purpose, Refusal, Side, Step};
 use reference::DeleteForm;
+use walks::Standing;
 
 // the row of a rotation's step in the counts: six a step, by purpose and side
 fn rotation_row(step: usize, side: Side, purpose: Purpose) -> usize
@@ -38,11 +39,7 @@ fn step_row(step: Step) -> usize {
 
 // the row of a delete's form
 fn form_row(form: DeleteForm) -> usize {
-    match form {
-        DeleteForm::OneChild => rows::FORMS + 1,
-        DeleteForm::NextIsChild => rows::FORMS + 2,
-        DeleteForm::Other => rows::FORMS + 3,
-    }
+    rows::FORMS + 1 + form as usize
 }
 
 impl Beside {
@@ -61,7 +58,7 @@ impl Beside {
     fn insert_foretold(&self, write: Write, full: bool, free: u32) -> Answer {
         if self.model.write_in_hand().is_some() {
             Answer::Refused(Refusal::WriteInHand)
-        } else if full & (write == Write::Insert) {
+        } else if full & matches!(write, Write::Insert(_, _)) {
             Answer::Refused(Refusal::IndexFull)
         } else if free < 3 {
             Answer::Refused(Refusal::TooFewFree)
@@ -71,9 +68,9 @@ impl Beside {
     }
 
     // takes a write in hand, which takes so many stores before its rotations
-    fn begin_write(&mut self, write: Write, call: Call, record: u64, first: u32) {
+    fn begin_write(&mut self, write: Write, first: u32) {
         let stores = self.stores(first);
-        self.model.take_in_hand(write, call.ticket, record, stores);
+        self.model.take_in_hand(write, stores);
         self.counts.one(rows::ACCEPTED + write.place());
     }
 
@@ -82,7 +79,7 @@ impl Beside {
         self.counts
             .one_if(rows::WIDE_INSERTED, numbers::WORD_LIMIT <= call.record);
         self.tree.insert(call.key, call.record);
-        self.begin_write(write, call, call.record, 1);
+        self.begin_write(write, 1);
     }
 
     // counts the answer to an insert of a held key, by what is special about it; `full`: one of a new key would be refused by 10
@@ -103,13 +100,13 @@ impl Beside {
     // Compares the answer of an insert, and makes an accepted one in the reference tree. `free`: the free nodes before the call.
     pub fn insert(&mut self, nodes: u32, call: Call, free: u32, answer: Answer) {
         let write = match self.tree.find(call.key) {
-            None => Write::Insert,
-            Some(_) => Write::Replace,
+            None => Write::Insert(call.ticket, call.record),
+            Some(_) => Write::Replace(call.ticket, call.record),
         };
         let full = self.full(nodes);
         let foretold = self.insert_foretold(write, full, free);
         self.answered(answer, foretold);
-        if write == Write::Replace {
+        if matches!(write, Write::Replace(_, _)) {
             self.count_replacement(call, full, answer);
         }
         if foretold == Answer::Accepted {
@@ -134,7 +131,7 @@ impl Beside {
         let form = self.tree.delete_form(call.key);
         let first = if form == DeleteForm::OneChild { 1 } else { 2 };
         self.tree.delete(call.key);
-        self.begin_write(Write::Delete(form), call, 0, first);
+        self.begin_write(Write::Delete(form, call.ticket), first);
     }
 
     // Compares the answer of a delete, and makes an accepted one in the reference tree. `free`: the free nodes before the call.
@@ -182,8 +179,8 @@ impl Beside {
     // the standings of all nodes after a finished write: as many are linked as keys are held, none stands made apart, and reading slots hold the
     // retired ones
     fn compare_standings(&mut self, pool: &[u32]) {
-        let linked = walks::linked_nodes(pool) == self.tree.held();
-        let apart = walks::apart_nodes(pool) == 0;
+        let linked = walks::nodes_with(pool, Standing::Linked) == self.tree.held();
+        let apart = walks::nodes_with(pool, Standing::Apart) == 0;
         let holders = walks::all_holders_right(pool, self.model.reading_slots());
         self.counts.same(linked & apart & holders);
     }
@@ -191,7 +188,7 @@ impl Beside {
     fn finish_write(&mut self, pool: &[u32], root: u32) {
         if let Some(write) = self.model.write_in_hand() {
             self.counts.one(rows::FINISHED + write.place());
-            if let Write::Delete(form) = write {
+            if let Write::Delete(form, _) = write {
                 self.counts.one(form_row(form));
             }
             self.model.finish_write();

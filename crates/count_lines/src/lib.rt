@@ -5,6 +5,8 @@ use checks::draws::{Kind, Reading};
 use checks::lengths::Lengths;
 use checks::rows;
 use checks::rows::Counts;
+use datatypes::Refusal;
+use reference::DeleteForm;
 use std::io;
 
 // A run: its nodes, how many calls, the most keys held, and how many lists were accepted after an emptying.
@@ -34,7 +36,8 @@ pub fn run(rt: &impl Print, run: RunLine, lengths: &Lengths) -> io::Result<()> {
     longest(rt, lengths)
 }
 
-// a line and its row
+// A line and its row.
+// kept: `+ 1`, `+ 2` after a first row, where a function says the place (Write::place, comparisons' step_row): a constant can't call one.
 type Line = (&'static str, usize);
 
 const CALLS: [Line; 9] = [
@@ -53,8 +56,14 @@ const CALLS: [Line; 9] = [
 ];
 
 const LIST_REFUSALS: [Line; 5] = [
-    ("refused by 18", rows::REFUSALS + 18),
-    ("refused by 19", rows::REFUSALS + 19),
+    (
+        "refused by 18",
+        rows::REFUSALS + Refusal::ListWrong as usize,
+    ),
+    (
+        "refused by 19",
+        rows::REFUSALS + Refusal::IndexNotEmpty as usize,
+    ),
     ("lists refused by 6", rows::LISTS_REFUSED),
     ("lists refused by 10", rows::LISTS_REFUSED + 1),
     ("lists refused by 11", rows::LISTS_REFUSED + 2),
@@ -98,12 +107,18 @@ const WRITES: [Line; 15] = [
     ("inserts of a held key refused by 11", rows::REPLACED_FEW),
     ("deletes accepted", rows::ACCEPTED + 2),
     ("deletes finished", rows::FINISHED + 2),
-    ("deletes of a node with at most one child", rows::FORMS + 1),
+    (
+        "deletes of a node with at most one child",
+        rows::FORMS + 1 + DeleteForm::OneChild as usize,
+    ),
     (
         "deletes of a node whose right child has no left child",
-        rows::FORMS + 2,
+        rows::FORMS + 1 + DeleteForm::NextIsChild as usize,
     ),
-    ("deletes of the other form", rows::FORMS + 3),
+    (
+        "deletes of the other form",
+        rows::FORMS + 1 + DeleteForm::Other as usize,
+    ),
     ("more", rows::MORE),
     ("done", rows::DONE),
     ("wait", rows::WAIT),

@@ -22,6 +22,18 @@ pub enum Fault {
     MoreRecords = 9,
 }
 
+const FAULTS: [Fault; 9] = [
+    Fault::Empty,
+    Fault::EqualFirst,
+    Fault::EqualInMiddle,
+    Fault::EqualLast,
+    Fault::FallingFirst,
+    Fault::FallingInMiddle,
+    Fault::FallingLast,
+    Fault::FewerRecords,
+    Fault::MoreRecords,
+];
+
 // one list in so many has a given fault
 const FAULT_DRAWS: u32 = 64;
 
@@ -53,7 +65,7 @@ impl Fault {
     }
 }
 
-// A list and its fault. kept: two arrays with their lengths beside them: (a) no heap, and index::insert_list takes two slices.
+// A list and its fault. kept: two arrays with their lengths beside them: a wrong list may end before what was drawn, or with a record past it.
 #[derive(Drop)]
 pub struct List {
     keys: [u32; ROOM],
@@ -112,18 +124,8 @@ fn chosen(x: u32, tickets: u32, m: u32, taken: u32) -> bool {
 
 // A fault drawn for a list of m keys; one of two keys needs two.
 fn fault_of(p: u32, m: usize) -> Option<Fault> {
-    let fault = match draws::high(p, FAULT_DRAWS) {
-        1 => Fault::Empty,
-        2 => Fault::EqualFirst,
-        3 => Fault::EqualInMiddle,
-        4 => Fault::EqualLast,
-        5 => Fault::FallingFirst,
-        6 => Fault::FallingInMiddle,
-        7 => Fault::FallingLast,
-        8 => Fault::FewerRecords,
-        9 => Fault::MoreRecords,
-        _ => return None,
-    };
+    let n = draws::high(p, FAULT_DRAWS) as usize;
+    let fault = FAULTS.get(n.checked_sub(1)?).copied()?;
     Some(if (m < 2) & fault.of_pair() {
         Fault::MoreRecords
     } else {

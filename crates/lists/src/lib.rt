@@ -92,7 +92,7 @@ fn begin(beside: &mut Beside, nodes: u32, list: &List) {
     count_keys(nodes, list.keys(), &mut beside.counts);
     beside.tree.put_list(list.keys(), list.records());
     expect_tickets(&mut beside.model, nodes, list);
-    beside.model.take_in_hand(Write::List(m), 0, 0, 1);
+    beside.model.take_in_hand(Write::List(m), 1);
 }
 
 // the first nodes of the queue before the call are taken in key order, and the free count fell by as many

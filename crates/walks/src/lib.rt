@@ -3,30 +3,24 @@
 
 ghost use Rattle.std.specs.Prelude.{◌≤◌, length};
 
+use arrayvec::ArrayVec;
 use numbers::{MOST_NODES, NODE_WORDS, WORD_LIMIT};
-use reference::{Colour, NIL, Tree};
+use reference::{NIL, Tree};
 
 // the most pairs of nodes that two trees have
 const PAIRS: usize = MOST_NODES + 1;
 
-// the standings by their words
+// The standings by their words.
 #[derive(Clone, Copy)]
-enum Standing {
+pub enum Standing {
     Free = 0,
     Linked = 1,
     Retired = 2,
     Apart = 3,
 }
 
-fn colour_word(c: Colour) -> u32 {
-    match c {
-        Colour::Black => 0,
-        Colour::Red => 1,
-    }
-}
-
 // A node of a pool.
-// kept: its colour and its standing are words: (d) a damaged pool may have any number there, and to read each as an Option is no plainer.
+// kept: colour and standing are words, as a damaged pool may have any. Tried as Option: counting free nodes took 0.58 to 0.66 s for 0.09 s in Rattle's own build.
 #[derive(Clone, Copy)]
 struct Node {
     key: u32,
@@ -86,7 +80,7 @@ impl Node {
     fn same_as(&self, tree: &Tree, n: u32) -> bool {
         self.key == tree.key(n)
             && self.record == tree.record(n)
-            && self.colour == colour_word(tree.colour(n))
+            && self.colour == tree.colour(n) as u32
             && (self.left == NIL) == (tree.left(n) == NIL)
             && (self.right == NIL) == (tree.right(n) == NIL)
     }
@@ -118,27 +112,12 @@ pub fn nodes(pool: &[u32]) -> u32 {
     all_words(pool).len() as u32
 }
 
-// how many nodes have this standing
-fn count_standing(pool: &[u32], standing: Standing) -> u32 {
+// Answers how many nodes have this standing.
+pub fn nodes_with(pool: &[u32], standing: Standing) -> u32 {
     all_words(pool)
         .iter()
         .filter(|words| Node::from(*words).standing == standing as u32)
         .count() as u32
-}
-
-// Answers how many nodes stand free.
-pub fn free_nodes(pool: &[u32]) -> u32 {
-    count_standing(pool, Standing::Free)
-}
-
-// Answers how many nodes stand linked.
-pub fn linked_nodes(pool: &[u32]) -> u32 {
-    count_standing(pool, Standing::Linked)
-}
-
-// Answers how many nodes stand made apart.
-pub fn apart_nodes(pool: &[u32]) -> u32 {
-    count_standing(pool, Standing::Apart)
 }
 
 // Answers whether just the retired nodes have holders, and only slots of these, a bit each.
@@ -149,44 +128,29 @@ pub fn all_holders_right(pool: &[u32], reading: u32) -> bool {
 }
 
 // Pairs of nodes, of the pool and of the tree, in the order in which they are compared.
-// kept: a fixed array with a count: (a) no heap.
-#[derive(Drop)]
-struct Pairs {
-    pairs: [(u32, u32); PAIRS],
-    many: usize,
-}
+type Pairs = ArrayVec<(u32, u32), PAIRS>;
 
-impl Pairs {
-    // Adds a pair, unless there is no node.
-    fn push(&mut self, a: u32, b: u32) {
-        if a == NIL {
-            return;
-        }
-        if let Some(place) = self.pairs.get_mut(self.many) {
-            *place = (a, b);
-            self.many += 1;
-        }
+// Adds a pair, unless there is no node or no room.
+fn add_pair(pairs: &mut Pairs, a: u32, b: u32) {
+    if (a != NIL) && !pairs.is_full() {
+        pairs.push((a, b));
     }
 }
 
 // Walks both trees together, level by level. Answers how many nodes were the same, none if any differed.
 pub fn same_nodes(pool: &[u32], root: u32, tree: &Tree) -> Option<u32> {
-    let mut queue = Pairs {
-        pairs: [(NIL, NIL); PAIRS],
-        many: 0,
-    };
-    queue.push(root, tree.root());
+    let mut queue = Pairs::new();
+    add_pair(&mut queue, root, tree.root());
     for head in 0..PAIRS {
-        if head == queue.many {
+        let Some((a, b)) = queue.as_slice().get(head).copied() else {
             return Some(head as u32);
-        }
-        let (a, b) = queue.pairs[head];
+        };
         let node = Node::at(pool, a);
         if !node.same_as(tree, b) {
             return None;
         }
-        queue.push(node.left, tree.left(b));
-        queue.push(node.right, tree.right(b));
+        add_pair(&mut queue, node.left, tree.left(b));
+        add_pair(&mut queue, node.right, tree.right(b));
     }
     Some(PAIRS as u32)
 }
