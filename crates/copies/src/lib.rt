@@ -67,6 +67,7 @@ pub fn moved_write(b: u32, n: u32, w: Write) -> Write
     ensures { result ≡ moved_write b n w }
 {
     let mut r = w;
+    // kept: an array's `map` leaves the goal open
     for x in &mut r.stores {
         *x = moved_store(b, n, *x);
     }
