@@ -47,8 +47,8 @@ fn moved_link(b: u32, n: u32, l: Link) -> Link
     ensures { result ≡ moved_link b n l }
 {
     match l {
-        Link::Root | Link::Left(_) => l,
-        Link::Right(m) => Link::Right(if m == b { n } else { m }),
+        Link::Right(m) if m == b => Link::Right(n),
+        _ => l,
     }
 }
 
@@ -67,6 +67,7 @@ pub fn moved_write(b: u32, n: u32, w: Write) -> Write
     ensures { result ≡ moved_write b n w }
 {
     let mut r = w;
+    // kept: an array's `map` leaves the goal open
     for x in &mut r.stores {
         *x = moved_store(b, n, *x);
     }

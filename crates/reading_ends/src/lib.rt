@@ -2,7 +2,7 @@
 #![tactic(auto)]
 
 ghost use Rattle.std.specs.Prelude.{◌≡◌, true, ◌<◌, ◌≤◌, ◌+◌, ◌*◌, eqb, length};
-ghost use Rattle.reading_ends.specs.Retired.{Bounded, Span, Past, Next};
+ghost use Rattle.reading_ends.specs.Retired.{Bounded, Span, Past, Found};
 ghost use Rattle.spec.specs.Numbers.{node_words, pool_limit, slots, word_bits};
 ghost use Rattle.spec.specs.Pool.{word, standing_word, standing_retired};
 ghost use Rattle.datatypes.specs.declared.Register.{Register};
@@ -48,23 +48,23 @@ fn scan_blocks<const WIDTH: usize>(pool: &[u32], from: usize, capacity: usize) -
     n
 }
 
-// Answers the first retired node at or after `from`, node by node; past the last if there is none.
-fn scan_retired(pool: &[u32], from: usize, capacity: usize) -> usize
+// Answers the first retired node at or after `from`, node by node; none if there is none.
+fn scan_retired(pool: &[u32], from: usize, capacity: usize) -> Option<usize>
     requires { Span pool.now from capacity }
-    ensures { Next pool.now from capacity result }
+    ensures { Found pool.now from capacity result }
 {
     for n in from..capacity + 1 {
         if pool[n * numbers::NODE_WORDS - STANDING_BACK] == pool::RETIRED {
-            return n;
+            return Some(n);
         }
     }
-    capacity + 1
+    None
 }
 
 // The same, by blocks of nodes.
-fn next_retired(pool: &[u32], from: usize, capacity: usize) -> usize
+fn next_retired(pool: &[u32], from: usize, capacity: usize) -> Option<usize>
     requires { Span pool.now from capacity }
-    ensures { Next pool.now from capacity result }
+    ensures { Found pool.now from capacity result }
 {
     let wide = scan_blocks::<WIDE>(pool, from, capacity);
     let narrow = scan_blocks::<NARROW>(pool, wide, capacity);
@@ -72,15 +72,15 @@ fn next_retired(pool: &[u32], from: usize, capacity: usize) -> usize
 }
 
 // The same; first the node itself, since nodes retired one after the other often stand side by side.
-fn following_retired(pool: &[u32], from: usize, capacity: usize) -> usize
+fn following_retired(pool: &[u32], from: usize, capacity: usize) -> Option<usize>
     requires { Span pool.now from capacity }
-    ensures { Next pool.now from capacity result }
+    ensures { Found pool.now from capacity result }
 {
     if capacity < from {
-        return from;
+        return None;
     }
     if pool[from * numbers::NODE_WORDS - STANDING_BACK] == pool::RETIRED {
-        return from;
+        return Some(from);
     }
     next_retired(pool, from + 1, capacity)
 }
@@ -110,10 +110,10 @@ pub fn end_reading(pool: &mut [u32], h: Head, s: u32) -> Head
         awaited: masks::drop_slot(h.awaited, s),
         ..h
     };
-    let mut n = next_retired(pool, 1, count);
-    while n <= count {
+    let mut next = next_retired(pool, 1, count);
+    while let Some(n) = next {
         r = release(pool, r, s, n as u32);
-        n = following_retired(pool, n + 1, count);
+        next = following_retired(pool, n + 1, count);
     }
     r
 }

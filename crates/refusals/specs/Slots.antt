@@ -11,7 +11,7 @@ use Rattle.refusals.specs.declared.Tested.TheVariants.{All, Register}
 use Rattle.spec.specs.Numbers.{pool_limit, slots}
 use Rattle.spec.specs.Pool.{nodes, length_right, node_in_range, pool_in_range}
 use Rattle.spec.specs.Register.{State, reader_of, register_in_range}
-use Rattle.spec.specs.Calls.{◌gives◌, first_of, wrong_length, out_of_range, slot_too_high, reading, reader_tests}
+use Rattle.spec.specs.Calls.{Test, ◌gives◌, first_of, wrong_length, out_of_range, slot_too_high, reading, reader_tests}
 use Rattle.laws.specs.Tests.{lent_number, first-lent, lent-passed, right-length, none-fits}
 
 abbrev pub words_in_range : Tested → List ℕ → Bool
@@ -26,6 +26,10 @@ tested_number t st = first_of (wrong_length st gives 1 ∷ not (words_in_range t
 abbrev pub PlaceOf : ℕ → Result ℕ Refusal → Type 0
 PlaceOf s (Ok i) = (i ≡ s) × (s < slots)
 PlaceOf s (Err e) = (e ≡ SlotTooHigh) × (slots ≤ s)
+
+-- tests 1, 2 and 3
+abbrev pub slot_tests : State → ℕ → List Test
+slot_tests st s = wrong_length st gives 1 ∷ out_of_range st gives 2 ∷ slot_too_high s gives 3 ∷ []
 
 abbrev pub slot_index : ℕ → ℕ
 slot_index s = cond (ltb s slots) s 0

@@ -6,7 +6,7 @@ ghost use Rattle.datatypes.specs.Refusals.{found_number};
 ghost use Rattle.spec.specs.Numbers.{pool_limit, slots};
 ghost use Rattle.spec.specs.Register.{state};
 ghost use Rattle.spec.specs.Calls.{first_of, begin_tests, reader_tests, give_up_tests};
-ghost use Rattle.refusals.specs.Slots.{words_in_range, tested_number, PlaceOf};
+ghost use Rattle.refusals.specs.Slots.{words_in_range, tested_number, slot_tests, PlaceOf};
 
 use datatypes::{Refusal, Register};
 
@@ -54,14 +54,23 @@ fn slot_place(s: u32) -> Result<usize, Refusal>
     }
 }
 
+// Makes tests 1, 2 and 3 of a call that looks at the whole pool, and answers where slot s's record stands.
+fn slot_refusal(pool: &[u32], reg: &Register, s: u32) -> Result<usize, Refusal>
+    ensures tests { found_number result ≡ first_of (slot_tests (state pool.now reg.now) s) }
+    ensures place { IfOk result (λ i. i ≡ s) }
+    ensures slot { IfOk result (λ i. i < slots) }
+{
+    lent_refusal(pool, reg, Tested::All)?;
+    slot_place(s)
+}
+
 // Makes the tests of a begin in slot s, and answers where its record stands.
 pub fn begin_refusal(pool: &[u32], reg: &Register, s: u32) -> Result<usize, Refusal>
     ensures tests { found_number result ≡ first_of (begin_tests (state pool.now reg.now) s) }
     ensures place { IfOk result (λ i. i ≡ s) }
     ensures slot { IfOk result (λ i. i < slots) }
 {
-    lent_refusal(pool, reg, Tested::All)?;
-    let i = slot_place(s)?;
+    let i = slot_refusal(pool, reg, s)?;
     if reg.readers[i].reading {
         return Err(Refusal::SlotReading);
     }
@@ -74,8 +83,7 @@ pub fn give_up_refusal(pool: &[u32], reg: &Register, s: u32) -> Result<usize, Re
     ensures place { IfOk result (λ i. i ≡ s) }
     ensures slot { IfOk result (λ i. i < slots) }
 {
-    lent_refusal(pool, reg, Tested::All)?;
-    let i = slot_place(s)?;
+    let i = slot_refusal(pool, reg, s)?;
     if !reg.readers[i].reading {
         return Err(Refusal::SlotNotReading);
     }

@@ -8,10 +8,10 @@ ghost use Rattle.std.specs.Prelude.{◌≡◌, true, ◌<◌, length};
 ghost use Rattle.datatypes.specs.declared.Step.TheVariants.{DiagLower, DiagRaise, ZigLowerA, ZigLowerC, ZigRaise};
 ghost use Rattle.spec.specs.Numbers.{pool_limit};
 ghost use Rattle.spec.specs.Register.{state, set_link};
-ghost use Rattle.spec.specs.Turn.{painted, copy_colour, risen_colour, under_copy, end_diag, end_diag_finds, end_zig};
+ghost use Rattle.spec.specs.Turn.{made, painted, copy_node, copy_colour, risen_colour, under_copy, end_diag, end_diag_finds, end_zig};
 ghost use Rattle.datatypes.specs.declared.Register.{Register};
 ghost use Rattle.spec.specs.FreeQueue.{Whole};
-ghost use Rattle.heads.specs.Head.{Follows, Tries, TriesReading};
+ghost use Rattle.heads.specs.Head.{at, left, Follows, Tries, TriesReading};
 
 use datatypes::{Head, Link, Purpose, Side, Stored};
 
@@ -32,6 +32,30 @@ fn risen_colour(pool: &[u32], purpose: Purpose, c: u32) -> u32
     match purpose {
         Purpose::ForInsert | Purpose::RedSibling => pool::BLACK,
         Purpose::BlackSibling => pool::word(pool, c, pool::COLOUR),
+    }
+}
+
+// Takes a copy of node n, with x on the side s and y on the other side, and stores it in the link l.
+#[inline]
+fn hang_copy(
+    pool: &mut [u32],
+    h: Head,
+    n: u32,
+    s: Side,
+    x: u32,
+    y: u32,
+    colour: u32,
+    l: Link,
+) -> Stored
+    requires { Whole pool.old }
+    ensures { (q : Register) → left pool.new result q ≡ made (set_link (copy_node (at pool.old h q) n s x y colour) l h.first) l h.first }
+{
+    let taken = queue::take_copy(pool, h, n, s, x, y, colour);
+    let head = heads::set_link(pool, taken, l, h.first);
+    Stored {
+        link: l,
+        node: h.first,
+        head,
     }
 }
 
@@ -58,13 +82,7 @@ pub fn diag_lower(pool: &mut [u32], h: Head, l: Link, s: Side, purpose: Purpose)
     let x = pool::child(pool, z, b);
     let y = pool::child(pool, z, c);
     let link = links::link_at(z, b);
-    let taken = queue::take_copy(pool, h, c, s, x, y, copy_colour(purpose));
-    let head = heads::set_link(pool, taken, link, h.first);
-    Some(Stored {
-        link,
-        node: h.first,
-        head,
-    })
+    Some(hang_copy(pool, h, c, s, x, y, copy_colour(purpose), link))
 }
 
 // Zig, first store: takes A', a copy of A, which has B's child x on A's inner side, and stores it in B's link on A's side.
@@ -91,13 +109,7 @@ pub fn zig_lower_a(pool: &mut [u32], h: Head, l: Link, s: Side, purpose: Purpose
     let x = pool::child(pool, s, a);
     let y = pool::child(pool, s, b);
     let link = links::link_at(s, b);
-    let taken = queue::take_copy(pool, h, a, s, x, y, copy_colour(purpose));
-    let head = heads::set_link(pool, taken, link, h.first);
-    Some(Stored {
-        link,
-        node: h.first,
-        head,
-    })
+    Some(hang_copy(pool, h, a, s, x, y, copy_colour(purpose), link))
 }
 
 // Zig, second store: takes C', a copy of the top, which has B's other child y on A's side, and stores it in B's link on the other side.
@@ -111,7 +123,6 @@ pub fn zig_lower_a(pool: &mut [u32], h: Head, l: Link, s: Side, purpose: Purpose
 //      A'  y           A'  C'
 //     / \             / \  / \
 //    a   x           a  x y   r
-// kept: it ends as diag_lower does. One function for that end takes a contract longer than its text.
 #[tactic(auto, unfolding(spec::specs::Turn::step_finds, spec::specs::Turn::step_made, spec::specs::Turn::zig_lower_c))]
 pub fn zig_lower_c(pool: &mut [u32], h: Head, l: Link, s: Side, purpose: Purpose) -> Option<Stored>
     requires { Whole pool.old }
@@ -126,13 +137,7 @@ pub fn zig_lower_c(pool: &mut [u32], h: Head, l: Link, s: Side, purpose: Purpose
     let x = pool::child(pool, z, b);
     let y = pool::child(pool, z, c);
     let link = links::link_at(z, b);
-    let taken = queue::take_copy(pool, h, c, s, x, y, copy_colour(purpose));
-    let head = heads::set_link(pool, taken, link, h.first);
-    Some(Stored {
-        link,
-        node: h.first,
-        head,
-    })
+    Some(hang_copy(pool, h, c, s, x, y, copy_colour(purpose), link))
 }
 
 // Stores B in the link from above and gives B its colour.
@@ -228,9 +233,8 @@ pub fn diag_raise(
 fn end_zig(pool: &mut [u32], root: u32, purpose: Purpose)
     ensures { (q : Register) → q.root ≡ root → state pool.new q ≡ end_zig purpose (state pool.old q) }
 {
-    match purpose {
-        Purpose::ForInsert => pool::set_word(pool, root, pool::COLOUR, pool::BLACK),
-        Purpose::RedSibling | Purpose::BlackSibling => {}
+    if let Purpose::ForInsert = purpose {
+        pool::set_word(pool, root, pool::COLOUR, pool::BLACK);
     }
 }
 
