@@ -69,7 +69,7 @@ fn count(n: &mut u32) {
     *n = n.saturating_add(1);
 }
 
-// kept: a node is named by its number, and not by a reference: (a) no heap, and the children and parents of a tree make rings.
+// kept: a node is named by its number, and not by a reference: there is no heap, and the children and parents of a tree make rings.
 // A node past the last one reads as a blank one, and setting it changes nothing.
 #[derive(Drop)]
 pub struct Tree {
