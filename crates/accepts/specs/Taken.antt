@@ -7,7 +7,7 @@ use Rattle.datatypes.specs.declared.Place.TheVariants.{Held}
 use Rattle.datatypes.specs.declared.Refusal.{Refusal}
 use Rattle.datatypes.specs.declared.Refusal.TheVariants.{TooFewFree, NodeMissing}
 use Rattle.datatypes.specs.declared.Write.{Write}
-use Rattle.datatypes.specs.Refusals.{number_of, number_of-ne0, found_number}
+use Rattle.datatypes.specs.Refusals.{number_of, number_of-ne0}
 use Rattle.spec.specs.Numbers.{free_for_insert}
 use Rattle.spec.specs.Plan.{Plan, replace_plan}
 use Rattle.spec.specs.Register.{State, state, with_write, write_of}

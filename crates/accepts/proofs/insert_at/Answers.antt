@@ -1,4 +1,4 @@
-use Rattle.std.proofs.Common.{◌≡◌, ◌∙◌, sym, ap, refl, false, true, lt-ltb, le-ltb}
+use Rattle.std.proofs.Common.{◌≡◌, ap, refl, false, true}
 use Rattle.std.proofs.lemmas.Result.{err_from_is_err_and}
 use Rattle.datatypes.specs.declared.Place.TheVariants.{Empty}
 use Rattle.spec.specs.Calls.{full, insert}

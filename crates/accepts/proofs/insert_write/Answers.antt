@@ -1,9 +1,9 @@
-use Rattle.std.proofs.Common.{◌≡◌, ◌∙◌, sym, ap, refl, false, true}
+use Rattle.std.proofs.Common.{◌∙◌, sym, ap}
 use Rattle.std.proofs.lemmas.Result.{err_from_is_err_and}
 use Rattle.datatypes.specs.declared.Place.TheVariants.{Held}
 use Rattle.datatypes.specs.Refusals.{found_number}
 use Rattle.spec.specs.Register.{state}
-use Rattle.laws.specs.Inserts.{insert-deep, insert-few, insert-goes}
+use Rattle.laws.specs.Inserts.{insert-deep}
 use Rattle.accepts.specs.Taken.{idle-passes, insert-stops, insert-replaces}
 use Rattle.accepts.proofs.insert_write.Goals as goal
 

@@ -1,4 +1,4 @@
-use Rattle.std.proofs.Common.{◌≡◌, ◌∙◌, sym, arith}
+use Rattle.std.proofs.Common.{◌∙◌, sym, arith}
 use Rattle.spec.specs.Register.{state}
 use Rattle.laws.specs.Tests.{lent}
 use Rattle.accepts.specs.Numbers.{lent-nodes, right-even}

@@ -1,7 +1,7 @@
-use Rattle.std.proofs.Common.{◌≡◌, ◌∙◌, sym, ap, arith, not, [], ◌∷◌}
+use Rattle.std.proofs.Common.{◌∙◌, sym, ap, arith, not, [], ◌∷◌}
 use Rattle.std.proofs.lemmas.Result.{err_from_is_err_and}
 use Rattle.datatypes.specs.Refusals.{found_number}
-use Rattle.spec.specs.Calls.{Outcome, outcome, reader_says, ◌gives◌, named_out_of_range, slot_too_high, reading}
+use Rattle.spec.specs.Calls.{◌gives◌, named_out_of_range, slot_too_high, reading}
 use Rattle.spec.specs.Register.{state, with_reader}
 use Rattle.lookups.specs.Looked.{look_of, turn-looked}
 use Rattle.index.specs.Turned.{turn-refused, turn-done, slot-size, pair}

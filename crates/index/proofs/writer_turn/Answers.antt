@@ -1,4 +1,4 @@
-use Rattle.std.proofs.Common.{◌≡◌, ◌∙◌, sym, ap}
+use Rattle.std.proofs.Common.{sym, ap}
 use Rattle.spec.specs.Calls.{Outcome}
 use Rattle.spec.specs.Register.{state}
 use Rattle.laws.specs.Writers.{writer-waits}
