@@ -70,7 +70,7 @@ steps_one l steps i d h b =
     ∙ ap write_of (sym (map-append (store l) (take i steps) (get_or steps i d ∷ [])) ∙ ap (map (store l)) (sym (take_more steps i d h)))
 
 -- one rotation plans at most three stores
-rotation-short : (t : Rotation) → length (rotation_stores t) ≤ 3
+pub rotation-short : (t : Rotation) → length (rotation_stores t) ≤ 3
 rotation-short t = by t.form
   where
     by : (f : Form) → length (turn_stores f t.link t.side t.purpose) ≤ 3
