@@ -1,12 +1,12 @@
 -- Laws of text at the right end of a column; a number put there over blanks, its last digit first.
 use Rattle.std.specs.Prelude.{ℕ, zero, suc, ◌+◌, ◌-◌, ◌/◌, ◌%◌, ◌^◌, ◌<◌, ◌≤◌, ◌≡◌, refl, List, [], ◌∷◌, ◌++◌, length, take, drop, set, replicate}
 use Rattle.std.proofs.Common.{sym, ap, ◌∙◌, append_assoc, append-nil, arith, length-append, length-drop, length-set, length-take-le}
-use Rattle.std.proofs.lemmas.List.{length-replicate, drop-append-le, set_at}
+use Rattle.std.proofs.lemmas.List.{length-replicate, replicate-append-replicate, drop-append-le, set_at}
 use Rattle.std.proofs.Math.Seq.{drop-length, take-set-lt}
 use Rattle.texts.specs.Ascii.{text, blank}
 use Rattle.texts.specs.Decimal.{digit, decimal, decimal-one, decimal-more, decimal-length}
-use Rattle.texts.specs.Put.{Put}
-use Rattle.texts.specs.Column.{right_in, Digits}
+use Rattle.texts.specs.Put.{Put, put_as, put_both, put_byte}
+use Rattle.texts.specs.Column.{right_in, Blanks, Digits}
 
 right-seven : right_in 4 (text "7") ≡ text "   7"
 unfolding right_in
@@ -119,3 +119,22 @@ module _ {a : List ℕ} {at width n v : ℕ} {b : List ℕ} (i : ℕ) (d : Digit
       }
 
 pub ruleset widths = (right-length)
+
+-- A column of blanks has no digit yet, and a blank more is put after those that are there. Nothing cites these; the check finds what they served.
+pub digits-start : (l : List ℕ) (at width n : ℕ) → at + width ≤ length l → Blanks l at width → Digits l at width n (at + width) n l
+digits-start l at width n h b =
+    let e : at + width - at ≡ width = omega arith in
+    record {
+      put = [];
+      low = omega arith;
+      high = omega arith;
+      room = h;
+      long = refl;
+      bytes = rw (e, append-nil (replicate width blank)) b;
+      whole = rw e (append-nil (right_in width (decimal n)));
+    }
+
+pub put-blank : (a : List ℕ) (i k : ℕ) (b : List ℕ) → i + k < length b → Put a i (replicate k blank) b (i + k) → Put a i (replicate (k + 1) blank) (set b (i + k) blank) (i + (k + 1))
+put-blank a i k b h p =
+    let e : i + (k + 1) ≡ i + k + 1 = omega arith in
+    rw e (put_as (replicate-append-replicate k 1 blank) (put_both p (put_byte b (i + k) blank h)))

@@ -1,3 +1,4 @@
 pub mod Column
 pub mod Digits
 pub mod Fields
+pub mod Put
