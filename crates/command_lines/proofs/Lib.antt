@@ -1,1 +1,2 @@
+pub mod Cut
 pub mod Cuts
