@@ -1,7 +1,8 @@
 // The types of the ticket index: links, the write in hand, the register, the answers of the calls, and a camera's tally.
 #![tactic(auto)]
 
-ghost use Rattle.std.specs.Prelude.{◌≡◌};
+ghost use Rattle.std.specs.Prelude.{◌≡◌, Some};
+ghost use Rattle.std.specs.Fmt.{decimal, styled_decimal};
 ghost use Rattle.datatypes.specs.Refusals.{number_of};
 
 use std::fmt;
@@ -206,8 +207,13 @@ impl From<Refusal> for u32 {
 
 // A refusal is written as its number.
 impl fmt::Display for Refusal {
+    ghost output = { λ r. Some (decimal (number_of r)) };
+
+    ghost styled_output = { λ r s. Some (styled_decimal s (number_of r)) };
+
     fn fmt<W: fmt::Write>(&self, f: &mut fmt::Formatter<W>) -> fmt::Result {
-        write!(f, "{}", u32::from(*self))
+        let number = u32::from(*self);
+        fmt::Display::fmt(&number, f)
     }
 }
 
