@@ -1,13 +1,34 @@
 // The readers' calls, each beside the plain list.
+ghost use Rattle.std.specs.Prelude.{◌≡◌, true, Some, leb};
+ghost use Rattle.checks.specs.declared.draws.Reading.TheVariants.{Search};
+
 use crate::answers::Answer;
 use crate::{Beside, Said};
 use checks::draws::{Call, Reading};
 use checks::{draws, rows};
 use datatypes::Refusal;
 
+// document 02, C-15: slots are 0 to 31. A number of its own, so that a wrong limit of the index shows.
+const LAST_SLOT: u32 = 31;
+
+// whether there is no slot s
+fn slot_too_high(s: u32) -> bool
+    ensures { result ≡ leb 32 s }
+{
+    LAST_SLOT < s
+}
+
+// A next is right of a search alone, and if it was so at one of its moments; a lookup never answers it.
+fn next_right(kind: Option<Reading>, was: bool) -> bool
+    ensures search_alone { result ≡ true → kind ≡ Some Search }
+    ensures as_it_was { kind ≡ Some Search → result ≡ was }
+{
+    matches!(kind, Some(Reading::Search)) && was
+}
+
 impl Beside {
     fn begin_foretold(&self, s: u32) -> Answer {
-        if numbers::SLOT_LIMIT <= s {
+        if slot_too_high(s) {
             Answer::Refused(Refusal::SlotTooHigh)
         } else if self.model.reading(s) {
             Answer::Refused(Refusal::SlotReading)
@@ -18,7 +39,7 @@ impl Beside {
 
     // of a reader's turn and of a give up
     fn slot_foretold(&self, s: u32) -> Answer {
-        if numbers::SLOT_LIMIT <= s {
+        if slot_too_high(s) {
             Answer::Refused(Refusal::SlotTooHigh)
         } else if self.model.reading(s) {
             Answer::Accepted
@@ -71,7 +92,8 @@ impl Beside {
 
     // `ticket`: that of the answered key
     fn next(&mut self, s: u32, ticket: Option<u32>, v: u64) {
-        let right = ticket.is_some_and(|t| self.model.was_next(s, t, v));
+        let was = ticket.is_some_and(|t| self.model.was_next(s, t, v));
+        let right = next_right(self.model.kind(s), was);
         let now = ticket.is_some_and(|t| self.model.is_next(s, t, v));
         let outdated = ticket.is_some_and(|t| self.model.has_other(t, v));
         self.counts.one(rows::NEXT);
