@@ -98,7 +98,10 @@ fn take_in_hand(reg: &mut Register, planned: Result<Write, Refusal>) -> Acceptan
     Ok(())
 }
 
+// Insert, delete and a list's insert are never inlined: docs/DECISIONS.md, 46.
+
 // Inserts the key k with its record v: an accepted one is the write in hand.
+#[inline(never)]
 pub fn insert(pool: &[u32], reg: &mut Register, k: u32, v: u64) -> Acceptance
     ensures { outcome (accepts result) (state pool.now reg.new) ≡ insert (state pool.now reg.old) k v }
 {
@@ -107,6 +110,7 @@ pub fn insert(pool: &[u32], reg: &mut Register, k: u32, v: u64) -> Acceptance
 }
 
 // Deletes the key k: an accepted one is the write in hand.
+#[inline(never)]
 pub fn delete(pool: &[u32], reg: &mut Register, k: u32) -> Acceptance
     ensures { outcome (accepts result) (state pool.now reg.new) ≡ delete (state pool.now reg.old) k }
 {
@@ -141,6 +145,7 @@ fn list_refusal(pool: &[u32], reg: &Register, keys: &[u32], records: &[u64]) -> 
 }
 
 // Inserts a list: of an accepted one the tree is made apart, and one store is to come.
+#[inline(never)]
 pub fn insert_list(
     pool: &mut [u32],
     reg: &mut Register,

@@ -41,8 +41,9 @@ fn first_step(pool: &mut [u32], reg: &Register) -> Option<Stored>
     }
 }
 
-// Answers the write in hand without its first store.
+// Answers the write in hand without its first store. Why it is never inlined: docs/DECISIONS.md, 46.
 #[tactic(auto, unfolding(spec::specs::Register::less_first))]
+#[inline(never)]
 fn less_first(w: Write) -> Write
     ensures { result ≡ less_first w }
 {
