@@ -13,34 +13,41 @@ use command_fields::Command;
 use datatypes::{Register, Reply};
 use refusals::Tested;
 
+// What a command's call answers, and the register that it leaves.
+#[derive(Clone, Copy)]
+pub struct Called {
+    pub said: Said,
+    pub register: Register,
+}
+
 // a call's reply, as a command says it
-fn said<A>(reply: Reply<A>) -> Reply<Said>
+fn said<A>(reply: Reply<A>) -> Called
 where
     Said: From<A>,
-    ensures { ⟦<Said as From<A>>⟧.from_gives reply.answer result.answer × (result.register ≡ reply.register) }
+    ensures { ⟦<Said as From<A>>⟧.from_gives reply.answer result.said × (result.register ≡ reply.register) }
 {
-    Reply {
-        answer: Said::from(reply.answer),
+    Called {
+        said: Said::from(reply.answer),
         register: reply.register,
     }
 }
 
 // the answer of T and L
 #[tactic(auto, unfolding(crate::specs::Performed::shown))]
-fn show(pool: &[u32], reg: Register) -> Reply<Said>
-    ensures said_value { says result.answer ≡ (shown (state pool.now reg)).answer }
+fn show(pool: &[u32], reg: Register) -> Called
+    ensures said_value { says result.said ≡ (shown (state pool.now reg)).answer }
     ensures register_value { state pool.now result.register ≡ (shown (state pool.now reg)).after }
 {
     let tests = refusals::lent_refusal(pool, &reg, Tested::All);
-    Reply {
-        answer: Said::from(tests),
+    Called {
+        said: Said::from(tests),
         register: reg,
     }
 }
 
 // Makes a command's call on the pool lent.
-pub fn call(pool: &mut [u32], reg: Register, c: Command) -> Reply<Said>
-    ensures said_value { says result.answer ≡ (called (state pool.old reg) c).answer }
+pub fn call(pool: &mut [u32], reg: Register, c: Command) -> Called
+    ensures said_value { says result.said ≡ (called (state pool.old reg) c).answer }
     ensures register_after { state pool.new result.register ≡ (called (state pool.old reg) c).after }
 {
     match c {
@@ -52,8 +59,8 @@ pub fn call(pool: &mut [u32], reg: Register, c: Command) -> Reply<Said>
         Command::BeginNext(s, k) => said(index::begin_next(pool, reg, s, k)),
         Command::Turn(s) => {
             let reply = index::reader_turn(pool, reg, s);
-            Reply {
-                answer: Said::from(reply.answer),
+            Called {
+                said: Said::from(reply.answer),
                 register: reply.register,
             }
         }
@@ -79,11 +86,11 @@ pub fn perform(words: &mut [u32], lent: usize, reg: Register, c: Command) -> Per
     ensures words_after { words.new ≡ (performed words.old lent reg c).after.pool ++ drop (tried_words lent c) words.old }
 {
     let tried = lent_words::tried_words(lent, c);
-    let reply = call(&mut words[..tried], reg, c);
-    let said = reply.answer;
+    let called = call(&mut words[..tried], reg, c);
+    let said = called.said;
     Performed {
         said,
-        register: reply.register,
+        register: called.register,
         lent: lent_words::kept_words(lent, tried, said),
     }
 }

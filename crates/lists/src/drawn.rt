@@ -66,7 +66,7 @@ impl Fault {
 }
 
 // A list and its fault. kept: two arrays with their lengths beside them: a wrong list may end before what was drawn, or with a record past it.
-#[derive(Drop)]
+#[derive(Clone, Copy)]
 pub struct List {
     keys: [u32; ROOM],
     records: [u64; ROOM],

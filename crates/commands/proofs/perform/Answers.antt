@@ -13,10 +13,10 @@ pub returns : goal.returns
 returns c =
     let a = c.args in
     let t = c.tried_words-tried in
-    let k = c.call-reply in
+    let k = c.call-called in
     let q = performed-on a.words.now a.lent a.reg a.c t.result t.ensures in record {
       said_value = k.ensures.said_value ∙ ap (λ (o : Outcome). o.answer) q;
       register_value = ap (λ (st : State). st.register) k.ensures.register_after ∙ ap (λ (o : Outcome). o.after.register) q;
-      lent_value = c.kept_words.ensures ∙ ap (λ (n : ℕ). kept_words a.lent n (says k.result.answer)) t.ensures;
+      lent_value = c.kept_words.ensures ∙ ap (λ (n : ℕ). kept_words a.lent n (says k.result.said)) t.ensures;
       words_after = rw t.ensures (ap (λ (st : State). st.pool ++ drop (tried_words a.lent a.c) a.words.now) (k.ensures.register_after ∙ ap (λ (o : Outcome). o.after) q));
     }
