@@ -83,7 +83,7 @@ Few n e = length (ending_stores e) ≤ n
 abbrev pub Short : ℕ → Fixup → Type 0
 Short n c = Few n c.ending
 
--- an insert's ending plans at most three. Nothing cites it; the check sees it in the cases
+-- an insert's ending plans at most three; the check sees it in the cases, and `insert-short` (proofs/) alone cites it
 pub insert_fixup-short : (p : List ℕ) (m : ℕ) (path : List Link) → Short 3 (insert_fixup p m path)
 unfolding insert_fixup
 insert_fixup-short p m [] = omega arith
